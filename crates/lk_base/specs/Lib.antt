@@ -1,0 +1,4 @@
+pub mod Code
+pub mod Files
+pub mod Status
+pub mod formers

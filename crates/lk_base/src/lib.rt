@@ -1,0 +1,32 @@
+//! What every other crate of `lsrace` speaks of: names, places, refusals, limits, and lists that contracts see as lists.
+#![tactic(auto)]
+
+mod boxed;
+mod code;
+mod files;
+mod items;
+mod kind;
+mod limits;
+mod memory;
+mod name;
+mod refusal;
+mod spot;
+mod status;
+
+pub use boxed::Boxed;
+pub use code::{Code, no_two_codes_share_a_number};
+pub use files::Files;
+pub use items::Items;
+pub use kind::Kind;
+pub use limits::{
+    LONGEST_EXTERNS, LONGEST_NAME, LONGEST_SOURCES, MOST_DEPTH, MOST_FILES, MOST_LABELS,
+    MOST_POINTS, MOST_TYPE_NODES, MOST_TYPE_STEPS,
+};
+pub use memory::NoMemory;
+pub use name::{Name, NameFault};
+pub use refusal::Refusal;
+pub use spot::Spot;
+pub use status::Status;
+
+#[cfg(test)]
+mod tests;
