@@ -23,3 +23,6 @@ pub use shelf::Shelf;
 pub use sink::Sink;
 pub use std_sink::StdSink;
 pub use write::write_whole;
+
+#[cfg(test)]
+mod tests;
