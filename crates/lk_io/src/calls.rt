@@ -8,7 +8,7 @@ use std::alloc::Global;
 use std::marker::Model;
 
 /// The calls that were made on a shelf or a sink in memory, and those that are listed to fail.
-#[derive(Debug, Drop)]
+#[derive(Drop)]
 pub(crate) struct Calls {
     listed: Vec<u64>,
     made: u64,

@@ -11,6 +11,8 @@ use std::{fs, io};
 
 /// The system's files, by path. It keeps open the file that it read last.
 ///
+/// Where the system finds no memory for a file, the answer is `NoMemory`. Every other failure is a fault.
+///
 /// A contract sees its count of faults: it tells neither what the files hold nor which read failed.
 #[derive(Drop)]
 pub struct FileShelf<R: Files> {

@@ -15,7 +15,7 @@ use std::marker::Model;
 ///
 /// A contract sees the bytes that it took, its room, its most, the writes that were made and those that are
 /// listed to fail.
-#[derive(Debug, Drop)]
+#[derive(Drop)]
 pub struct MemSink {
     bytes: Vec<u8>,
     room: usize,
