@@ -1,0 +1,4 @@
+pub mod Closing
+pub mod Ids
+pub mod Rows
+pub mod Words
