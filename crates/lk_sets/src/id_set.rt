@@ -5,6 +5,7 @@ ghost use Rattle.lk_sets.specs.Ids.{has_id, IsSetOf};
 
 use lk_base::NoMemory;
 use std::alloc::Global;
+use std::cmp::Ordering;
 use std::marker::Model;
 
 /// A set of numbers. A contract sees it as the list of its numbers in ascending order, each once.
@@ -58,14 +59,14 @@ impl IdSet {
         let mut left = self.ids.as_slice();
         let mut right = other.ids.as_slice();
         while let (Some((x, xs)), Some((y, ys))) = (left.split_first(), right.split_first()) {
-            if x == y {
-                ids.push(*x)?;
-            }
-            if x <= y {
-                left = xs;
-            }
-            if y <= x {
-                right = ys;
+            match x.cmp(y) {
+                Ordering::Less => left = xs,
+                Ordering::Greater => right = ys,
+                Ordering::Equal => {
+                    ids.push(*x)?;
+                    left = xs;
+                    right = ys;
+                }
             }
         }
         Ok(IdSet { ids })
@@ -79,12 +80,20 @@ impl IdSet {
         let mut left = self.ids.as_slice();
         let mut right = other.ids.as_slice();
         while let (Some((x, xs)), Some((y, ys))) = (left.split_first(), right.split_first()) {
-            ids.push(*x.min(y))?;
-            if x <= y {
-                left = xs;
-            }
-            if y <= x {
-                right = ys;
+            match x.cmp(y) {
+                Ordering::Less => {
+                    ids.push(*x)?;
+                    left = xs;
+                }
+                Ordering::Greater => {
+                    ids.push(*y)?;
+                    right = ys;
+                }
+                Ordering::Equal => {
+                    ids.push(*x)?;
+                    left = xs;
+                    right = ys;
+                }
             }
         }
         ids.extend_from_slice(left)?;
