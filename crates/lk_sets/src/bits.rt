@@ -1,5 +1,5 @@
 //! Bits in slices of words, the low bit of a word first.
-ghost use Rattle.std.specs.Prelude.{◌≡◌, ℕ, Bool, true, false, ◌+◌, ◌*◌, ◌/◌, ◌<◌, ◌≤◌, ◌==◌, ◌||◌, ◌⊎◌, length, not, MatchOption, IfSome};
+ghost use Rattle.std.specs.Prelude.{◌≡◌, ℕ, Bool, true, false, ◌+◌, ◌*◌, ◌/◌, ◌^◌, ◌<◌, ◌≤◌, ◌==◌, ◌||◌, ◌⊎◌, length, not, MatchOption, IfSome};
 ghost use Rattle.lk_sets.specs.Words.{bit_in, IsJoined, AddsBit, AreClear, IsFirstBit};
 
 /// Whether a bit is 1.
@@ -48,6 +48,7 @@ pub fn join_words(words: &mut Vec<u64>, from: usize, into: usize, count: usize) 
 pub fn first_bit(words: &[u64], from: usize, end: usize) -> Option<usize>
     requires from { from / 64 < end }
     requires end { end ≤ length words.now }
+    requires small { 64 * end < 2 ^ 64 }
     ensures { MatchOption result (AreClear words.now from (64 * end)) (λ k. IsFirstBit words.now from (64 * end) k) }
 {
     let mut at = from / 64;
