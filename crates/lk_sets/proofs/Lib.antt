@@ -1,3 +1,5 @@
+pub mod Closing
 pub mod Members
 pub mod Merging
+pub mod Square
 pub mod WordBits
