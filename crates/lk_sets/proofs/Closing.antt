@@ -1,11 +1,11 @@
 -- What loops share that close a relation: the measure falls with each new pair, and one step goes behind another.
-use Rattle.std.proofs.Common.{ℕ, ◌+◌, ◌<◌, ◌≤◌, ◌≡◌, ◌||◌, Bool, true, false, not, cond, eqb, List, [], ◌∷◌, length, refl, sym, ap, ◌∙◌, subst, inl, inr, arith, sum_by, below_more, below_none}
+use Rattle.std.proofs.Common.{ℕ, ◌+◌, ◌<◌, ◌≤◌, ◌≡◌, ◌||◌, ◌&&◌, Bool, true, false, not, cond, eqb, List, [], ◌∷◌, length, refl, sym, ap, ◌∙◌, subst, inl, inr, arith, sum_by, below_more, below_none}
 use Rattle.std.specs.Prelude.{count_by}
 use Rattle.std.specs.List.{range_with_len}
-use Rattle.std.proofs.lemmas.Bool.{both_ways, cases_Bool, eqb-true, or_cases, or_parts, not_from_true, false_from_ne_true, lt-ltb}
+use Rattle.std.proofs.lemmas.Bool.{both_ways, cases_Bool, eqb-true, or_cases, or_parts, not_from_true, lt-ltb, not-true, or_left, or_right, and_from, eq-eqb}
 use Rattle.std.proofs.lemmas.List.Sums.{sum_by-cons, sum_by-le-sum_by}
 use Rattle.lk_sets.specs.Ids.{has_id}
-use Rattle.lk_sets.specs.Rows.{Rows, has}
+use Rattle.lk_sets.specs.Rows.{Rows, has, AddsPair}
 use Rattle.lk_sets.specs.Closing.{absent, Grows, Going}
 use Rattle.lk_sets.proofs.Members.{has_id-range}
 
@@ -47,3 +47,27 @@ absent_falls old new size kept a b within below lacked has_now =
     let n = old.size in
     let at_old_size = sum_by-lt (missing_in n new) (missing_in n old) (range_with_len 0 n) a (missing_in-le n old new kept) (has_id-range n a ∙ lt-ltb a n within) (missing_in-lt n old new kept a b below lacked has_now) in
     subst (λ m. sum_by (missing_in m new) (range_with_len 0 m) < sum_by (missing_in n old) (range_with_len 0 n)) (sym size) at_old_size
+
+-- where one pair is put
+pub put_grows : (r s : Rows) (a b : ℕ) (changed : Bool) → s.size ≡ r.size → ((x y : ℕ) → has s x y ≡ (has r x y || (eqb x a && eqb y b))) → a < r.size → b < r.size → changed ≡ not (has r a b) → (changed ≡ false → s ≡ r) → Grows r s changed
+put_grows r s a b changed size pairs within below is_new same =
+    let kept : (x y : ℕ) → has r x y ≡ true → has s x y ≡ true = λ x y h. pairs x y ∙ or_left _ _ h in
+    record {
+      size = size;
+      kept = kept;
+      falls = λ h. absent_falls r s size kept a b within below (not-true _ (sym is_new ∙ h)) (pairs a b ∙ or_right _ _ (and_from _ _ (eq-eqb a a refl) (eq-eqb b b refl)));
+      same = same;
+    }
+
+-- where one row joins another
+pub join_grows : (r s : Rows) (from into : ℕ) (changed : Bool) → s.size ≡ r.size → ((x y : ℕ) → has s x y ≡ (has r x y || (eqb x into && has r from y))) → ((x y : ℕ) → has r x y ≡ true → (x < r.size) × (y < r.size)) → into < r.size → (changed ≡ true → AddsPair r from into) → (changed ≡ false → s ≡ r) → Grows r s changed
+join_grows r s from into changed size pairs within below adds same =
+    let kept : (x y : ℕ) → has r x y ≡ true → has s x y ≡ true = λ x y h. pairs x y ∙ or_left _ _ h in
+    record {
+      size = size;
+      kept = kept;
+      falls = λ h.
+        let found = adds h in
+        absent_falls r s size kept into found.0 below (within from found.0 found.1).1 found.2 (pairs into found.0 ∙ or_right _ _ (and_from _ _ (eq-eqb into into refl) found.1));
+      same = same;
+    }

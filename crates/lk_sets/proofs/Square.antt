@@ -3,7 +3,7 @@ use Rattle.std.proofs.Common.{ℕ, ◌+◌, ◌*◌, ◌/◌, ◌%◌, replicate
 use Rattle.std.specs.Int.{bit_at}
 use Rattle.std.specs.List.{filter, range_with_len}
 use Rattle.std.specs.List.Sorted.{IsStrictlyIncreasing}
-use Rattle.std.proofs.lemmas.Bool.{cases_eq, cases_lt, cases_Bool, eq-eqb, ne_eqb, lt-ltb, le-ltb, false≢true, both_ways}
+use Rattle.std.proofs.lemmas.Bool.{and_from, and_parts, eqb-true, cases_eq, cases_lt, cases_Bool, eq-eqb, ne_eqb, lt-ltb, le-ltb, false≢true, both_ways}
 use Rattle.std.proofs.lemmas.List.{get_or_past, get_or-replicate, length-replicate}
 use Rattle.std.proofs.lemmas.Nat.Bits.{bit_at-zero}
 use Rattle.std.proofs.lemmas.List.FromFn.{length-map-range_with_len, get_or-map-range_with_len}
@@ -12,7 +12,9 @@ use Rattle.std.proofs.lemmas.Nat.{same_from_place, mul-le}
 use Rattle.lk_sets.specs.Ids.{has_id}
 use Rattle.lk_sets.specs.Rows.{Rows, row_of, has, IsSquare}
 use Rattle.lk_sets.specs.Words.{bit_in, width_of, place_of, row_in, rows_in, IsRows}
-use Rattle.lk_sets.proofs.Members.{has_id-range, has_id-filter, range_rises}
+use Rattle.lk_sets.specs.Closing.{Grows}
+use Rattle.lk_sets.proofs.Closing.{put_grows, join_grows}
+use Rattle.lk_sets.proofs.Members.{same_answers, has_id-range, has_id-filter, range_rises}
 
 -- what a contract sees of the words
 abbrev pub seen : ℕ → List ℕ → Rows
@@ -110,3 +112,65 @@ rows-zeros n words small e = record {
   long = ap length e ∙ length-replicate (n * width_of n) 0;
   clear = λ a b within past before. bit_in-zeros (n * width_of n) words (place_of n a b) e;
 }
+
+-- a row's words have room for each number below the size
+wide_enough : (n : ℕ) → n ≤ 64 * width_of n
+wide_enough n = omega arith
+
+-- places of different pairs differ
+same_place : (n x y a b : ℕ) → y < 64 * width_of n → b < 64 * width_of n → eqb (place_of n x y) (place_of n a b) ≡ (eqb x a && eqb y b)
+same_place n x y a b short short' =
+    same_answers _ _
+    (λ h.
+      let w : ℕ = 64 * width_of n in
+      let e : x * w + y ≡ a * w + b = omega (arith, eqb-true (place_of n x y) (place_of n a b) h) in
+      let parts = same_from_place x y a b w short short' e in
+      and_from _ _ (eq-eqb x a parts.0) (eq-eqb y b parts.1))
+    (λ h.
+      let parts = and_parts (eqb x a) (eqb y b) h in
+      eq-eqb _ _ (ap (λ z. place_of n z y) (eqb-true x a parts.0) ∙ ap (place_of n a) (eqb-true y b parts.1)))
+
+-- what one bit more does
+module _ (n : ℕ) (old new : List ℕ) (inside : IsRows n old) (long : length new ≡ length old) (a b : ℕ) (a_in : a < n) (b_in : b < n) (bits : (k : ℕ) → bit_in new k ≡ (bit_in old k || eqb k (place_of n a b))) where
+  put_rows : IsRows n new
+  put_rows = record {
+    small = inside.small;
+    long = long ∙ inside.long;
+    clear = λ x y within past before.
+      bits (place_of n x y)
+      ∙ rw (inside.clear x y within past before, same_place n x y a b before (omega (arith, wide_enough n)), ne_eqb y b (λ e. omega arith)) (and_false (eqb x a));
+  }
+
+  put_pairs : (x y : ℕ) → has (seen n new) x y ≡ (has (seen n old) x y || (eqb x a && eqb y b))
+  put_pairs x y =
+      elim (cases_lt x n) [
+        | inr past ↦ rw (has_past n new x y (inl past), has_past n old x y (inl past), ne_eqb x a (λ e. omega arith)) refl
+        | inl within ↦ elim (cases_lt y n) [
+          | inr past ↦ rw (has_past n new x y (inr past), has_past n old x y (inr past), ne_eqb y b (λ e. omega arith)) (sym (and_false (eqb x a)))
+          | inl below ↦
+            has-seen n new x y within below
+            ∙ bits (place_of n x y)
+            ∙ rw (has-seen n old x y within below, same_place n x y a b (omega (arith, wide_enough n)) (omega (arith, wide_enough n))) refl
+        ]
+      ]
+
+-- what `put` leaves of the rows r, in these words
+pub record Puts (n : ℕ) (r : Rows) (new : List ℕ) (a b : ℕ) (result : Bool) : Type 0 where
+  pub rows : IsRows n new
+  pub pairs : (x y : ℕ) → has (seen n new) x y ≡ (has r x y || (eqb x a && eqb y b))
+  pub is_new : result ≡ not (has r a b)
+  pub grows : Grows r (seen n new) result
+
+pub puts : (n : ℕ) (r : Rows) (old new : List ℕ) (a b place : ℕ) (result : Bool) → seen n old ≡ r → IsRows n old → a < r.size → b < r.size → place ≡ place_of r.size a b → length new ≡ length old → ((k : ℕ) → bit_in new k ≡ (bit_in old k || eqb k place)) → result ≡ not (bit_in old place) → (result ≡ false → new ≡ old) → Puts n r new a b result
+puts n r old new a b place result shows = subst (λ r. IsRows n old → a < r.size → b < r.size → place ≡ place_of r.size a b → length new ≡ length old → ((k : ℕ) → bit_in new k ≡ (bit_in old k || eqb k place)) → result ≡ not (bit_in old place) → (result ≡ false → new ≡ old) → Puts n r new a b result) shows at_seen
+  where
+    at_seen : IsRows n old → a < n → b < n → place ≡ place_of n a b → length new ≡ length old → ((k : ℕ) → bit_in new k ≡ (bit_in old k || eqb k place)) → result ≡ not (bit_in old place) → (result ≡ false → new ≡ old) → Puts n (seen n old) new a b result
+    at_seen inside a_in b_in at long bits is_new same =
+        let pairs = put_pairs n old new inside long a b a_in b_in (λ k. bits k ∙ ap (λ p. bit_in old k || eqb k p) at) in
+        let was : result ≡ not (has (seen n old) a b) = is_new ∙ ap not (ap (bit_in old) at ∙ sym (has-seen n old a b a_in b_in)) in
+        record {
+          rows = put_rows n old new inside long a b a_in b_in (λ k. bits k ∙ ap (λ p. bit_in old k || eqb k p) at);
+          pairs = pairs;
+          is_new = was;
+          grows = put_grows (seen n old) (seen n new) a b result refl pairs a_in b_in was (λ h. ap (seen n) (same h));
+        }
