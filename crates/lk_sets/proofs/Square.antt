@@ -3,17 +3,18 @@ use Rattle.std.proofs.Common.{ℕ, ◌+◌, ◌*◌, ◌/◌, ◌%◌, replicate
 use Rattle.std.specs.Int.{bit_at}
 use Rattle.std.specs.List.{filter, range_with_len}
 use Rattle.std.specs.List.Sorted.{IsStrictlyIncreasing}
-use Rattle.std.proofs.lemmas.Bool.{and_from, and_parts, eqb-true, cases_eq, cases_lt, cases_Bool, eq-eqb, ne_eqb, lt-ltb, le-ltb, false≢true, both_ways}
+use Rattle.std.proofs.lemmas.Bool.{cases_order, or_right, true_from_ne_false, and_from, and_parts, eqb-true, cases_eq, cases_lt, cases_Bool, eq-eqb, ne_eqb, lt-ltb, le-ltb, false≢true, both_ways}
 use Rattle.std.proofs.lemmas.List.{get_or_past, get_or-replicate, length-replicate}
 use Rattle.std.proofs.lemmas.Nat.Bits.{bit_at-zero}
 use Rattle.std.proofs.lemmas.List.FromFn.{length-map-range_with_len, get_or-map-range_with_len}
 use Rattle.std.proofs.lemmas.List.Kept.{IsStrictlyIncreasing-filter}
 use Rattle.std.proofs.lemmas.Nat.{same_from_place, mul-le}
 use Rattle.lk_sets.specs.Ids.{has_id}
-use Rattle.lk_sets.specs.Rows.{Rows, row_of, has, IsSquare}
-use Rattle.lk_sets.specs.Words.{bit_in, width_of, place_of, row_in, rows_in, IsRows}
+use Rattle.lk_sets.specs.Rows.{Rows, row_of, has, IsSquare, AddsPair}
+use Rattle.lk_sets.specs.Words.{bit_in, width_of, place_of, row_in, rows_in, IsRows, IsJoined, AddsBit}
 use Rattle.lk_sets.specs.Closing.{Grows}
 use Rattle.lk_sets.proofs.Closing.{put_grows, join_grows}
+use Rattle.lk_sets.proofs.WordBits.{AreApart}
 use Rattle.lk_sets.proofs.Members.{same_answers, has_id-range, has_id-filter, range_rises}
 
 -- what a contract sees of the words
@@ -31,6 +32,10 @@ row_past n words a past = get_or_past (rows_in n words) a [] (omega (arith, leng
 and_true : (b : Bool) → (b && true) ≡ b
 and_true true = refl
 and_true false = refl
+
+or_false : (b : Bool) → (b || false) ≡ b
+or_false true = refl
+or_false false = refl
 
 and_false : (b : Bool) → (b && false) ≡ false
 and_false true = refl
@@ -173,4 +178,84 @@ puts n r old new a b place result shows = subst (λ r. IsRows n old → a < r.si
           pairs = pairs;
           is_new = was;
           grows = put_grows (seen n old) (seen n new) a b result refl pairs a_in b_in was (λ h. ap (seen n) (same h));
+        }
+
+-- the words of different rows, or of one
+pub rows_apart : (w from into : ℕ) → AreApart (from * w) (into * w) w
+rows_apart w from into =
+    elim (cases_order from into) [
+      | inl same ↦ inl (ap (λ a. a * w) same)
+      | inr (inl before) ↦ inr (inl (omega (arith, mul-le (from + 1) w into w (omega arith) (omega arith))))
+      | inr (inr behind) ↦ inr (inr (omega (arith, mul-le (into + 1) w from w (omega arith) (omega arith))))
+    ]
+
+-- what joined words do to one row
+module _ (n : ℕ) (old new : List ℕ) (inside : IsRows n old) (from into : ℕ) (from_in : from < n) (into_in : into < n) (m : IsJoined old new (from * width_of n) (into * width_of n) (width_of n)) where
+  -- each bit of a row that has room for it
+  joined_bit : (x y : ℕ) → y < 64 * width_of n → bit_in new (place_of n x y) ≡ (bit_in old (place_of n x y) || (eqb x into && bit_in old (place_of n from y)))
+  joined_bit x y short =
+      elim (cases_order x into) [
+        | inl same ↦
+          let into_row : place_of n x y ≡ 64 * (into * width_of n) + y = ap (λ a. place_of n a y) same in
+          ap (bit_in new) into_row
+          ∙ m.joined y short
+          ∙ rw (eq-eqb x into same, into_row) refl
+        | inr (inl before) ↦ m.below (place_of n x y) (omega (arith, mul-le (x + 1) (width_of n) into (width_of n) (omega arith) (omega arith))) ∙ rw (ne_eqb x into (λ e. omega arith), or_false (bit_in old (place_of n x y))) refl
+        | inr (inr behind) ↦ m.above (place_of n x y) (omega (arith, mul-le (into + 1) (width_of n) x (width_of n) (omega arith) (omega arith))) ∙ rw (ne_eqb x into (λ e. omega arith), or_false (bit_in old (place_of n x y))) refl
+      ]
+
+  join_rows : IsRows n new
+  join_rows = record {
+    small = inside.small;
+    long = m.long ∙ inside.long;
+    clear = λ x y within past before.
+      joined_bit x y before ∙ rw (inside.clear x y within past before, inside.clear from y from_in past before) (and_false (eqb x into));
+  }
+
+  join_pairs : (x y : ℕ) → has (seen n new) x y ≡ (has (seen n old) x y || (eqb x into && has (seen n old) from y))
+  join_pairs x y =
+      elim (cases_lt x n) [
+        | inr past ↦ rw (has_past n new x y (inl past), has_past n old x y (inl past), ne_eqb x into (λ e. omega arith)) refl
+        | inl within ↦ elim (cases_lt y n) [
+          | inr past ↦ rw (has_past n new x y (inr past), has_past n old x y (inr past), has_past n old from y (inr past)) (sym (and_false (eqb x into)))
+          | inl below ↦
+            has-seen n new x y within below
+            ∙ joined_bit x y (omega (arith, wide_enough n))
+            ∙ rw (has-seen n old x y within below, has-seen n old from y from_in below) refl
+        ]
+      ]
+
+  -- a bit that is new is that of a pair
+  join_adds : AddsBit old (from * width_of n) (into * width_of n) (width_of n) → AddsPair (seen n old) from into
+  join_adds added =
+      let b = added.0 in
+      elim (cases_lt b n) [
+        | inl below ↦ (b, has-seen n old from b from_in below ∙ added.2, has-seen n old into b into_in below ∙ added.3)
+        | inr past ↦ absurd (both_ways _ (inside.clear from b from_in past added.1) added.2)
+      ]
+
+-- what `join_row` leaves of the rows r, in these words
+pub record Joins (n : ℕ) (r : Rows) (new : List ℕ) (from into : ℕ) (result : Bool) : Type 0 where
+  pub rows : IsRows n new
+  pub pairs : (x y : ℕ) → has (seen n new) x y ≡ (has r x y || (eqb x into && has r from y))
+  pub adds : result ≡ true → AddsPair r from into
+  pub only : AddsPair r from into → result ≡ true
+  pub grows : Grows r (seen n new) result
+
+pub joins : (n : ℕ) (r : Rows) (old new : List ℕ) (from into w : ℕ) (result : Bool) → seen n old ≡ r → IsRows n old → from < r.size → into < r.size → w ≡ width_of n → IsJoined old new (from * w) (into * w) w → (result ≡ true → AddsBit old (from * w) (into * w) w) → (result ≡ false → new ≡ old) → Joins n r new from into result
+joins n r old new from into w result shows = subst (λ r. IsRows n old → from < r.size → into < r.size → w ≡ width_of n → IsJoined old new (from * w) (into * w) w → (result ≡ true → AddsBit old (from * w) (into * w) w) → (result ≡ false → new ≡ old) → Joins n r new from into result) shows at_seen
+  where
+    at_seen : IsRows n old → from < n → into < n → w ≡ width_of n → IsJoined old new (from * w) (into * w) w → (result ≡ true → AddsBit old (from * w) (into * w) w) → (result ≡ false → new ≡ old) → Joins n (seen n old) new from into result
+    at_seen inside from_in into_in wide joined added same =
+        let m : IsJoined old new (from * width_of n) (into * width_of n) (width_of n) = subst (λ w. IsJoined old new (from * w) (into * w) w) wide joined in
+        let pairs = join_pairs n old new inside from into from_in into_in m in
+        let adds : result ≡ true → AddsPair (seen n old) from into = λ h. join_adds n old new inside from into from_in into_in m (subst (λ w. AddsBit old (from * w) (into * w) w) wide (added h)) in
+        record {
+          rows = join_rows n old new inside from into from_in into_in m;
+          pairs = pairs;
+          adds = adds;
+          only = λ found. true_from_ne_false result (λ none.
+            both_ways (has (seen n old) into found.0) found.2
+            (ap (λ ws. has (seen n ws) into found.0) (sym (same none)) ∙ pairs into found.0 ∙ or_right _ _ (and_from _ _ (eq-eqb into into refl) found.1)));
+          grows = join_grows (seen n old) (seen n new) from into result refl pairs (within_size n old) into_in adds (λ h. ap (seen n) (same h));
         }
