@@ -1,5 +1,5 @@
 -- The rows that the words of a square stand for.
-use Rattle.std.proofs.Common.{ℕ, ◌+◌, ◌*◌, ◌/◌, ◌%◌, replicate, ◌<◌, ◌≤◌, ◌≡◌, ◌||◌, ◌&&◌, ◌⊎◌, Bool, true, false, not, eqb, ltb, List, [], length, get_or, map, refl, sym, ap, ◌∙◌, subst, inl, inr, arith}
+use Rattle.std.proofs.Common.{ℕ, ◌+◌, ◌-◌, ◌*◌, ◌/◌, ◌%◌, replicate, ◌<◌, ◌≤◌, ◌≡◌, ◌||◌, ◌&&◌, ◌⊎◌, Bool, true, false, not, eqb, ltb, List, [], length, get_or, map, refl, sym, ap, ◌∙◌, subst, inl, inr, arith}
 use Rattle.std.specs.Int.{bit_at}
 use Rattle.std.specs.List.{filter, range_with_len}
 use Rattle.std.specs.List.Sorted.{IsStrictlyIncreasing}
@@ -10,8 +10,8 @@ use Rattle.std.proofs.lemmas.List.FromFn.{length-map-range_with_len, get_or-map-
 use Rattle.std.proofs.lemmas.List.Kept.{IsStrictlyIncreasing-filter}
 use Rattle.std.proofs.lemmas.Nat.{same_from_place, mul-le}
 use Rattle.lk_sets.specs.Ids.{has_id}
-use Rattle.lk_sets.specs.Rows.{Rows, row_of, has, IsSquare, AddsPair}
-use Rattle.lk_sets.specs.Words.{bit_in, width_of, place_of, row_in, rows_in, IsRows, IsJoined, AddsBit}
+use Rattle.lk_sets.specs.Rows.{Rows, row_of, has, IsSquare, AddsPair, HasNoneBetween, IsNextInRow}
+use Rattle.lk_sets.specs.Words.{bit_in, width_of, place_of, row_in, rows_in, IsRows, IsJoined, AddsBit, AreClear, IsFirstBit}
 use Rattle.lk_sets.specs.Closing.{Grows}
 use Rattle.lk_sets.proofs.Closing.{put_grows, join_grows}
 use Rattle.lk_sets.proofs.WordBits.{AreApart}
@@ -259,3 +259,33 @@ joins n r old new from into w result shows = subst (λ r. IsRows n old → from 
             (ap (λ ws. has (seen n ws) into found.0) (sym (same none)) ∙ pairs into found.0 ∙ or_right _ _ (and_from _ _ (eq-eqb into into refl) found.1)));
           grows = join_grows (seen n old) (seen n new) from into result refl pairs (within_size n old) into_in adds (λ h. ap (seen n) (same h));
         }
+
+-- what a search from number b on in row a finds
+module _ (n : ℕ) (words : List ℕ) (inside : IsRows n words) (a b : ℕ) (a_in : a < n) where
+  none_found : AreClear words (64 * (a * width_of n) + b) (64 * (a * width_of n + width_of n)) → HasNoneBetween (seen n words) a b n
+  none_found clear x behind before = has-seen n words a x a_in before ∙ clear (place_of n a x) (omega arith) (omega (arith, wide_enough n))
+
+  next_found : (k : ℕ) → IsFirstBit words (64 * (a * width_of n) + b) (64 * (a * width_of n + width_of n)) k → IsNextInRow (seen n words) a b (k - 64 * (a * width_of n))
+  next_found k found =
+      let c : ℕ = k - 64 * (a * width_of n) in
+      let at : k ≡ place_of n a c = omega (arith, found.behind) in
+      let set : bit_in words (place_of n a c) ≡ true = ap (bit_in words) (sym at) ∙ found.set in
+      let below : c < n = elim (cases_lt c n) [
+        | inl low ↦ low
+        | inr past ↦ absurd (both_ways _ (inside.clear a c a_in past (omega (arith, found.before, found.behind))) set)
+      ] in
+      record {
+        behind = omega (arith, found.behind);
+        below = below;
+        found = has-seen n words a c a_in below ∙ set;
+        first = λ x from upto. has-seen n words a x a_in (omega arith) ∙ found.first (place_of n a x) (omega arith) (omega (arith, found.behind));
+      }
+
+-- the same of the rows r
+pub none_in_row : (n : ℕ) (r : Rows) (words : List ℕ) (a b w : ℕ) → seen n words ≡ r → IsRows n words → a < r.size → w ≡ width_of n → AreClear words (64 * (a * w) + b) (64 * (a * w + w)) → HasNoneBetween r a b r.size
+none_in_row n r words a b w shows = subst (λ r. IsRows n words → a < r.size → w ≡ width_of n → AreClear words (64 * (a * w) + b) (64 * (a * w + w)) → HasNoneBetween r a b r.size) shows
+    (λ inside a_in wide clear. none_found n words inside a b a_in (subst (λ w. AreClear words (64 * (a * w) + b) (64 * (a * w + w))) wide clear))
+
+pub next_in_row : (n : ℕ) (r : Rows) (words : List ℕ) (a b w k : ℕ) → seen n words ≡ r → IsRows n words → a < r.size → w ≡ width_of n → IsFirstBit words (64 * (a * w) + b) (64 * (a * w + w)) k → IsNextInRow r a b (k - 64 * (a * w))
+next_in_row n r words a b w k shows = subst (λ r. IsRows n words → a < r.size → w ≡ width_of n → IsFirstBit words (64 * (a * w) + b) (64 * (a * w + w)) k → IsNextInRow r a b (k - 64 * (a * w))) shows
+    (λ inside a_in wide found. subst (λ w. IsFirstBit words (64 * (a * w) + b) (64 * (a * w + w)) k → IsNextInRow (seen n words) a b (k - 64 * (a * w))) (sym wide) (next_found n words inside a b a_in k) found)
