@@ -1,5 +1,6 @@
 pub mod Closing
 pub mod Members
 pub mod Merging
+pub mod Rising
 pub mod Square
 pub mod WordBits

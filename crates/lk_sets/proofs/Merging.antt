@@ -9,7 +9,8 @@ use Rattle.std.proofs.lemmas.List.Elements.{Contains-get_or}
 use Rattle.std.proofs.lemmas.List.Folds.{list_any-append}
 use Rattle.std.proofs.lemmas.List.Kept.{AllPairs-from_increasing}
 use Rattle.lk_sets.specs.Ids.{has_id, IsSetOf}
-use Rattle.lk_sets.proofs.Members.{same_answers, Contains-from_has_id, has_id-from_Contains}
+use Rattle.lk_sets.proofs.Members.{same_answers}
+use Rattle.lk_sets.proofs.Rising.{tail_rises, tail_above, head_least, has_id-append, append_rises}
 
 -- a step past v: what is left of a list are its numbers above v
 pub record IsPast (v : ℕ) (ids rest : List ℕ) : Type 0 where
@@ -24,22 +25,6 @@ pub record Merges (keeps : Bool → Bool → Bool) (all others done left right :
   pub right_rises : IsStrictlyIncreasing right
   pub above : (x y : ℕ) → has_id done x ≡ true → (has_id left y || has_id right y) ≡ true → x < y
   pub members : (x : ℕ) → (has_id done x || keeps (has_id left x) (has_id right x)) ≡ keeps (has_id all x) (has_id others x)
-
-tail_rises : (x : ℕ) (xs : List ℕ) → IsStrictlyIncreasing (x ∷ xs) → IsStrictlyIncreasing xs
-tail_rises x xs up k lt = AllPairs-from_increasing (x ∷ xs) up (suc k) (suc (k + 1)) 0 (omega arith) (omega arith)
-
-tail_above : (x : ℕ) (xs : List ℕ) → IsStrictlyIncreasing (x ∷ xs) → (y : ℕ) → has_id xs y ≡ true → x < y
-tail_above x xs up y h =
-    let found = Contains-from_has_id xs y h in
-    let less : x < get_or xs found.0 y = AllPairs-from_increasing (x ∷ xs) up 0 (suc found.0) y (omega arith) (omega arith) in
-    subst (λ z. x < z) found.2 less
-
-head_least : (x : ℕ) (xs : List ℕ) → IsStrictlyIncreasing (x ∷ xs) → (y : ℕ) → has_id (x ∷ xs) y ≡ true → x ≤ y
-head_least x xs up y h =
-    elim (or_cases (eqb x y) (has_id xs y) h) [
-      | inl same ↦ omega (arith, eqb-true x y same)
-      | inr later ↦ omega (arith, tail_above x xs up y later)
-    ]
 
 -- past the head of a list
 pub past_head : (x : ℕ) (xs : List ℕ) → IsStrictlyIncreasing (x ∷ xs) → IsPast x (x ∷ xs) xs
@@ -74,24 +59,6 @@ merge_none keeps all others up ups = record {
   above = λ x y h. absurd (false≢true h);
   members = λ x. refl;
 }
-
-has_id-append : (ids more : List ℕ) (x : ℕ) → has_id (ids ++ more) x ≡ (has_id ids x || has_id more x)
-has_id-append ids more x = list_any-append (λ y. eqb y x) ids more
-
-cons_rises : (x : ℕ) (xs : List ℕ) → ((y : ℕ) → has_id xs y ≡ true → x < y) → IsStrictlyIncreasing xs → IsStrictlyIncreasing (x ∷ xs)
-cons_rises x xs above up zero lt = above _ (has_id-from_Contains xs _ (Contains-get_or xs 0 0 (omega arith)))
-cons_rises x xs above up (suc k) lt = let next : suc k + 1 ≡ suc (k + 1) = omega arith in rw next (up k (omega arith))
-
--- two ascending lists, each number of the one below those of the other
-append_rises : (xs ys : List ℕ) → IsStrictlyIncreasing xs → IsStrictlyIncreasing ys → ((x y : ℕ) → has_id xs x ≡ true → has_id ys y ≡ true → x < y) → IsStrictlyIncreasing (xs ++ ys)
-append_rises [] ys up ups above = ups
-append_rises (x ∷ xs) ys up ups above =
-    cons_rises x (xs ++ ys)
-    (λ y h. elim (or_cases (has_id xs y) (has_id ys y) (sym (has_id-append xs ys y) ∙ h)) [
-      | inl here ↦ tail_above x xs up y here
-      | inr there ↦ above x y (or_left _ _ (eq-eqb x x refl)) there
-    ])
-    (append_rises xs ys (tail_rises x xs up) ups (λ z y h. above z y (or_right (eqb x z) _ h)))
 
 or_false : (b : Bool) → (b || false) ≡ b
 or_false true = refl

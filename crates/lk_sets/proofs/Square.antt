@@ -1,5 +1,5 @@
 -- The rows that the words of a square stand for.
-use Rattle.std.proofs.Common.{ℕ, ◌+◌, ◌-◌, ◌*◌, ◌/◌, ◌%◌, replicate, ◌<◌, ◌≤◌, ◌≡◌, ◌||◌, ◌&&◌, ◌⊎◌, Bool, true, false, not, eqb, ltb, List, [], length, get_or, map, refl, sym, ap, ◌∙◌, subst, inl, inr, arith}
+use Rattle.std.proofs.Common.{ℕ, ◌+◌, ◌-◌, ◌*◌, ◌/◌, ◌%◌, replicate, ◌<◌, ◌≤◌, ◌≡◌, ◌||◌, ◌&&◌, ◌⊎◌, Bool, true, false, not, eqb, ltb, List, [], ◌∷◌, length, get_or, map, refl, sym, ap, ◌∙◌, subst, inl, inr, arith}
 use Rattle.std.specs.Int.{bit_at}
 use Rattle.std.specs.List.{filter, range_with_len}
 use Rattle.std.specs.List.Sorted.{IsStrictlyIncreasing}
@@ -10,11 +10,12 @@ use Rattle.std.proofs.lemmas.List.FromFn.{length-map-range_with_len, get_or-map-
 use Rattle.std.proofs.lemmas.List.Kept.{IsStrictlyIncreasing-filter}
 use Rattle.std.proofs.lemmas.Nat.{same_from_place, mul-le}
 use Rattle.lk_sets.specs.Ids.{has_id}
-use Rattle.lk_sets.specs.Rows.{Rows, row_of, has, IsSquare, AddsPair, HasNoneBetween, IsNextInRow}
+use Rattle.lk_sets.specs.Rows.{Rows, row_of, row_from, has, IsSquare, AddsPair, HasNoneBetween, IsNextInRow}
 use Rattle.lk_sets.specs.Words.{bit_in, width_of, place_of, row_in, rows_in, IsRows, IsJoined, AddsBit, AreClear, IsFirstBit}
 use Rattle.lk_sets.specs.Closing.{Grows}
 use Rattle.lk_sets.proofs.Closing.{put_grows, join_grows}
 use Rattle.lk_sets.proofs.WordBits.{AreApart}
+use Rattle.lk_sets.proofs.Rising.{from_zero, from_past, from_first}
 use Rattle.lk_sets.proofs.Members.{same_answers, has_id-range, has_id-filter, range_rises}
 
 -- what a contract sees of the words
@@ -289,3 +290,17 @@ none_in_row n r words a b w shows = subst (λ r. IsRows n words → a < r.size �
 pub next_in_row : (n : ℕ) (r : Rows) (words : List ℕ) (a b w k : ℕ) → seen n words ≡ r → IsRows n words → a < r.size → w ≡ width_of n → IsFirstBit words (64 * (a * w) + b) (64 * (a * w + w)) k → IsNextInRow r a b (k - 64 * (a * w))
 next_in_row n r words a b w k shows = subst (λ r. IsRows n words → a < r.size → w ≡ width_of n → IsFirstBit words (64 * (a * w) + b) (64 * (a * w + w)) k → IsNextInRow r a b (k - 64 * (a * w))) shows
     (λ inside a_in wide found. subst (λ w. IsFirstBit words (64 * (a * w) + b) (64 * (a * w + w)) k → IsNextInRow (seen n words) a b (k - 64 * (a * w))) (sym wide) (next_found n words inside a b a_in k) found)
+
+pub row_from-zero : (r : Rows) (a : ℕ) → row_from r a 0 ≡ row_of r a
+row_from-zero r a = from_zero (row_of r a)
+
+pub row_from-none : (r : Rows) (a b : ℕ) → IsSquare r → HasNoneBetween r a b r.size → row_from r a b ≡ []
+unfolding has
+row_from-none r a b square none =
+    from_past (row_of r a) b (λ x h. elim (cases_lt x b) [ inl before ↦ before | inr behind ↦ absurd (both_ways (has r a x) (none x behind (square.within a x h).1) h) ])
+
+pub row_from-next : (r : Rows) (a b c : ℕ) → IsSquare r → IsNextInRow r a b c → row_from r a b ≡ c ∷ row_from r a (c + 1)
+unfolding has
+row_from-next r a b c square next =
+    from_first (row_of r a) b c (square.sorted a) next.behind next.found
+    (λ x h behind. elim (cases_lt x c) [ inl before ↦ absurd (both_ways (has r a x) (next.first x behind before) h) | inr after ↦ after ])

@@ -121,6 +121,7 @@ impl BitRows {
         requires { a < self.now.size }
         ensures { result ≡ row_of self.now a }
     {
+        prove!(a < self.size);
         Row {
             rows: self,
             row: a,
@@ -139,13 +140,13 @@ pub struct Row<'a> {
 
 impl<'a> Model for Row<'a> {
     ghost use Rattle.std.specs.Prelude.{ℕ, List, ◌<◌};
-    ghost use Rattle.lk_sets.specs.Rows.{row_from};
+    ghost use Rattle.lk_sets.specs.Rows.{row_from, IsSquare};
 
     ghost Value = { List ℕ };
 
     ghost view = { λ s. row_from s.rows.now s.row s.next };
 
-    ghost invariant = { λ s. s.row < s.rows.now.size };
+    ghost invariant = { λ s. (s.row < s.rows.now.size) × IsSquare s.rows.now };
 }
 
 impl<'a> Iterator for Row<'a> {
