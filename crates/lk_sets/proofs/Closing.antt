@@ -1,8 +1,10 @@
 -- What loops share that close a relation: the measure falls with each new pair, and one step goes behind another.
-use Rattle.std.proofs.Common.{ℕ, ◌+◌, ◌<◌, ◌≤◌, ◌≡◌, ◌||◌, ◌&&◌, Bool, true, false, not, cond, eqb, List, [], ◌∷◌, length, refl, sym, ap, ◌∙◌, subst, inl, inr, arith, sum_by, below_more, below_none}
+use Rattle.std.proofs.Common.{ℕ, ◌+◌, ◌<◌, ◌≤◌, ◌≡◌, ◌||◌, ◌&&◌, Bool, true, false, not, cond, eqb, List, [], ◌∷◌, length, refl, sym, ap, ◌∙◌, subst, inl, inr, arith, sum_by, below_more, All, take, get_or}
 use Rattle.std.specs.Prelude.{count_by}
 use Rattle.std.specs.List.{range_with_len}
 use Rattle.std.proofs.lemmas.Bool.{both_ways, cases_Bool, eqb-true, or_cases, or_parts, not_from_true, lt-ltb, not-true, or_left, or_right, and_from, eq-eqb}
+use Rattle.std.proofs.lemmas.List.{take_all}
+use Rattle.std.proofs.lemmas.List.Elements.{All-more, All-nil}
 use Rattle.std.proofs.lemmas.List.Sums.{sum_by-cons, sum_by-le-sum_by}
 use Rattle.lk_sets.specs.Ids.{has_id}
 use Rattle.lk_sets.specs.Rows.{Rows, has, AddsPair}
@@ -71,3 +73,71 @@ join_grows r s from into changed size pairs within below adds same =
         absent_falls r s size kept into found.0 below (within from found.0 found.1).1 found.2 (pairs into found.0 ∙ or_right _ _ (and_from _ _ (eq-eqb into into refl) found.1));
       same = same;
     }
+
+pub grows_none : (r : Rows) → Grows r r false
+grows_none r = record {
+  size = refl;
+  kept = λ a b h. h;
+  falls = λ h. absurd (both_ways false refl h);
+  same = λ _. refl;
+}
+
+not_more : (old new : Rows) (changed : Bool) → Grows old new changed → absent new ≤ absent old
+not_more old new true g = omega (arith, g.falls refl)
+not_more old new false g = let e = ap absent (g.same refl) in omega arith
+
+-- one step behind another
+pub grows_twice : {old mid new : Rows} {b c : Bool} → Grows old mid b → Grows mid new c → Grows old new (b || c)
+grows_twice {old} {mid} {new} {b} {c} g h = record {
+  size = h.size ∙ g.size;
+  kept = λ x y p. h.kept x y (g.kept x y p);
+  falls = λ changed.
+    elim (or_cases b c changed) [
+      | inl first ↦ omega (arith, g.falls first, not_more mid new c h)
+      | inr second ↦ omega (arith, h.falls second, not_more old mid b g)
+    ];
+  same = λ none. let parts = or_parts b c none in h.same parts.1 ∙ g.same parts.0;
+}
+
+-- where a loop begins
+pub going_none : (Sound Done : Rows → Type 0) (r : Rows) → Done r → Going Sound Done r r false
+going_none Sound Done r done = record { grows = grows_none r; sound = λ s. s; done = λ _. done }
+
+-- one step more: what was done so far and what the step does are what is done then
+pub going_more : {Sound Done Step More : Rows → Type 0} {first mid now : Rows} {b c : Bool} → ((r : Rows) → Done r → Step r → More r) → Going Sound Done first mid b → Going Sound Step mid now c → Going Sound More first now (b || c)
+going_more {Sound} {Done} {Step} {More} {first} {mid} {now} {b} {c} joins g h = record {
+  grows = grows_twice g.grows h.grows;
+  sound = λ s. h.sound (g.sound s);
+  done = λ none.
+    let parts = or_parts b c none in
+    joins now (subst Done (sym (h.grows.same parts.1)) (g.done parts.0)) (h.done parts.1);
+}
+
+-- a loop over numbers: each below i is done, and the step does i
+pub going_below : {Sound : Rows → Type 0} (Step : ℕ → Rows → Type 0) (i : ℕ) {first mid now : Rows} {b c : Bool} → Going Sound (λ r. (k : ℕ) → k < i → Step k r) first mid b → Going Sound (Step i) mid now c → Going Sound (λ r. (k : ℕ) → k < i + 1 → Step k r) first now (b || c)
+going_below Step i g h = going_more (λ r done here. below_more (λ k. Step k r) i done here) g h
+
+-- a loop over a list: each of the first i elements is done, and the step does the next
+pub going_each : {Sound : Rows → Type 0} {X : Type 0} (Step : Rows → X → Type 0) (xs : List X) (i : ℕ) (d : X) {first mid now : Rows} {b c : Bool} → i < length xs → Going Sound (λ r. All (Step r) (take i xs)) first mid b → Going Sound (λ r. Step r (get_or xs i d)) mid now c → Going Sound (λ r. All (Step r) (take (i + 1) xs)) first now (b || c)
+going_each Step xs i d within g h = going_more (λ r done here. All-more (Step r) xs i d within done here) g h
+
+-- the end of such a loop
+pub going_all : {Sound : Rows → Type 0} {X : Type 0} (Step : Rows → X → Type 0) (xs : List X) (i : ℕ) {first now : Rows} {b : Bool} → length xs ≤ i → Going Sound (λ r. All (Step r) (take i xs)) first now b → Going Sound (λ r. All (Step r) xs) first now b
+going_all {Sound} Step xs i {first} {now} {b} past g = subst (λ ys. Going Sound (λ r. All (Step r) ys) first now b) (take_all i xs past) g
+
+-- Where a loop stands between two rounds: no pair is lost, and what was sound is.
+pub record Grown (Sound : Rows → Type 0) (first now : Rows) : Type 0 where
+  pub size : now.size ≡ first.size
+  pub kept : (a b : ℕ) → has first a b ≡ true → has now a b ≡ true
+  pub sound : Sound first → Sound now
+
+pub grown_none : (Sound : Rows → Type 0) (r : Rows) → Grown Sound r r
+grown_none Sound r = record { size = refl; kept = λ a b h. h; sound = λ s. s }
+
+-- one round more
+pub grown_more : {Sound Done : Rows → Type 0} {first mid now : Rows} {c : Bool} → Grown Sound first mid → Going Sound Done mid now c → Grown Sound first now
+grown_more g h = record {
+  size = h.grows.size ∙ g.size;
+  kept = λ a b p. h.grows.kept a b (g.kept a b p);
+  sound = λ s. h.sound (g.sound s);
+}

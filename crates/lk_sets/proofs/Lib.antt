@@ -1,6 +1,7 @@
 pub mod Closing
 pub mod Members
 pub mod Merging
+pub mod Reaching
 pub mod Rising
 pub mod Square
 pub mod WordBits

@@ -4,6 +4,8 @@
 mod bit_rows;
 mod bits;
 mod id_set;
+mod spread;
 
 pub use bit_rows::{BitRows, Row};
 pub use id_set::IdSet;
+pub use spread::Arrow;
