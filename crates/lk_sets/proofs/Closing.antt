@@ -18,8 +18,8 @@ sum_by-lt f g (k ∷ ks) x below there less =
     let rest = sum_by-le-sum_by f g ks below in
     elim (or_cases (eqb k x) (has_id ks x) there) [
       | inl here ↦
-        let at : f k < g k = subst (λ y. f y < g y) (sym (eqb-true k x here)) less in
-        omega (arith, sum_by-cons f k ks, sum_by-cons g k ks, rest)
+          let at : f k < g k = subst (λ y. f y < g y) (sym (eqb-true k x here)) less in
+          omega (arith, sum_by-cons f k ks, sum_by-cons g k ks, rest)
       | inr later ↦ omega (arith, sum_by-cons f k ks, sum_by-cons g k ks, below k, sum_by-lt f g ks x below later less)
     ]
 
@@ -69,8 +69,8 @@ join_grows r s from into changed size pairs within below adds same =
       size = size;
       kept = kept;
       falls = λ h.
-        let found = adds h in
-        absent_falls r s size kept into found.0 below (within from found.0 found.1).1 found.2 (pairs into found.0 ∙ or_right _ _ (and_from _ _ (eq-eqb into into refl) found.1));
+          let found = adds h in
+          absent_falls r s size kept into found.0 below (within from found.0 found.1).1 found.2 (pairs into found.0 ∙ or_right _ _ (and_from _ _ (eq-eqb into into refl) found.1));
       same = same;
     }
 
@@ -92,10 +92,10 @@ grows_twice {old} {mid} {new} {b} {c} g h = record {
   size = h.size ∙ g.size;
   kept = λ x y p. h.kept x y (g.kept x y p);
   falls = λ changed.
-    elim (or_cases b c changed) [
-      | inl first ↦ omega (arith, g.falls first, not_more mid new c h)
-      | inr second ↦ omega (arith, h.falls second, not_more old mid b g)
-    ];
+      elim (or_cases b c changed) [
+        | inl first ↦ omega (arith, g.falls first, not_more mid new c h)
+        | inr second ↦ omega (arith, h.falls second, not_more old mid b g)
+      ];
   same = λ none. let parts = or_parts b c none in h.same parts.1 ∙ g.same parts.0;
 }
 
@@ -109,8 +109,8 @@ going_more {Sound} {Done} {Step} {More} {first} {mid} {now} {b} {c} joins g h = 
   grows = grows_twice g.grows h.grows;
   sound = λ s. h.sound (g.sound s);
   done = λ none.
-    let parts = or_parts b c none in
-    joins now (subst Done (sym (h.grows.same parts.1)) (g.done parts.0)) (h.done parts.1);
+      let parts = or_parts b c none in
+      joins now (subst Done (sym (h.grows.same parts.1)) (g.done parts.0)) (h.done parts.1);
 }
 
 -- a loop over numbers: each below i is done, and the step does i

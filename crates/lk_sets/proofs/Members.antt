@@ -42,10 +42,10 @@ rising ids up i j le lt =
 none_found : (ids : List ℕ) (x i : ℕ) → ((k : ℕ) → k < i → get_or ids k 0 < x) → ((k : ℕ) → i ≤ k → k < length ids → x < get_or ids k 0) → has_id ids x ≡ false
 none_found ids x i below above =
     list_any_none (λ y. eqb y x) ids (All-from_get_or (λ y. eqb y x ≡ false) ids 0 (λ k lt. ne_eqb _ x (λ same.
-      elim (cases_lt k i) [
-        | inl before ↦ omega (arith, below k before)
-        | inr behind ↦ omega (arith, above k behind lt)
-      ])))
+    elim (cases_lt k i) [
+      | inl before ↦ omega (arith, below k before)
+      | inr behind ↦ omega (arith, above k behind lt)
+    ])))
 
 -- a binary search over ascending numbers finds just those that are there
 pub is_ok-searched : (ids : List ℕ) (x : ℕ) (r : Result ℕ ℕ) → IsStrictlyIncreasing ids → IsBinarySearchResult (λ y. nat_cmp y x) ids r → is_ok r ≡ has_id ids x
@@ -60,12 +60,12 @@ pub has_id-range : (n x : ℕ) → has_id (range_with_len 0 n) x ≡ ltb x n
 has_id-range n x =
     same_answers (has_id (range_with_len 0 n) x) (ltb x n)
     (λ h.
-      let found = Contains-from_has_id (range_with_len 0 n) x h in
-      let within : found.0 < n = omega (arith, length-range_with_len 0 n) in
-      lt-ltb x n (omega (arith, get_or-range_with_len 0 n found.0 x within)))
+    let found = Contains-from_has_id (range_with_len 0 n) x h in
+    let within : found.0 < n = omega (arith, length-range_with_len 0 n) in
+    lt-ltb x n (omega (arith, get_or-range_with_len 0 n found.0 x within)))
     (λ h.
-      let below = ltb-true x n h in
-      list_any_at (λ y. eqb y x) (range_with_len 0 n) x 0 (omega (arith, length-range_with_len 0 n)) (eq-eqb _ x (get_or-range_with_len 0 n x 0 below ∙ omega arith)))
+    let below = ltb-true x n h in
+    list_any_at (λ y. eqb y x) (range_with_len 0 n) x 0 (omega (arith, length-range_with_len 0 n)) (eq-eqb _ x (get_or-range_with_len 0 n x 0 below ∙ omega arith)))
 
 -- a filter keeps the numbers that pass
 pub has_id-filter : (p : ℕ → Bool) (ids : List ℕ) (x : ℕ) → has_id (filter p ids) x ≡ (p x && has_id ids x)

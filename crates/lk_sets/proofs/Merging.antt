@@ -32,8 +32,8 @@ past_head x xs up = record {
   sorted = tail_rises x xs up;
   from = head_least x xs up;
   members = λ y. same_answers (has_id xs y) _
-    (λ h. rw (h, lt-ltb x y (tail_above x xs up y h)) (search rules))
-    (λ h.
+      (λ h. rw (h, lt-ltb x y (tail_above x xs up y h)) (search rules))
+      (λ h.
       let parts = and_parts (has_id (x ∷ xs) y) (ltb x y) h in
       elim (or_cases (eqb x y) (has_id xs y) parts.0) [
         | inl same ↦ absurd (omega (arith, eqb-true x y same, ltb-true x y parts.1))
@@ -47,8 +47,8 @@ past_less v x xs up less = record {
   sorted = up;
   from = λ y h. omega (arith, head_least x xs up y h);
   members = λ y. same_answers (has_id (x ∷ xs) y) _
-    (λ h. rw (h, lt-ltb v y (omega (arith, head_least x xs up y h))) refl)
-    (λ h. (and_parts (has_id (x ∷ xs) y) (ltb v y) h).0);
+      (λ h. rw (h, lt-ltb v y (omega (arith, head_least x xs up y h))) refl)
+      (λ h. (and_parts (has_id (x ∷ xs) y) (ltb v y) h).0);
 }
 
 pub merge_none : (keeps : Bool → Bool → Bool) (all others : List ℕ) → IsStrictlyIncreasing all → IsStrictlyIncreasing others → Merges keeps all others [] all others
@@ -107,11 +107,11 @@ module _ (keeps : Bool → Bool → Bool) (none : keeps false false ≡ false) (
       elim (cases_order v x) [
         | inl same ↦ rw (← same, eq-eqb v v refl, le-ltb v v (omega arith), and_true stays, and_false (has_id left v), and_false (has_id right v), none, or_false)
         | inr (inl more) ↦
-          rw (ne_eqb v x (λ e. omega arith), lt-ltb v x more, and_false stays, or_false, and_true (has_id left x), and_true (has_id right x))
+            rw (ne_eqb v x (λ e. omega arith), lt-ltb v x more, and_false stays, or_false, and_true (has_id left x), and_true (has_id right x))
         | inr (inr less) ↦
-          let no_left : has_id left x ≡ false = false_from_ne_true _ (λ h. omega (arith, past.from x h)) in
-          let no_right : has_id right x ≡ false = false_from_ne_true _ (λ h. omega (arith, past'.from x h)) in
-          rw (ne_eqb v x (λ e. omega arith), no_left, no_right, and_false stays, or_false)
+            let no_left : has_id left x ≡ false = false_from_ne_true _ (λ h. omega (arith, past.from x h)) in
+            let no_right : has_id right x ≡ false = false_from_ne_true _ (λ h. omega (arith, past'.from x h)) in
+            rw (ne_eqb v x (λ e. omega arith), no_left, no_right, and_false stays, or_false)
       ]
 
   -- one step: the least number of what is left is v
@@ -121,11 +121,11 @@ module _ (keeps : Bool → Bool → Bool) (none : keeps false false ≡ false) (
     left_rises = past.sorted;
     right_rises = past'.sorted;
     above = λ x y h k.
-      let later = still_there y k in
-      elim (or_cases (has_id done x) (has_id (one_if stays v) x) (sym (has_id-append done (one_if stays v) x) ∙ h)) [
-        | inl before ↦ m.above x y before later.0
-        | inr now ↦ subst (λ z. z < y) (one_if_is stays v x now) later.1
-      ];
+        let later = still_there y k in
+        elim (or_cases (has_id done x) (has_id (one_if stays v) x) (sym (has_id-append done (one_if stays v) x) ∙ h)) [
+          | inl before ↦ m.above x y before later.0
+          | inr now ↦ subst (λ z. z < y) (one_if_is stays v x now) later.1
+        ];
     members = λ x. rw (has_id-pushed done stays v x, past.members x, past'.members x) (members_at x ∙ m.members x);
   }
 

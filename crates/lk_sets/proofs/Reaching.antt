@@ -13,15 +13,15 @@ pub going_arrow : (arrows : List Arrow) (first mid now : Rows) (arrow : Arrow) (
 going_arrow arrows first mid now arrow changed there pairs grows = record {
   grows = grows;
   sound = λ sound a b h.
-    elim (or_cases (has mid a b) _ (sym (pairs a b) ∙ h)) [
-      | inl before ↦ sound a b before
-      | inr new ↦
-        let parts = and_parts (eqb a arrow.into) (has mid arrow.from b) new in
-        subst (λ x. Spread arrows first x b) (sym (eqb-true a arrow.into parts.0)) (passed arrow there (sound arrow.from b parts.1))
-    ];
+      elim (or_cases (has mid a b) _ (sym (pairs a b) ∙ h)) [
+        | inl before ↦ sound a b before
+        | inr new ↦
+            let parts = and_parts (eqb a arrow.into) (has mid arrow.from b) new in
+            subst (λ x. Spread arrows first x b) (sym (eqb-true a arrow.into parts.0)) (passed arrow there (sound arrow.from b parts.1))
+      ];
   done = λ none b h.
-    let before : has mid arrow.from b ≡ true = subst (λ r. has r arrow.from b ≡ true) (grows.same none) h in
-    pairs arrow.into b ∙ or_right _ _ (and_from _ _ (eq-eqb arrow.into arrow.into refl) before);
+      let before : has mid arrow.from b ≡ true = subst (λ r. has r arrow.from b ≡ true) (grows.same none) h in
+      pairs arrow.into b ∙ or_right _ _ (and_from _ _ (eq-eqb arrow.into arrow.into refl) before);
 }
 
 -- where each arrow has passed on what it has, all pairs are there

@@ -7,7 +7,7 @@ use Rattle.std.proofs.lemmas.List.Elements.{Contains-get_or}
 use Rattle.std.proofs.lemmas.List.Folds.{list_any-append}
 use Rattle.std.proofs.lemmas.List.Kept.{AllPairs-from_increasing}
 use Rattle.lk_sets.specs.Ids.{has_id}
-use Rattle.lk_sets.proofs.Members.{Contains-from_has_id, has_id-from_Contains}
+use Rattle.lk_sets.proofs.Members.{same_answers, Contains-from_has_id, has_id-from_Contains}
 
 pub tail_rises : (x : ℕ) (xs : List ℕ) → IsStrictlyIncreasing (x ∷ xs) → IsStrictlyIncreasing xs
 tail_rises x xs up k lt = AllPairs-from_increasing (x ∷ xs) up (suc k) (suc (k + 1)) 0 (omega arith) (omega arith)
@@ -65,12 +65,33 @@ from_first [] b c up behind there first = absurd (both_ways false refl there)
 from_first (x ∷ xs) b c up behind there first =
     elim (cases_lt x b) [
       | inl before ↦
-        let later : has_id xs c ≡ true = elim (or_cases (eqb x c) (has_id xs c) there) [ inl same ↦ absurd (omega (arith, eqb-true x c same)) | inr h ↦ h ] in
-        rw (lt-leb b x before, lt-leb (c + 1) x (omega arith)) (from_first xs b c (tail_rises x xs up) behind later (λ y h. first y (or_right (eqb x y) _ h)))
+          let later : has_id xs c ≡ true = elim (or_cases (eqb x c) (has_id xs c) there) [ inl same ↦ absurd (omega (arith, eqb-true x c same)) | inr h ↦ h ] in
+          rw (lt-leb b x before, lt-leb (c + 1) x (omega arith)) (from_first xs b c (tail_rises x xs up) behind later (λ y h. first y (or_right (eqb x y) _ h)))
       | inr from_b ↦
-        let same : x ≡ c = omega (arith, head_least x xs up c there, first x (or_left _ _ (eq-eqb x x refl)) from_b) in
-        rw (le-leb b x from_b, lt-leb (c + 1) x (omega arith))
-        (ap (λ y. y ∷ filter (λ z. leb b z) xs) same ∙ ap (λ ys. c ∷ ys) (
+          let same : x ≡ c = omega (arith, head_least x xs up c there, first x (or_left _ _ (eq-eqb x x refl)) from_b) in
+          rw (le-leb b x from_b, lt-leb (c + 1) x (omega arith))
+          (ap (λ y. y ∷ filter (λ z. leb b z) xs) same ∙ ap (λ ys. c ∷ ys) (
           filter_whole (λ z. leb b z) xs (λ y h. le-leb b y (omega (arith, tail_above x xs up y h)))
           ∙ sym (filter_whole (λ z. leb (c + 1) z) xs (λ y h. le-leb (c + 1) y (omega (arith, tail_above x xs up y h))))))
     ]
+
+has_head : (x : ℕ) (xs : List ℕ) → has_id (x ∷ xs) x ≡ true
+has_head x xs = or_left _ _ (eq-eqb x x refl)
+
+-- what is behind the head of one list is behind that of another
+in_tail : (x y : ℕ) (xs ys : List ℕ) → x ≡ y → IsStrictlyIncreasing (x ∷ xs) → ((z : ℕ) → has_id (x ∷ xs) z ≡ has_id (y ∷ ys) z) → (z : ℕ) → has_id xs z ≡ true → has_id ys z ≡ true
+in_tail x y xs ys head up same z h =
+    elim (or_cases (eqb y z) (has_id ys z) (sym (same z) ∙ or_right (eqb x z) _ h)) [
+      | inl here ↦ absurd (omega (arith, eqb-true y z here, tail_above x xs up z h))
+      | inr later ↦ later
+    ]
+
+-- two ascending lists with the same numbers are one
+pub one_list : (xs ys : List ℕ) → IsStrictlyIncreasing xs → IsStrictlyIncreasing ys → ((z : ℕ) → has_id xs z ≡ has_id ys z) → xs ≡ ys
+one_list [] [] up ups same = refl
+one_list [] (y ∷ ys) up ups same = absurd (both_ways false refl (same y ∙ has_head y ys))
+one_list (x ∷ xs) [] up ups same = absurd (both_ways false refl (sym (same x) ∙ has_head x xs))
+one_list (x ∷ xs) (y ∷ ys) up ups same =
+    let head : x ≡ y = omega (arith, head_least x xs up y (same y ∙ has_head y ys), head_least y ys ups x (sym (same x) ∙ has_head x xs)) in
+    let tail : (z : ℕ) → has_id xs z ≡ has_id ys z = λ z. same_answers _ _ (in_tail x y xs ys head up same z) (in_tail y x ys xs (sym head) ups (λ w. sym (same w)) z) in
+    ap (λ w. w ∷ xs) head ∙ ap (λ ws. y ∷ ws) (one_list xs ys (tail_rises x xs up) (tail_rises y ys ups) tail)

@@ -4,7 +4,7 @@ use Rattle.std.specs.Int.{bit_at}
 use Rattle.std.specs.List.{filter, range_with_len}
 use Rattle.std.specs.List.Sorted.{IsStrictlyIncreasing}
 use Rattle.std.proofs.lemmas.Bool.{cases_order, or_right, true_from_ne_false, and_from, and_parts, eqb-true, cases_eq, cases_lt, cases_Bool, eq-eqb, ne_eqb, lt-ltb, le-ltb, false≢true, both_ways}
-use Rattle.std.proofs.lemmas.List.{get_or_past, get_or-replicate, length-replicate}
+use Rattle.std.proofs.lemmas.List.{same_lists, get_or_default, get_or_past, get_or-replicate, length-replicate}
 use Rattle.std.proofs.lemmas.Nat.Bits.{bit_at-zero}
 use Rattle.std.proofs.lemmas.List.FromFn.{length-map-range_with_len, get_or-map-range_with_len}
 use Rattle.std.proofs.lemmas.List.Kept.{IsStrictlyIncreasing-filter}
@@ -15,7 +15,7 @@ use Rattle.lk_sets.specs.Words.{bit_in, width_of, place_of, row_in, rows_in, IsR
 use Rattle.lk_sets.specs.Closing.{Grows}
 use Rattle.lk_sets.proofs.Closing.{put_grows, join_grows}
 use Rattle.lk_sets.proofs.WordBits.{AreApart}
-use Rattle.lk_sets.proofs.Rising.{from_zero, from_past, from_first}
+use Rattle.lk_sets.proofs.Rising.{one_list, from_zero, from_past, from_first}
 use Rattle.lk_sets.proofs.Members.{same_answers, has_id-range, has_id-filter, range_rises}
 
 -- what a contract sees of the words
@@ -128,13 +128,13 @@ same_place : (n x y a b : ℕ) → y < 64 * width_of n → b < 64 * width_of n �
 same_place n x y a b short short' =
     same_answers _ _
     (λ h.
-      let w : ℕ = 64 * width_of n in
-      let e : x * w + y ≡ a * w + b = omega (arith, eqb-true (place_of n x y) (place_of n a b) h) in
-      let parts = same_from_place x y a b w short short' e in
-      and_from _ _ (eq-eqb x a parts.0) (eq-eqb y b parts.1))
+    let w : ℕ = 64 * width_of n in
+    let e : x * w + y ≡ a * w + b = omega (arith, eqb-true (place_of n x y) (place_of n a b) h) in
+    let parts = same_from_place x y a b w short short' e in
+    and_from _ _ (eq-eqb x a parts.0) (eq-eqb y b parts.1))
     (λ h.
-      let parts = and_parts (eqb x a) (eqb y b) h in
-      eq-eqb _ _ (ap (λ z. place_of n z y) (eqb-true x a parts.0) ∙ ap (place_of n a) (eqb-true y b parts.1)))
+    let parts = and_parts (eqb x a) (eqb y b) h in
+    eq-eqb _ _ (ap (λ z. place_of n z y) (eqb-true x a parts.0) ∙ ap (place_of n a) (eqb-true y b parts.1)))
 
 -- what one bit more does
 module _ (n : ℕ) (old new : List ℕ) (inside : IsRows n old) (long : length new ≡ length old) (a b : ℕ) (a_in : a < n) (b_in : b < n) (bits : (k : ℕ) → bit_in new k ≡ (bit_in old k || eqb k (place_of n a b))) where
@@ -143,8 +143,8 @@ module _ (n : ℕ) (old new : List ℕ) (inside : IsRows n old) (long : length n
     small = inside.small;
     long = long ∙ inside.long;
     clear = λ x y within past before.
-      bits (place_of n x y)
-      ∙ rw (inside.clear x y within past before, same_place n x y a b before (omega (arith, wide_enough n)), ne_eqb y b (λ e. omega arith)) (and_false (eqb x a));
+        bits (place_of n x y)
+        ∙ rw (inside.clear x y within past before, same_place n x y a b before (omega (arith, wide_enough n)), ne_eqb y b (λ e. omega arith)) (and_false (eqb x a));
   }
 
   put_pairs : (x y : ℕ) → has (seen n new) x y ≡ (has (seen n old) x y || (eqb x a && eqb y b))
@@ -154,9 +154,9 @@ module _ (n : ℕ) (old new : List ℕ) (inside : IsRows n old) (long : length n
         | inl within ↦ elim (cases_lt y n) [
           | inr past ↦ rw (has_past n new x y (inr past), has_past n old x y (inr past), ne_eqb y b (λ e. omega arith)) (sym (and_false (eqb x a)))
           | inl below ↦
-            has-seen n new x y within below
-            ∙ bits (place_of n x y)
-            ∙ rw (has-seen n old x y within below, same_place n x y a b (omega (arith, wide_enough n)) (omega (arith, wide_enough n))) refl
+              has-seen n new x y within below
+              ∙ bits (place_of n x y)
+              ∙ rw (has-seen n old x y within below, same_place n x y a b (omega (arith, wide_enough n)) (omega (arith, wide_enough n))) refl
         ]
       ]
 
@@ -197,10 +197,10 @@ module _ (n : ℕ) (old new : List ℕ) (inside : IsRows n old) (from into : ℕ
   joined_bit x y short =
       elim (cases_order x into) [
         | inl same ↦
-          let into_row : place_of n x y ≡ 64 * (into * width_of n) + y = ap (λ a. place_of n a y) same in
-          ap (bit_in new) into_row
-          ∙ m.joined y short
-          ∙ rw (eq-eqb x into same, into_row) refl
+            let into_row : place_of n x y ≡ 64 * (into * width_of n) + y = ap (λ a. place_of n a y) same in
+            ap (bit_in new) into_row
+            ∙ m.joined y short
+            ∙ rw (eq-eqb x into same, into_row) refl
         | inr (inl before) ↦ m.below (place_of n x y) (omega (arith, mul-le (x + 1) (width_of n) into (width_of n) (omega arith) (omega arith))) ∙ rw (ne_eqb x into (λ e. omega arith), or_false (bit_in old (place_of n x y))) refl
         | inr (inr behind) ↦ m.above (place_of n x y) (omega (arith, mul-le (into + 1) (width_of n) x (width_of n) (omega arith) (omega arith))) ∙ rw (ne_eqb x into (λ e. omega arith), or_false (bit_in old (place_of n x y))) refl
       ]
@@ -210,7 +210,7 @@ module _ (n : ℕ) (old new : List ℕ) (inside : IsRows n old) (from into : ℕ
     small = inside.small;
     long = m.long ∙ inside.long;
     clear = λ x y within past before.
-      joined_bit x y before ∙ rw (inside.clear x y within past before, inside.clear from y from_in past before) (and_false (eqb x into));
+        joined_bit x y before ∙ rw (inside.clear x y within past before, inside.clear from y from_in past before) (and_false (eqb x into));
   }
 
   join_pairs : (x y : ℕ) → has (seen n new) x y ≡ (has (seen n old) x y || (eqb x into && has (seen n old) from y))
@@ -220,9 +220,9 @@ module _ (n : ℕ) (old new : List ℕ) (inside : IsRows n old) (from into : ℕ
         | inl within ↦ elim (cases_lt y n) [
           | inr past ↦ rw (has_past n new x y (inr past), has_past n old x y (inr past), has_past n old from y (inr past)) (sym (and_false (eqb x into)))
           | inl below ↦
-            has-seen n new x y within below
-            ∙ joined_bit x y (omega (arith, wide_enough n))
-            ∙ rw (has-seen n old x y within below, has-seen n old from y from_in below) refl
+              has-seen n new x y within below
+              ∙ joined_bit x y (omega (arith, wide_enough n))
+              ∙ rw (has-seen n old x y within below, has-seen n old from y from_in below) refl
         ]
       ]
 
@@ -256,8 +256,8 @@ joins n r old new from into w result shows = subst (λ r. IsRows n old → from 
           pairs = pairs;
           adds = adds;
           only = λ found. true_from_ne_false result (λ none.
-            both_ways (has (seen n old) into found.0) found.2
-            (ap (λ ws. has (seen n ws) into found.0) (sym (same none)) ∙ pairs into found.0 ∙ or_right _ _ (and_from _ _ (eq-eqb into into refl) found.1)));
+              both_ways (has (seen n old) into found.0) found.2
+              (ap (λ ws. has (seen n ws) into found.0) (sym (same none)) ∙ pairs into found.0 ∙ or_right _ _ (and_from _ _ (eq-eqb into into refl) found.1)));
           grows = join_grows (seen n old) (seen n new) from into result refl pairs (within_size n old) into_in adds (λ h. ap (seen n) (same h));
         }
 
@@ -304,3 +304,13 @@ unfolding has
 row_from-next r a b c square next =
     from_first (row_of r a) b c (square.sorted a) next.behind next.found
     (λ x h behind. elim (cases_lt x c) [ inl before ↦ absurd (both_ways (has r a x) (next.first x behind before) h) | inr after ↦ after ])
+
+-- two squares of one size with the same pairs are one
+pub one_square : (r s : Rows) → IsSquare r → IsSquare s → r.size ≡ s.size → ((a b : ℕ) → has r a b ≡ has s a b) → r ≡ s
+unfolding has
+one_square r s square square' size same =
+    let rows : r.rows ≡ s.rows = same_lists r.rows s.rows (square.rows ∙ size ∙ sym square'.rows) (λ a d within.
+    get_or_default r.rows a d [] within
+    ∙ one_list (row_of r a) (row_of s a) (square.sorted a) (square'.sorted a) (same a)
+    ∙ get_or_default s.rows a [] d (omega (arith, square.rows, square'.rows))) in
+    ap (λ n. record { size = n; rows = r.rows }) size ∙ ap (λ rows. record { size = s.size; rows = rows }) rows

@@ -29,11 +29,11 @@ bit_in-set_bit words b k w within read =
       | inr apart ↦ rw (get_or-set_other, ne_eqb k b (λ e. apart (ap (λ n. n / 64) e)), or_false (bit_in words k))
       | inl same ↦ elim (cases_eq (k % 64) (b % 64)) [
         | inl alike ↦
-          let one : bit_at (bit_or w (1 * 2 ^ (b % 64) % 18446744073709551616)) (b % 64) ≡ 1 = bit_at_set_same w64 w (b % 64) (omega arith) in
-          rw (same, get_or-set_same, alike, one, eq-eqb k b (omega arith)) (sym (or_right _ true refl))
+            let one : bit_at (bit_or w (1 * 2 ^ (b % 64) % 18446744073709551616)) (b % 64) ≡ 1 = bit_at_set_same w64 w (b % 64) (omega arith) in
+            rw (same, get_or-set_same, alike, one, eq-eqb k b (omega arith)) (sym (or_right _ true refl))
         | inr differ ↦
-          let kept : bit_at (bit_or w (1 * 2 ^ (b % 64) % 18446744073709551616)) (k % 64) ≡ bit_at w (k % 64) = bit_at_set_other w64 w (b % 64) (omega arith) (k % 64) differ in
-          rw (same, get_or-set_same, kept, ne_eqb k b (λ e. differ (ap (λ n. n % 64) e)), or_false, get_or_read words (b / 64) w within read 0)
+            let kept : bit_at (bit_or w (1 * 2 ^ (b % 64) % 18446744073709551616)) (k % 64) ≡ bit_at w (k % 64) = bit_at_set_other w64 w (b % 64) (omega arith) (k % 64) differ in
+            rw (same, get_or-set_same, kept, ne_eqb k b (λ e. differ (ap (λ n. n % 64) e)), or_false, get_or_read words (b / 64) w within read 0)
       ]
     ]
 
@@ -62,6 +62,7 @@ first_new x y (suc n) =
   where
     all_below : ((j : ℕ) → j < n → bit_at (bit_or x y) j ≡ bit_at x j) → bit_at (bit_or x y) n ≡ bit_at x n → (j : ℕ) → j < suc n → bit_at (bit_or x y) j ≡ bit_at x j
     all_below none here j h = below_more (λ j. bit_at (bit_or x y) j ≡ bit_at x j) n none here j (omega arith)
+
     at_n : (bit_at x n ≡ 0) ⊎ (bit_at x n ≡ 1) → (bit_at y n ≡ 0) ⊎ (bit_at y n ≡ 1) → ((j : ℕ) → j < n → bit_at (bit_or x y) j ≡ bit_at x j) → ((j : ℕ) × (j < suc n) × (bit_at y j ≡ 1) × (bit_at x j ≡ 0)) ⊎ ((j : ℕ) → j < suc n → bit_at (bit_or x y) j ≡ bit_at x j)
     at_n (inl zero_x) (inr one_y) none = inl (n, omega arith, one_y, zero_x)
     at_n (inr one_x) either none = inr (all_below none (bit_at_or x y n ∙ omega (arith, bit_at-lt y n)))
@@ -73,10 +74,10 @@ new_bit x y fits changes =
     elim (first_new x y 64) [
       | inl found ↦ found
       | inr none ↦ absurd (changes (same_from_bits (bit_or x y) x (λ i.
-        elim (cases_lt i 64) [
-          | inl low ↦ none i low
-          | inr high ↦ bit_at_or x y i ∙ omega (arith, bit_at_above y 64 i fits high)
-        ])))
+          elim (cases_lt i 64) [
+            | inl low ↦ none i low
+            | inr high ↦ bit_at_or x y i ∙ omega (arith, bit_at_above y 64 i fits high)
+          ])))
     ]
 
 -- the words of a row apart from those of another, or the same
@@ -101,8 +102,8 @@ module _ (old new : List ℕ) (from into count i : ℕ) (m : IsJoinedTo old new 
   join_more = record {
     long = length-set new (into + i) (bit_or x y) ∙ m.long;
     joined = below_more (λ k. get_or (set new (into + i) (bit_or x y)) (into + k) 0 ≡ bit_or (get_or old (into + k) 0) (get_or old (from + k) 0)) i
-      (λ k h. get_or-set_other new (into + i) (into + k) (bit_or x y) 0 (omega arith) ∙ m.joined k h)
-      (get_or-set_same new (into + i) (bit_or x y) 0 (omega (arith, m.long)) ∙ rw (← old_into, ← old_from) refl);
+        (λ k h. get_or-set_other new (into + i) (into + k) (bit_or x y) 0 (omega arith) ∙ m.joined k h)
+        (get_or-set_same new (into + i) (bit_or x y) 0 (omega (arith, m.long)) ∙ rw (← old_into, ← old_from) refl);
     below = λ k h. get_or-set_other new (into + i) k (bit_or x y) 0 (omega arith) ∙ m.below k h;
     above = λ k h. get_or-set_other new (into + i) k (bit_or x y) 0 (omega arith) ∙ m.above k (omega arith);
   }
@@ -112,8 +113,8 @@ module _ (old new : List ℕ) (from into count i : ℕ) (m : IsJoinedTo old new 
       elim (or_cases added _ h) [
         | inl earlier ↦ let found = before earlier in (found.0, omega (arith, found.1), found.2, found.3)
         | inr now ↦
-          let found = new_bit x y fits (eqb-false (bit_or x y) x (not-true _ now)) in
-          (64 * i + found.0, omega (arith, found.1), bit_in_at old from i found.0 found.1 ∙ rw (← old_from) (eq-eqb _ 1 found.2), bit_in_at old into i found.0 found.1 ∙ rw (← old_into) (ne_eqb _ 1 (λ e. omega (arith, found.3))))
+            let found = new_bit x y fits (eqb-false (bit_or x y) x (not-true _ now)) in
+            (64 * i + found.0, omega (arith, found.1), bit_in_at old from i found.0 found.1 ∙ rw (← old_from) (eq-eqb _ 1 found.2), bit_in_at old into i found.0 found.1 ∙ rw (← old_into) (ne_eqb _ 1 (λ e. omega (arith, found.3))))
       ]
 
   pub same_more : (added : Bool) → (added ≡ false → new ≡ old) → (added || not (eqb (bit_or x y) x)) ≡ false → set new (into + i) (bit_or x y) ≡ old
@@ -127,11 +128,11 @@ pub joined_all : (old new : List ℕ) (from into count : ℕ) → IsJoinedTo old
 joined_all old new from into count m = record {
   long = m.long;
   joined = λ k h.
-    let there : (64 * into + k) / 64 ≡ into + k / 64 = omega arith in
-    let here : (64 * from + k) / 64 ≡ from + k / 64 = omega arith in
-    let place : (64 * into + k) % 64 ≡ k % 64 = omega arith in
-    let place' : (64 * from + k) % 64 ≡ k % 64 = omega arith in
-    rw (there, here, place, place', m.joined (k / 64) (omega arith)) (bit_in-or _ _ (k % 64));
+      let there : (64 * into + k) / 64 ≡ into + k / 64 = omega arith in
+      let here : (64 * from + k) / 64 ≡ from + k / 64 = omega arith in
+      let place : (64 * into + k) % 64 ≡ k % 64 = omega arith in
+      let place' : (64 * from + k) % 64 ≡ k % 64 = omega arith in
+      rw (there, here, place, place', m.joined (k / 64) (omega arith)) (bit_in-or _ _ (k % 64));
   below = λ k h. ap (λ w. eqb (bit_at w (k % 64)) 1) (m.below (k / 64) (omega arith));
   above = λ k h. ap (λ w. eqb (bit_at w (k % 64)) 1) (m.above (k / 64) (omega arith));
 }
@@ -167,10 +168,10 @@ module _ (words : List ℕ) (from end at word : ℕ) (m : LooksAt words from end
       elim (cases_lt k (64 * at)) [
         | inl earlier ↦ m.none k behind earlier
         | inr here ↦
-          let place : k ≡ 64 * at + (k - 64 * at) = omega arith in
-          let low : k - 64 * at < 64 = omega (arith, near here) in
-          let same : bit_at word (k - 64 * at) ≡ bit_at (get_or words at 0) (k - 64 * at) = m.bits (k - 64 * at) low (omega arith) in
-          ap (bit_in words) place ∙ bit_in_word words at (k - 64 * at) low ∙ ne_eqb _ 1 (λ e. omega (arith, clear here, same))
+            let place : k ≡ 64 * at + (k - 64 * at) = omega arith in
+            let low : k - 64 * at < 64 = omega (arith, near here) in
+            let same : bit_at word (k - 64 * at) ≡ bit_at (get_or words at 0) (k - 64 * at) = m.bits (k - 64 * at) low (omega arith) in
+            ap (bit_in words) place ∙ bit_in_word words at (k - 64 * at) low ∙ ne_eqb _ 1 (λ e. omega (arith, clear here, same))
       ]
 
   -- no bit of the word is 1
@@ -194,7 +195,7 @@ module _ (words : List ℕ) (from end at word : ℕ) (m : LooksAt words from end
       let low : j < 64 = found.0 in
       let one : bit_at word j ≡ 1 = found.1 in
       let behind : from ≤ 64 * at + j =
-        elim (cases_lt (64 * at + j) from) [ inl before ↦ absurd (omega (arith, m.before j low before)) | inr after ↦ after ] in
+      elim (cases_lt (64 * at + j) from) [ inl before ↦ absurd (omega (arith, m.before j low before)) | inr after ↦ after ] in
       record {
         behind = behind;
         before = omega (arith, m.inside);

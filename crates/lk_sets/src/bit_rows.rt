@@ -1,6 +1,6 @@
 //! A relation among the numbers below a size, a bit for each pair.
 ghost use Rattle.std.specs.Prelude.{◌≡◌, ℕ, false, ◌<◌, ◌≤◌, ◌==◌, ◌&&◌, ◌||◌, ◌↔◌, not, IfOk, IsTrue, MatchOption};
-ghost use Rattle.lk_sets.specs.Rows.{has, row_of, IsSquare, AddsPair, HasNoneBetween, IsNextInRow};
+ghost use Rattle.lk_sets.specs.Rows.{Rows, has, row_of, IsSquare, AddsPair, HasNoneBetween, IsNextInRow};
 ghost use Rattle.lk_sets.specs.Words.{width_of, place_of};
 ghost use Rattle.lk_sets.specs.Closing.{Grows};
 
@@ -129,6 +129,11 @@ impl BitRows {
         }
     }
 }
+
+/// No two relations of one size have the same pairs, so what is said of the pairs says what the rows are.
+pub fn rows_are_their_pairs()
+    ensures { (r s : Rows) → IsSquare r → IsSquare s → r.size ≡ s.size → ((a b : ℕ) → has r a b ≡ has s a b) → r ≡ s }
+{}
 
 /// The numbers of a row that are left, in ascending order. A contract sees it as the list of them.
 #[derive(Debug, Drop)]

@@ -1,5 +1,5 @@
 //! A set of numbers.
-ghost use Rattle.std.specs.Prelude.{◌≡◌, ◌&&◌, ◌||◌, IfOk};
+ghost use Rattle.std.specs.Prelude.{◌≡◌, ◌&&◌, ◌||◌, ℕ, Bool, List, IfOk};
 ghost use Rattle.std.specs.List.Sorted.{IsStrictlyIncreasing};
 ghost use Rattle.lk_sets.specs.Ids.{has_id, IsSetOf};
 
@@ -101,3 +101,8 @@ impl IdSet {
         Ok(IdSet { ids })
     }
 }
+
+/// No two ascending lists have the same numbers, so what is said of a set's numbers says what its list is.
+pub fn a_set_has_one_list()
+    ensures { (member : ℕ → Bool) (ids others : List ℕ) → IsSetOf member ids → IsSetOf member others → ids ≡ others }
+{}

@@ -6,6 +6,9 @@ mod bits;
 mod id_set;
 mod spread;
 
-pub use bit_rows::{BitRows, Row};
-pub use id_set::IdSet;
+pub use bit_rows::{BitRows, Row, rows_are_their_pairs};
+pub use id_set::{IdSet, a_set_has_one_list};
 pub use spread::Arrow;
+
+#[cfg(test)]
+mod tests;

@@ -14,8 +14,8 @@ pub returns : goal.returns
 returns c = record {
   sorted = invariant_of-result c;
   members = λ x.
-    ap (λ ids. has_id ids x) (dedup_is eqb _ _ c.dedup.ensures.filtered)
-    ∙ has_id-dedup _ x
-    ∙ sym (list_any-IsPermutation (λ y. eqb y x) _ _ c.sort_unstable.ensures.permutation)
-    ∙ ap (λ ids. has_id ids x) c.in_ok-ids.ensures.items;
+      ap (λ ids. has_id ids x) (dedup_is eqb _ _ c.dedup.ensures.filtered)
+      ∙ has_id-dedup _ x
+      ∙ sym (list_any-IsPermutation (λ y. eqb y x) _ _ c.sort_unstable.ensures.permutation)
+      ∙ ap (λ ids. has_id ids x) c.in_ok-ids.ensures.items;
 }

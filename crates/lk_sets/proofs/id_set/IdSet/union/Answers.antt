@@ -26,7 +26,7 @@ loop-x-preserved c =
 merged : (c : In_ok-extend_from_slice-2) → IsSetOf (λ x. has_id c.args.self.now x || has_id c.args.other.now x) c.extend_from_slice-2.new.self.items
 merged c =
     let ended : (length c.loop-x.left.now ≡ 0) ⊎ (length c.loop-x.right.now ≡ 0) =
-      elim c.match-split_first.branch [ in_default w ↦ inr w.in_default.ensures'.cases | in_default-2 w ↦ inl w.in_default.ensures.cases ] in
+    elim c.match-split_first.branch [ in_default w ↦ inr w.in_default.ensures'.cases | in_default-2 w ↦ inl w.in_default.ensures.cases ] in
     rw (c.in_ok-extend_from_slice-2.ensures.items, c.in_ok-extend_from_slice.ensures.items) (merge_end _ _ _ _ _ c.loop-x.invariant ended)
 
 pub invariant_of-result : goal.invariant_of-result
