@@ -119,7 +119,8 @@ impl BitRows {
     /// The numbers that stand with `a`, in ascending order.
     pub fn row(&self, a: u32) -> Row<'_>
         requires { a < self.now.size }
-        ensures { result ≡ row_of self.now a }
+        ensures row { result ≡ row_of self.now a }
+        ensures square { IsSquare self.now }
     {
         prove!(a < self.size);
         Row {
