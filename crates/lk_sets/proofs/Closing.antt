@@ -1,15 +1,16 @@
 -- What loops share that close a relation: the measure falls with each new pair, and one step goes behind another.
-use Rattle.std.proofs.Common.{ℕ, ◌+◌, ◌<◌, ◌≤◌, ◌≡◌, ◌||◌, ◌&&◌, Bool, true, false, not, cond, eqb, List, [], ◌∷◌, length, refl, sym, ap, ◌∙◌, subst, inl, inr, arith, sum_by, below_more, All, take, get_or}
+use Rattle.std.proofs.Common.{ℕ, ◌+◌, ◌<◌, ◌≤◌, ◌≡◌, ◌||◌, ◌&&◌, Bool, true, false, not, cond, eqb, List, [], ◌∷◌, length, refl, sym, ap, ◌∙◌, subst, ◌⊎◌, inl, inr, arith, sum_by, below_more, All, take, get_or}
 use Rattle.std.specs.Prelude.{count_by}
 use Rattle.std.specs.List.{range_with_len}
-use Rattle.std.proofs.lemmas.Bool.{both_ways, cases_Bool, eqb-true, or_cases, or_parts, not_from_true, lt-ltb, not-true, or_left, or_right, and_from, eq-eqb}
+use Rattle.std.proofs.lemmas.Bool.{both_ways, cases_lt, eqb-true, or_cases, or_parts, lt-ltb, not-true, or_left, or_right, and_from, eq-eqb}
 use Rattle.std.proofs.lemmas.List.{take_all}
-use Rattle.std.proofs.lemmas.List.Elements.{All-more, All-nil}
+use Rattle.std.proofs.lemmas.List.Elements.{All-more}
 use Rattle.std.proofs.lemmas.List.Sums.{sum_by-cons, sum_by-le-sum_by}
 use Rattle.lk_sets.specs.Ids.{has_id}
 use Rattle.lk_sets.specs.Rows.{Rows, has, AddsPair}
 use Rattle.lk_sets.specs.Closing.{absent, Grows, Going}
 use Rattle.lk_sets.proofs.Members.{has_id-range}
+use Rattle.lk_sets.proofs.Reading.{read_cases}
 
 -- a sum with a smaller term is smaller
 sum_by-lt : (f g : ℕ → ℕ) (ks : List ℕ) (x : ℕ) → ((y : ℕ) → f y ≤ g y) → has_id ks x ≡ true → f x < g x → sum_by f ks < sum_by g ks
@@ -113,9 +114,21 @@ going_more {Sound} {Done} {Step} {More} {first} {mid} {now} {b} {c} joins g h = 
       joins now (subst Done (sym (h.grows.same parts.1)) (g.done parts.0)) (h.done parts.1);
 }
 
--- a loop over numbers: each below i is done, and the step does i
-pub going_below : {Sound : Rows → Type 0} (Step : ℕ → Rows → Type 0) (i : ℕ) {first mid now : Rows} {b c : Bool} → Going Sound (λ r. (k : ℕ) → k < i → Step k r) first mid b → Going Sound (Step i) mid now c → Going Sound (λ r. (k : ℕ) → k < i + 1 → Step k r) first now (b || c)
-going_below Step i g h = going_more (λ r done here. below_more (λ k. Step k r) i done here) g h
+-- what is done says more than is asked
+pub going_weaker : {Sound Done Less : Rows → Type 0} {first now : Rows} {b : Bool} → ((r : Rows) → Done r → Less r) → Going Sound Done first now b → Going Sound Less first now b
+going_weaker {Sound} {Done} {Less} {first} {now} {b} says g = record { grows = g.grows; sound = g.sound; done = λ none. says now (g.done none) }
+
+-- a loop up over numbers: each below i is done, and the step does i
+pub going_up : {Sound : Rows → Type 0} (Step : Rows → ℕ → Type 0) (i : ℕ) {first mid now : Rows} {b c : Bool} → Going Sound (λ r. (k : ℕ) → k < i → Step r k) first mid b → Going Sound (λ r. Step r i) mid now c → Going Sound (λ r. (k : ℕ) → k < i + 1 → Step r k) first now (b || c)
+going_up Step i g h = going_more (λ r done here. below_more (Step r) i done here) g h
+
+-- a loop down over numbers below n: each from i + 1 on is done, and the step does i
+pub going_down : {Sound : Rows → Type 0} (Step : Rows → ℕ → Type 0) (n i : ℕ) {first mid now : Rows} {b c : Bool} → Going Sound (λ r. (k : ℕ) → i + 1 ≤ k → k < n → Step r k) first mid b → Going Sound (λ r. Step r i) mid now c → Going Sound (λ r. (k : ℕ) → i ≤ k → k < n → Step r k) first now (b || c)
+going_down Step n i g h =
+    going_more (λ r done here k above below. elim (cases_lt i k) [
+      | inl higher ↦ done k (omega arith) below
+      | inr same ↦ subst (Step r) (omega arith) here
+    ]) g h
 
 -- a loop over a list: each of the first i elements is done, and the step does the next
 pub going_each : {Sound : Rows → Type 0} {X : Type 0} (Step : Rows → X → Type 0) (xs : List X) (i : ℕ) (d : X) {first mid now : Rows} {b c : Bool} → i < length xs → Going Sound (λ r. All (Step r) (take i xs)) first mid b → Going Sound (λ r. Step r (get_or xs i d)) mid now c → Going Sound (λ r. All (Step r) (take (i + 1) xs)) first now (b || c)
@@ -123,7 +136,31 @@ going_each Step xs i d within g h = going_more (λ r done here. All-more (Step r
 
 -- the end of such a loop
 pub going_all : {Sound : Rows → Type 0} {X : Type 0} (Step : Rows → X → Type 0) (xs : List X) (i : ℕ) {first now : Rows} {b : Bool} → length xs ≤ i → Going Sound (λ r. All (Step r) (take i xs)) first now b → Going Sound (λ r. All (Step r) xs) first now b
-going_all {Sound} Step xs i {first} {now} {b} past g = subst (λ ys. Going Sound (λ r. All (Step r) ys) first now b) (take_all i xs past) g
+going_all Step xs i past g = going_weaker (λ r done. subst (All (Step r)) (take_all i xs past) done) g
+
+-- a loop over a row: each number of the row is still left, or its step is done
+abbrev pub DoneBut : (Rows → ℕ → Type 0) → List ℕ → List ℕ → Rows → Type 0
+DoneBut Step row left r = (y : ℕ) → has_id row y ≡ true → (has_id left y ≡ true) ⊎ Step r y
+
+-- its start
+pub going_row_none : (Sound : Rows → Type 0) (Step : Rows → ℕ → Type 0) (row left : List ℕ) (r : Rows) → left ≡ row → Going Sound (DoneBut Step row left) r r false
+going_row_none Sound Step row left r e = going_none Sound _ r (λ y h. inl (ap (λ ids. has_id ids y) e ∙ h))
+
+-- c was left, and the step does it
+pub going_row : {Sound : Rows → Type 0} (Step : Rows → ℕ → Type 0) (row : List ℕ) {left rest : List ℕ} {k : ℕ} {first mid now : Rows} {b c : Bool} → left ≡ k ∷ rest → Going Sound (DoneBut Step row left) first mid b → Going Sound (λ r. Step r k) mid now c → Going Sound (DoneBut Step row rest) first now (b || c)
+going_row {Sound} Step row {left} {rest} {k} e g h =
+    going_more (λ r done here y there. elim (done y there) [
+      | inr before ↦ inr before
+      | inl was_left ↦ elim (read_cases e y was_left) [ inl same ↦ inr (subst (Step r) same here) | inr later ↦ inl later ]
+    ]) g h
+
+-- its end
+pub going_row_all : {Sound : Rows → Type 0} (Step : Rows → ℕ → Type 0) (row left : List ℕ) {first now : Rows} {b : Bool} → left ≡ [] → Going Sound (DoneBut Step row left) first now b → Going Sound (λ r. (y : ℕ) → has_id row y ≡ true → Step r y) first now b
+going_row_all Step row left e g =
+    going_weaker (λ r done y there. elim (done y there) [
+      | inl was_left ↦ absurd (both_ways false refl (sym (ap (λ ids. has_id ids y) e) ∙ was_left))
+      | inr step ↦ step
+    ]) g
 
 -- Where a loop stands between two rounds: no pair is lost, and what was sound is.
 pub record Grown (Sound : Rows → Type 0) (first now : Rows) : Type 0 where

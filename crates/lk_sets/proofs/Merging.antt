@@ -1,13 +1,9 @@
 -- One merge of two ascending lists. `keeps` says whether a number stays, by whether it is in the one list and in the other.
-use Rattle.std.proofs.Common.{ℕ, zero, suc, ◌+◌, ◌<◌, ◌≤◌, ◌≡◌, ◌||◌, ◌&&◌, Bool, true, false, cond, eqb, ltb, List, [], ◌∷◌, ◌++◌, length, get_or, refl, sym, ap, ◌∙◌, subst, ◌⊎◌, inl, inr, arith, rules}
+use Rattle.std.proofs.Common.{ℕ, ◌<◌, ◌≤◌, ◌≡◌, ◌||◌, ◌&&◌, Bool, true, false, cond, eqb, ltb, List, [], ◌∷◌, ◌++◌, length, refl, sym, ap, ◌∙◌, subst, ◌⊎◌, inl, inr, arith, rules}
 use Rattle.std.specs.List.{IsFirstAndRest}
 use Rattle.std.specs.List.Sorted.{IsStrictlyIncreasing}
-use Rattle.std.proofs.lemmas.Bool.{cases_order, cases_eq, false≢true, false_from_ne_true, eqb-true, eq-eqb, ne_eqb, lt-ltb, le-ltb, ltb-true, or_cases, or_left, or_right, and_parts}
-use Rattle.std.proofs.lemmas.Bool.Decides.{nat_tests}
+use Rattle.std.proofs.lemmas.Bool.{cases_order, false≢true, false_from_ne_true, eqb-true, eq-eqb, ne_eqb, lt-ltb, le-ltb, ltb-true, or_cases, or_left, or_right, and_parts}
 use Rattle.std.proofs.lemmas.List.{append-nil, nil_from_length}
-use Rattle.std.proofs.lemmas.List.Elements.{Contains-get_or}
-use Rattle.std.proofs.lemmas.List.Folds.{list_any-append}
-use Rattle.std.proofs.lemmas.List.Kept.{AllPairs-from_increasing}
 use Rattle.lk_sets.specs.Ids.{has_id, IsSetOf}
 use Rattle.lk_sets.proofs.Members.{same_answers}
 use Rattle.lk_sets.proofs.Rising.{tail_rises, tail_above, head_least, has_id-append, append_rises}

@@ -1,6 +1,6 @@
 -- Arrows that pass rows on: one arrow, and what is there once all have.
 use Rattle.std.proofs.Common.{ℕ, ◌≡◌, ◌||◌, ◌&&◌, Bool, true, eqb, List, All, Contains, refl, sym, ◌∙◌, subst, inl, inr}
-use Rattle.std.proofs.lemmas.Bool.{and_from, and_parts, eqb-true, eq-eqb, or_cases, or_left, or_right}
+use Rattle.std.proofs.lemmas.Bool.{and_from, and_parts, eqb-true, eq-eqb, or_cases, or_right}
 use Rattle.std.proofs.lemmas.List.Elements.{All-contains}
 use Rattle.lk_sets.specs.declared.spread.Arrow.{Arrow}
 use Rattle.lk_sets.specs.Rows.{Rows, has}

@@ -1,5 +1,5 @@
 -- Bits of words: one set, many joined, the first.
-use Rattle.std.proofs.Common.{below_more, max, not, ℕ, zero, suc, ◌+◌, ◌-◌, ◌*◌, ◌/◌, ◌%◌, ◌^◌, ◌<◌, ◌≤◌, ◌≡◌, ◌||◌, ◌⊎◌, Bool, true, false, eqb, List, length, get_or, bit_and, bit_or, refl, sym, ap, ◌∙◌, subst, inl, inr, arith, rules}
+use Rattle.std.proofs.Common.{below_more, max, not, ℕ, zero, suc, ◌+◌, ◌-◌, ◌*◌, ◌/◌, ◌%◌, ◌^◌, ◌<◌, ◌≤◌, ◌≡◌, ◌||◌, ◌⊎◌, Bool, true, false, eqb, List, length, get_or, bit_and, bit_or, refl, sym, ap, ◌∙◌, inl, inr, arith}
 use Rattle.std.specs.Prelude.{slice_set as set}
 use Rattle.std.specs.Int.{bit_at, trailing_zeros, w64}
 use Rattle.std.proofs.lemmas.Bool.Decides.{nat_tests}

@@ -1,8 +1,7 @@
 use Rattle.std.proofs.Common.{◌≡◌, ◌∙◌, ap, sym, arith}
 use Rattle.lk_sets.specs.Rows.{has}
 use Rattle.lk_sets.specs.Words.{bit_in, place_of}
-use Rattle.lk_sets.proofs.Square.{has-seen, has_past, square-seen}
-use Rattle.lk_sets.proofs.Closing.{absent_falls}
+use Rattle.lk_sets.proofs.Square.{has-seen}
 use Rattle.lk_sets.proofs.bit_rows.BitRows.has.Goals as goal
 
 pub returns : goal.returns

@@ -1,4 +1,3 @@
-use Rattle.std.proofs.Common.{◌≡◌, ◌∙◌, ap, sym, arith}
 use Rattle.lk_sets.proofs.Square.{Puts, puts}
 use Rattle.lk_sets.proofs.bit_rows.BitRows.put.Goals as goal
 use Rattle.lk_sets.proofs.bit_rows.BitRows.put.Goals.{After-put_bit}

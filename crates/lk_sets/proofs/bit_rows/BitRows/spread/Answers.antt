@@ -1,4 +1,3 @@
-use Rattle.lk_sets.specs.Spread.{IsSound}
 use Rattle.lk_sets.specs.Spread.Spread.{stands}
 use Rattle.lk_sets.proofs.Closing.{grown_none, grown_more}
 use Rattle.lk_sets.proofs.Reaching.{spread_there}

@@ -1,7 +1,7 @@
-use Rattle.std.proofs.Common.{◌&&◌, refl, arith, subst, ◌<◌, ◌≡◌}
+use Rattle.std.proofs.Common.{◌&&◌, refl, arith, ◌<◌, ◌≡◌}
 use Rattle.std.proofs.lemmas.Bool.Decides.{nat_tests}
 use Rattle.std.proofs.lemmas.List.{append-nil}
-use Rattle.lk_sets.proofs.Merging.{Merges, merge_left, merge_right, merge_both}
+use Rattle.lk_sets.proofs.Merging.{merge_left, merge_right, merge_both}
 use Rattle.lk_sets.proofs.id_set.IdSet.meet.Goals as goal
 
 pub loop-x-preserved-in-Less : goal.loop-x-preserved-in-Less

@@ -1,7 +1,7 @@
 use Rattle.std.proofs.Common.{◌||◌, refl, arith, ◌<◌, ◌≡◌, ◌⊎◌, inl, inr, length}
 use Rattle.std.proofs.lemmas.Bool.Decides.{nat_tests}
 use Rattle.lk_sets.specs.Ids.{has_id, IsSetOf}
-use Rattle.lk_sets.proofs.Merging.{Merges, merge_left, merge_right, merge_both, merge_end}
+use Rattle.lk_sets.proofs.Merging.{merge_left, merge_right, merge_both, merge_end}
 use Rattle.lk_sets.proofs.id_set.IdSet.union.Goals as goal
 use Rattle.lk_sets.proofs.id_set.IdSet.union.Goals.{In_ok-extend_from_slice-2, in_default, in_default-2}
 
