@@ -1,5 +1,5 @@
 -- What loops share that close a relation: the measure falls with each new pair, and one step goes behind another.
-use Rattle.std.proofs.Common.{ℕ, ◌+◌, ◌<◌, ◌≤◌, ◌≡◌, ◌||◌, ◌&&◌, Bool, true, false, not, cond, eqb, List, [], ◌∷◌, length, refl, sym, ap, ◌∙◌, subst, ◌⊎◌, inl, inr, arith, sum_by, below_more, All, take, get_or}
+use Rattle.std.proofs.Common.{ℕ, ◌+◌, ◌-◌, ◌<◌, ◌≤◌, ◌≡◌, ◌||◌, ◌&&◌, Bool, true, false, not, cond, eqb, List, [], ◌∷◌, length, refl, sym, ap, ◌∙◌, subst, ◌⊎◌, inl, inr, arith, sum_by, below_more, All, take, get_or}
 use Rattle.std.specs.Prelude.{count_by}
 use Rattle.std.specs.List.{range_with_len}
 use Rattle.std.proofs.lemmas.Bool.{both_ways, cases_lt, eqb-true, or_cases, or_parts, lt-ltb, not-true, or_left, or_right, and_from, eq-eqb}
@@ -122,13 +122,16 @@ going_weaker {Sound} {Done} {Less} {first} {now} {b} says g = record { grows = g
 pub going_up : {Sound : Rows → Type 0} (Step : Rows → ℕ → Type 0) (i : ℕ) {first mid now : Rows} {b c : Bool} → Going Sound (λ r. (k : ℕ) → k < i → Step r k) first mid b → Going Sound (λ r. Step r i) mid now c → Going Sound (λ r. (k : ℕ) → k < i + 1 → Step r k) first now (b || c)
 going_up Step i g h = going_more (λ r done here. below_more (Step r) i done here) g h
 
--- a loop down over numbers below n: each from i + 1 on is done, and the step does i
-pub going_down : {Sound : Rows → Type 0} (Step : Rows → ℕ → Type 0) (n i : ℕ) {first mid now : Rows} {b c : Bool} → Going Sound (λ r. (k : ℕ) → i + 1 ≤ k → k < n → Step r k) first mid b → Going Sound (λ r. Step r i) mid now c → Going Sound (λ r. (k : ℕ) → i ≤ k → k < n → Step r k) first now (b || c)
-going_down Step n i g h =
-    going_more (λ r done here k above below. elim (cases_lt i k) [
-      | inl higher ↦ done k (omega arith) below
-      | inr same ↦ subst (Step r) (omega arith) here
-    ]) g h
+one_down : (P : ℕ → Type 0) (n i : ℕ) → 0 < i → ((k : ℕ) → i ≤ k → k < n → P k) → P (i - 1) → (k : ℕ) → i - 1 ≤ k → k < n → P k
+one_down P n i some done here k above below =
+    elim (cases_lt k i) [
+      | inr higher ↦ done k higher below
+      | inl lower ↦ let same : i - 1 ≡ k = omega arith in subst P same here
+    ]
+
+-- a loop down over numbers below n, by `.rev()`: each from i on is done, and the step does i - 1
+pub going_down : {Sound : Rows → Type 0} (Step : Rows → ℕ → Type 0) (n i : ℕ) {first mid now : Rows} {b c : Bool} → 0 < i → Going Sound (λ r. (k : ℕ) → i ≤ k → k < n → Step r k) first mid b → Going Sound (λ r. Step r (i - 1)) mid now c → Going Sound (λ r. (k : ℕ) → i - 1 ≤ k → k < n → Step r k) first now (b || c)
+going_down Step n i some g h = going_more (λ r done here. one_down (Step r) n i some done here) g h
 
 -- a loop over a list: each of the first i elements is done, and the step does the next
 pub going_each : {Sound : Rows → Type 0} {X : Type 0} (Step : Rows → X → Type 0) (xs : List X) (i : ℕ) (d : X) {first mid now : Rows} {b c : Bool} → i < length xs → Going Sound (λ r. All (Step r) (take i xs)) first mid b → Going Sound (λ r. Step r (get_or xs i d)) mid now c → Going Sound (λ r. All (Step r) (take (i + 1) xs)) first now (b || c)
