@@ -2,6 +2,7 @@
 use Rattle.std.proofs.Common.{ℕ, ◌<◌, ◌≤◌, ◌≡◌, ◌||◌, ◌&&◌, Bool, true, false, cond, eqb, ltb, List, [], ◌∷◌, ◌++◌, length, refl, sym, ap, ◌∙◌, subst, ◌⊎◌, inl, inr, arith, rules}
 use Rattle.std.specs.List.{IsFirstAndRest}
 use Rattle.std.specs.List.Sorted.{IsStrictlyIncreasing}
+use Rattle.std.proofs.Math.Bool.{or-false, and-true, and-false}
 use Rattle.std.proofs.lemmas.Bool.{cases_order, false≢true, false_from_ne_true, eqb-true, eq-eqb, ne_eqb, lt-ltb, le-ltb, ltb-true, or_cases, or_left, or_right, and_parts}
 use Rattle.std.proofs.lemmas.List.{append-nil, nil_from_length}
 use Rattle.lk_sets.specs.Ids.{has_id, IsSetOf}
@@ -56,24 +57,12 @@ merge_none keeps all others up ups = record {
   members = λ x. refl;
 }
 
-or_false : (b : Bool) → (b || false) ≡ b
-or_false true = refl
-or_false false = refl
-
-and_true : (b : Bool) → (b && true) ≡ b
-and_true true = refl
-and_true false = refl
-
-and_false : (b : Bool) → (b && false) ≡ false
-and_false true = refl
-and_false false = refl
-
 -- one number, or none
 abbrev one_if : Bool → ℕ → List ℕ
 one_if b v = cond b (v ∷ []) []
 
 has_id-one_if : (b : Bool) (v x : ℕ) → has_id (one_if b v) x ≡ (b && eqb v x)
-has_id-one_if true v x = or_false (eqb v x)
+has_id-one_if true v x = or-false (eqb v x)
 has_id-one_if false v x = refl
 
 one_if_rises : (b : Bool) (v : ℕ) → IsStrictlyIncreasing (one_if b v)
@@ -101,13 +90,13 @@ module _ (keeps : Bool → Bool → Bool) (none : keeps false false ≡ false) (
   members_at : (x : ℕ) → ((has_id done x || (stays && eqb v x)) || keeps (has_id left x && ltb v x) (has_id right x && ltb v x)) ≡ (has_id done x || keeps (has_id left x) (has_id right x))
   members_at x =
       elim (cases_order v x) [
-        | inl same ↦ rw (← same, eq-eqb v v refl, le-ltb v v (omega arith), and_true stays, and_false (has_id left v), and_false (has_id right v), none, or_false)
+        | inl same ↦ rw (← same, eq-eqb v v refl, le-ltb v v (omega arith), and-true stays, and-false (has_id left v), and-false (has_id right v), none, or-false)
         | inr (inl more) ↦
-            rw (ne_eqb v x (λ e. omega arith), lt-ltb v x more, and_false stays, or_false, and_true (has_id left x), and_true (has_id right x))
+            rw (ne_eqb v x (λ e. omega arith), lt-ltb v x more, and-false stays, or-false, and-true (has_id left x), and-true (has_id right x))
         | inr (inr less) ↦
             let no_left : has_id left x ≡ false = false_from_ne_true _ (λ h. omega (arith, past.from x h)) in
             let no_right : has_id right x ≡ false = false_from_ne_true _ (λ h. omega (arith, past'.from x h)) in
-            rw (ne_eqb v x (λ e. omega arith), no_left, no_right, and_false stays, or_false)
+            rw (ne_eqb v x (λ e. omega arith), no_left, no_right, and-false stays, or-false)
       ]
 
   -- one step: the least number of what is left is v
@@ -183,5 +172,5 @@ merge_end all others done left right m (inl none) =
     rw (e, append-nil) (appended all others done right m.rises m.right_rises (λ x y h k. m.above x y h (or_right _ _ k)) members)
 merge_end all others done left right m (inr none) =
     let e = nil_from_length right none in
-    let members : (x : ℕ) → (has_id done x || has_id left x) ≡ (has_id all x || has_id others x) = λ x. let h = m.members x in rw (e, or_false (has_id left x)) at h in
+    let members : (x : ℕ) → (has_id done x || has_id left x) ≡ (has_id all x || has_id others x) = λ x. let h = m.members x in rw (e, or-false (has_id left x)) at h in
     rw (e, append-nil) (appended all others done left m.rises m.left_rises (λ x y h k. m.above x y h (or_left _ _ k)) members)

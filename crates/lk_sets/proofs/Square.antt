@@ -3,6 +3,7 @@ use Rattle.std.proofs.Common.{ℕ, ◌+◌, ◌-◌, ◌*◌, ◌/◌, ◌%◌, 
 use Rattle.std.specs.Int.{bit_at}
 use Rattle.std.specs.List.{range_with_len}
 use Rattle.std.specs.List.Sorted.{IsStrictlyIncreasing}
+use Rattle.std.proofs.Math.Bool.{or-false, and-true, and-false}
 use Rattle.std.proofs.lemmas.Bool.{cases_order, or_right, true_from_ne_false, and_from, and_parts, eqb-true, cases_lt, eq-eqb, ne_eqb, lt-ltb, le-ltb, both_ways}
 use Rattle.std.proofs.lemmas.List.{same_lists, get_or_default, get_or_past, get_or-replicate, length-replicate}
 use Rattle.std.proofs.lemmas.Nat.Bits.{bit_at-zero}
@@ -30,18 +31,6 @@ row_past : (n : ℕ) (words : List ℕ) (a : ℕ) → n ≤ a → row_of (seen n
 unfolding rows_in
 row_past n words a past = get_or_past (rows_in n words) a [] (omega (arith, length-map-range_with_len (row_in n words) 0 n))
 
-and_true : (b : Bool) → (b && true) ≡ b
-and_true true = refl
-and_true false = refl
-
-or_false : (b : Bool) → (b || false) ≡ b
-or_false true = refl
-or_false false = refl
-
-and_false : (b : Bool) → (b && false) ≡ false
-and_false true = refl
-and_false false = refl
-
 has_in_row : (n : ℕ) (words : List ℕ) (a b : ℕ) → a < n → has (seen n words) a b ≡ (bit_in words (place_of n a b) && ltb b n)
 unfolding has
 has_in_row n words a b within =
@@ -50,7 +39,7 @@ has_in_row n words a b within =
     ∙ ap (λ t. bit_in words (place_of n a b) && t) (has_id-range n b)
 
 pub has-seen : (n : ℕ) (words : List ℕ) (a b : ℕ) → a < n → b < n → has (seen n words) a b ≡ bit_in words (place_of n a b)
-has-seen n words a b within below = has_in_row n words a b within ∙ rw (lt-ltb b n below) (and_true (bit_in words (place_of n a b)))
+has-seen n words a b within below = has_in_row n words a b within ∙ rw (lt-ltb b n below) (and-true (bit_in words (place_of n a b)))
 
 past_row : (n : ℕ) (words : List ℕ) (a b : ℕ) → n ≤ a → has (seen n words) a b ≡ false
 unfolding has
@@ -60,7 +49,7 @@ pub has_past : (n : ℕ) (words : List ℕ) (a b : ℕ) → (n ≤ a) ⊎ (n ≤
 has_past n words a b (inl past) = past_row n words a b past
 has_past n words a b (inr past) =
     elim (cases_lt a n) [
-      | inl within ↦ has_in_row n words a b within ∙ rw (le-ltb b n past) (and_false (bit_in words (place_of n a b)))
+      | inl within ↦ has_in_row n words a b within ∙ rw (le-ltb b n past) (and-false (bit_in words (place_of n a b)))
       | inr beyond ↦ past_row n words a b beyond
     ]
 
@@ -144,7 +133,7 @@ module _ (n : ℕ) (old new : List ℕ) (inside : IsRows n old) (long : length n
     long = long ∙ inside.long;
     clear = λ x y within past before.
         bits (place_of n x y)
-        ∙ rw (inside.clear x y within past before, same_place n x y a b before (omega (arith, wide_enough n)), ne_eqb y b (λ e. omega arith)) (and_false (eqb x a));
+        ∙ rw (inside.clear x y within past before, same_place n x y a b before (omega (arith, wide_enough n)), ne_eqb y b (λ e. omega arith)) (and-false (eqb x a));
   }
 
   put_pairs : (x y : ℕ) → has (seen n new) x y ≡ (has (seen n old) x y || (eqb x a && eqb y b))
@@ -152,7 +141,7 @@ module _ (n : ℕ) (old new : List ℕ) (inside : IsRows n old) (long : length n
       elim (cases_lt x n) [
         | inr past ↦ rw (has_past n new x y (inl past), has_past n old x y (inl past), ne_eqb x a (λ e. omega arith)) refl
         | inl within ↦ elim (cases_lt y n) [
-          | inr past ↦ rw (has_past n new x y (inr past), has_past n old x y (inr past), ne_eqb y b (λ e. omega arith)) (sym (and_false (eqb x a)))
+          | inr past ↦ rw (has_past n new x y (inr past), has_past n old x y (inr past), ne_eqb y b (λ e. omega arith)) (sym (and-false (eqb x a)))
           | inl below ↦
               has-seen n new x y within below
               ∙ bits (place_of n x y)
@@ -201,8 +190,8 @@ module _ (n : ℕ) (old new : List ℕ) (inside : IsRows n old) (from into : ℕ
             ap (bit_in new) into_row
             ∙ m.joined y short
             ∙ rw (eq-eqb x into same, into_row) refl
-        | inr (inl before) ↦ m.below (place_of n x y) (omega (arith, mul-le (x + 1) (width_of n) into (width_of n) (omega arith) (omega arith))) ∙ rw (ne_eqb x into (λ e. omega arith), or_false (bit_in old (place_of n x y))) refl
-        | inr (inr behind) ↦ m.above (place_of n x y) (omega (arith, mul-le (into + 1) (width_of n) x (width_of n) (omega arith) (omega arith))) ∙ rw (ne_eqb x into (λ e. omega arith), or_false (bit_in old (place_of n x y))) refl
+        | inr (inl before) ↦ m.below (place_of n x y) (omega (arith, mul-le (x + 1) (width_of n) into (width_of n) (omega arith) (omega arith))) ∙ rw (ne_eqb x into (λ e. omega arith), or-false (bit_in old (place_of n x y))) refl
+        | inr (inr behind) ↦ m.above (place_of n x y) (omega (arith, mul-le (into + 1) (width_of n) x (width_of n) (omega arith) (omega arith))) ∙ rw (ne_eqb x into (λ e. omega arith), or-false (bit_in old (place_of n x y))) refl
       ]
 
   join_rows : IsRows n new
@@ -210,7 +199,7 @@ module _ (n : ℕ) (old new : List ℕ) (inside : IsRows n old) (from into : ℕ
     small = inside.small;
     long = m.long ∙ inside.long;
     clear = λ x y within past before.
-        joined_bit x y before ∙ rw (inside.clear x y within past before, inside.clear from y from_in past before) (and_false (eqb x into));
+        joined_bit x y before ∙ rw (inside.clear x y within past before, inside.clear from y from_in past before) (and-false (eqb x into));
   }
 
   join_pairs : (x y : ℕ) → has (seen n new) x y ≡ (has (seen n old) x y || (eqb x into && has (seen n old) from y))
@@ -218,7 +207,7 @@ module _ (n : ℕ) (old new : List ℕ) (inside : IsRows n old) (from into : ℕ
       elim (cases_lt x n) [
         | inr past ↦ rw (has_past n new x y (inl past), has_past n old x y (inl past), ne_eqb x into (λ e. omega arith)) refl
         | inl within ↦ elim (cases_lt y n) [
-          | inr past ↦ rw (has_past n new x y (inr past), has_past n old x y (inr past), has_past n old from y (inr past)) (sym (and_false (eqb x into)))
+          | inr past ↦ rw (has_past n new x y (inr past), has_past n old x y (inr past), has_past n old from y (inr past)) (sym (and-false (eqb x into)))
           | inl below ↦
               has-seen n new x y within below
               ∙ joined_bit x y (omega (arith, wide_enough n))

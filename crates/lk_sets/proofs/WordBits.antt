@@ -3,6 +3,7 @@ use Rattle.std.proofs.Common.{below_more, max, not, ℕ, zero, suc, ◌+◌, ◌
 use Rattle.std.specs.Prelude.{slice_set as set}
 use Rattle.std.specs.Int.{bit_at, trailing_zeros, w64}
 use Rattle.std.proofs.lemmas.Bool.Decides.{nat_tests}
+use Rattle.std.proofs.Math.Bool.{or-false}
 use Rattle.std.proofs.lemmas.Bool.{cases_eq, cases_lt, eq-eqb, eqb-true, eqb-false, ne_eqb, not-true, not-false, or_right, or_cases, or_parts}
 use Rattle.std.proofs.lemmas.List.{get_or-set_same, get_or-set_other, get_or_read, length-set, set-get_or}
 use Rattle.std.proofs.lemmas.Nat.Bits.{bit_at_and, bit_at-trailing_zeros, bit_at_mask_inside, bit_at_mask_below, ones_shl, bit_at-zero, bit_at_or, bit_at_above, bit_at-lt, same_from_bits, bit_at_set_same, bit_at_set_other}
@@ -15,10 +16,6 @@ pub record IsJoinedTo (old new : List ℕ) (from into i : ℕ) : Type 0 where
   pub below : (k : ℕ) → k < into → get_or new k 0 ≡ get_or old k 0
   pub above : (k : ℕ) → into + i ≤ k → get_or new k 0 ≡ get_or old k 0
 
-or_false : (b : Bool) → (b || false) ≡ b
-or_false true = refl
-or_false false = refl
-
 bit_cases : (n i : ℕ) → (bit_at n i ≡ 0) ⊎ (bit_at n i ≡ 1)
 bit_cases n i = elim (cases_lt (bit_at n i) 1) [ inl low ↦ inl (omega arith) | inr high ↦ inr (omega (arith, bit_at-lt n i)) ]
 
@@ -26,14 +23,14 @@ bit_cases n i = elim (cases_lt (bit_at n i) 1) [ inl low ↦ inl (omega arith) |
 pub bit_in-set_bit : (words : List ℕ) (b k w : ℕ) → b / 64 < length words → w ≡ get_or words (b / 64) w → bit_in (set words (b / 64) (bit_or w (1 * 2 ^ (b % 64) % 18446744073709551616))) k ≡ (bit_in words k || eqb k b)
 bit_in-set_bit words b k w within read =
     elim (cases_eq (k / 64) (b / 64)) [
-      | inr apart ↦ rw (get_or-set_other, ne_eqb k b (λ e. apart (ap (λ n. n / 64) e)), or_false (bit_in words k))
+      | inr apart ↦ rw (get_or-set_other, ne_eqb k b (λ e. apart (ap (λ n. n / 64) e)), or-false (bit_in words k))
       | inl same ↦ elim (cases_eq (k % 64) (b % 64)) [
         | inl alike ↦
             let one : bit_at (bit_or w (1 * 2 ^ (b % 64) % 18446744073709551616)) (b % 64) ≡ 1 = bit_at_set_same w64 w (b % 64) (omega arith) in
             rw (same, get_or-set_same, alike, one, eq-eqb k b (omega arith)) (sym (or_right _ true refl))
         | inr differ ↦
             let kept : bit_at (bit_or w (1 * 2 ^ (b % 64) % 18446744073709551616)) (k % 64) ≡ bit_at w (k % 64) = bit_at_set_other w64 w (b % 64) (omega arith) (k % 64) differ in
-            rw (same, get_or-set_same, kept, ne_eqb k b (λ e. differ (ap (λ n. n % 64) e)), or_false, get_or_read words (b / 64) w within read 0)
+            rw (same, get_or-set_same, kept, ne_eqb k b (λ e. differ (ap (λ n. n % 64) e)), or-false, get_or_read words (b / 64) w within read 0)
       ]
     ]
 

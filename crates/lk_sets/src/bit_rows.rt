@@ -85,6 +85,7 @@ impl BitRows {
         let place = self.place(a, b);
         put_bit(&mut self.words, place)
     }
+
     /// Lets each number that stands with `from` stand with `into` too, and answers whether a pair was new.
     pub fn join_row(&mut self, from: u32, into: u32) -> bool
         requires from { from < self.old.size }
