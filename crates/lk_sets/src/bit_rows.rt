@@ -106,7 +106,8 @@ impl BitRows {
     /// The first number from `b` on that stands with `a`, or nothing where there is none.
     pub fn next_in_row(&self, a: u32, b: u32) -> Option<u32>
         requires a { a < self.now.size }
-        ensures { MatchOption result (HasNoneBetween self.now a b self.now.size) (λ c. IsNextInRow self.now a b c) }
+        ensures next { MatchOption result (HasNoneBetween self.now a b self.now.size) (λ c. IsNextInRow self.now a b c) }
+        ensures square { IsSquare self.now }
     {
         if b >= self.size {
             return None;
@@ -147,13 +148,13 @@ pub struct Row<'a> {
 
 impl<'a> Model for Row<'a> {
     ghost use Rattle.std.specs.Prelude.{ℕ, List, ◌<◌};
-    ghost use Rattle.lk_sets.specs.Rows.{row_from, IsSquare};
+    ghost use Rattle.lk_sets.specs.Rows.{row_from};
 
     ghost Value = { List ℕ };
 
     ghost view = { λ s. row_from s.rows.now s.row s.next };
 
-    ghost invariant = { λ s. (s.row < s.rows.now.size) × IsSquare s.rows.now };
+    ghost invariant = { λ s. s.row < s.rows.now.size };
 }
 
 impl<'a> Iterator for Row<'a> {

@@ -3,9 +3,6 @@ use Rattle.lk_sets.specs.Rows.{IsSquare}
 use Rattle.lk_sets.proofs.Square.{row_from-zero, square-seen}
 use Rattle.lk_sets.proofs.bit_rows.BitRows.row.Goals as goal
 
-pub invariant_of-result : goal.invariant_of-result
-invariant_of-result c = (c.requires, subst IsSquare c.self.view_is (square-seen _ _ c.self.invariant))
-
 pub returns-clause-row : goal.returns-clause-row
 returns-clause-row c = row_from-zero c.args.self.now c.args.a
 

@@ -6,11 +6,11 @@ use Rattle.lk_sets.proofs.bit_rows.RowIterator.next.Goals as goal
 use Rattle.lk_sets.proofs.bit_rows.RowIterator.next.Goals.{In_ok-next}
 
 first : (c : In_ok-next) → c.args.self.now ≡ c.in_ok-next.next ∷ row_from c.self.inside.rows.now c.self.inside.row (c.in_ok-next.next + 1)
-first c = sym c.self.view_is ∙ row_from-next _ _ _ _ c.self.invariant.1 c.in_ok-next.ensures
+first c = sym c.self.view_is ∙ row_from-next _ _ _ _ c.in_ok-next.ensures.square c.in_ok-next.ensures.next
 
 pub returns-in_err-next-clause-steps : goal.returns-in_err-next-clause-steps
 returns-in_err-next-clause-steps c =
-    let none : c.args.self.now ≡ [] = sym c.self.view_is ∙ row_from-none _ _ _ c.self.invariant.1 c.in_err-next.ensures in
+    let none : c.args.self.now ≡ [] = sym c.self.view_is ∙ row_from-none _ _ _ c.in_err-next.ensures.square c.in_err-next.ensures.next in
     rw c.from_residual.ensures (none, none)
 
 pub returns-clause-steps : goal.returns-clause-steps
