@@ -1,0 +1,14 @@
+//! Sets of numbers, relations as rows of bits, and what loops that close a relation share.
+#![tactic(auto)]
+
+mod bit_rows;
+mod bits;
+mod id_set;
+mod spread;
+
+pub use bit_rows::{BitRows, Row, rows_are_their_pairs};
+pub use id_set::{IdSet, a_set_has_one_list};
+pub use spread::Arrow;
+
+#[cfg(test)]
+mod tests;
