@@ -2,3 +2,4 @@ pub mod Words
 pub mod Tokens
 pub mod Grammar
 pub mod Form
+pub mod Reading
