@@ -73,14 +73,15 @@ refused_fronts = codes "__builtin_" ∷ codes "pthread_rwlock_" ∷ codes "__syn
     ∷ codes "pthread_spin_" ∷ codes "pthread_barrier_" ∷ codes "pthread_key_" ∷ codes "pthread_setspecific"
     ∷ codes "pthread_getspecific" ∷ codes "pthread_cleanup_" ∷ codes "sem_" ∷ []
 
--- what no variable, function or parameter of the form is called
-unfoldable pub is_reserved : List ℕ → Bool
-is_reserved text = bytes_eq text (codes "main") || list_any (bytes_eq text) keywords || list_any (bytes_eq text) later_words
-    || list_any (bytes_eq text) library_words || list_any (bytes_eq text) refused_words || list_any (starts_with nat_eq text) refused_fronts
+unfoldable pub is_reserved_word : List ℕ → Bool
+is_reserved_word text = list_any (bytes_eq text) (codes "main" ∷ (keywords ++ (later_words ++ (library_words ++ refused_words))))
 
--- a NAME: an identifier of at most 255 bytes that is not reserved
+unfoldable pub begins_refused : List ℕ → Bool
+begins_refused text = list_any (starts_with nat_eq text) refused_fronts
+
+-- a NAME: an identifier of at most 255 bytes that no word of the language or the library takes
 unfoldable pub is_name : List ℕ → Bool
-is_name text = is_identifier text && nat_le (length text) 255 && not (is_reserved text)
+is_name text = is_identifier text && nat_le (length text) 255 && not (is_reserved_word text) && not (begins_refused text)
 
 -- a NUMBER: the digits of its value without leading zeros, at most the greatest `int` (C99 6.4.4.1)
 pub record IsNumber (text : List ℕ) (value : ℕ) : Type 0 where

@@ -18,7 +18,7 @@ fn is_blank(byte: u8) -> bool
 }
 
 /// Whether a byte may stand in a word: a letter, a digit or `_`.
-fn is_word_byte(byte: u8) -> bool
+pub fn is_word_byte(byte: u8) -> bool
     ensures { result ≡ is_word_byte byte }
 {
     byte.is_ascii_alphanumeric() || byte == b'_'

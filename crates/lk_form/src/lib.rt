@@ -7,6 +7,7 @@ ghost use Rattle.lk_form.specs.Form.{IsOfForm, AreResolved};
 
 mod lexeme;
 mod lexer;
+mod names;
 mod terminal;
 mod tree;
 
