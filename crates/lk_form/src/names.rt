@@ -1,11 +1,19 @@
 //! Which words a program of the form may declare, and which numbers it may write.
-ghost use Rattle.std.specs.Prelude.{◌≡◌, ◌∷◌, nat_eq};
+ghost use Rattle.std.specs.Prelude.{◌≡◌, ◌∷◌, ◌<◌, ◌^◌, true, nat_eq};
+ghost use Rattle.std.specs.Option.{SomeIff};
 ghost use Rattle.std.specs.List.{list_all, list_any, starts_with};
 ghost use Rattle.std.specs.Str.{bytes_eq};
+ghost use Rattle.std.specs.Char.{is_ascii_digit};
+ghost use Rattle.std.specs.Str.Parse.{digits_value};
 ghost use Rattle.lk_form.specs.Words as spec;
+ghost use Rattle.lk_form.specs.Reading.{is_decimal, number_of};
 
 use crate::lexer::is_word_byte;
 use lk_base::LONGEST_NAME;
+use std::str;
+
+/// The greatest number that the form writes: the greatest `int`.
+const LARGEST_INT: u32 = 2_147_483_647;
 
 /// The words that no variable, function or parameter of the form is called.
 const RESERVED: [&str; 107] = [
@@ -196,4 +204,45 @@ pub fn is_name(text: &[u8]) -> bool
         && text.len() <= LONGEST_NAME
         && !is_reserved_word(text)
         && !begins_refused(text)
+}
+
+/// Whether a text is digits and nothing else.
+fn are_digits(text: &[u8]) -> bool
+    ensures { result ≡ list_all is_ascii_digit text.now }
+{
+    text.iter().all(|byte| byte.is_ascii_digit())
+}
+
+/// Whether a text is `0`, or digits of which the first is another.
+fn is_decimal(text: &[u8]) -> bool
+    ensures { result ≡ is_decimal text.now }
+{
+    match text.first() {
+        None => false,
+        Some(b'0') => text.len() == 1,
+        Some(_) => are_digits(text),
+    }
+}
+
+/// The value of digits, where a `u32` holds it.
+fn value_of_digits(digits: &[u8]) -> Option<u32>
+    requires { is_decimal digits.now ≡ true }
+    ensures { SomeIff result (digits_value 10 digits.now < 2 ^ 32) (digits_value 10 digits.now) }
+{
+    match str::from_utf8(digits) {
+        Ok(text) => text.parse::<u32>().ok(),
+        Err(_) => None,
+    }
+}
+
+/// The value of a NUMBER, or nothing where the text is none.
+#[tactic(auto, unfolding(crate::specs::Reading::number_of))]
+pub fn number(text: &[u8]) -> Option<u32>
+    ensures { result ≡ number_of text.now }
+{
+    if !is_decimal(text) {
+        return None;
+    }
+    let value = value_of_digits(text)?;
+    (value <= LARGEST_INT).then_some(value)
 }
