@@ -1,11 +1,30 @@
 -- What the functions of the reader give, as functions on the bytes and tokens that are left. Only contracts of private functions cite them:
 -- what a source of the form is stands in Tokens, Grammar and Form.
-use Rattle.std.specs.Prelude.{◌≡◌, ◌+◌, ℕ, zero, suc, Bool, true, false, not, ◌&&◌, ◌||◌, ◌==◌, nat_eq, nat_le, nat_lt, if◌then◌else◌, List, [], ◌∷◌, ◌++◌, length, map, codes, position, slice_get, Option, Some, None, is_some}
-use Rattle.std.specs.List.{list_any, list_all, prefix_len}
+use Rattle.std.specs.Prelude.{◌≡◌, ◌+◌, ◌-◌, ℕ, zero, suc, Bool, true, false, not, ◌&&◌, ◌||◌, ◌==◌, nat_eq, nat_le, nat_lt, if◌then◌else◌, List, [], ◌∷◌, ◌++◌, length, map, position, slice_get, Option, Some, None, is_some, Result, Ok, Err, ⊤}
+use Rattle.std.specs.Option.{option_map, option_and_then}
+use Rattle.std.specs.List.{list_all, prefix_len}
+use Rattle.std.specs.Cmp.Lexicographic.{pointwise}
 use Rattle.std.specs.Char.{is_ascii_digit}
+use Rattle.std.specs.Str.{bytes_eq}
 use Rattle.std.specs.Str.Parse.{digits_value}
-use Rattle.lk_form.specs.Words.{is_word_byte}
-use Rattle.lk_form.specs.Tokens.{is_punctuator}
+use Rattle.lk_base.specs.declared.spot.Spot.{Spot}
+use Rattle.lk_base.specs.Files.{has_name}
+use Rattle.lk_base.specs.declared.name.NameFault.{NameFault}
+use Rattle.lk_base.specs.declared.name.NameFault.TheVariants as names
+use Rattle.lk_form.specs.declared.fault.Fault.{Fault}
+use Rattle.lk_form.specs.declared.fault.Fault.TheVariants.{Form, NoMemory}
+use Rattle.lk_form.specs.declared.terminal.Terminal.{Terminal}
+use Rattle.lk_form.specs.declared.terminal.Terminal.TheVariants as t
+use Rattle.lk_form.specs.declared.tree.Program.{Program}
+use Rattle.lk_form.specs.declared.tree.Variable.{Variable}
+use Rattle.lk_form.specs.declared.tree.VariableKind.{VariableKind}
+use Rattle.lk_form.specs.declared.tree.VariableKind.TheVariants as kind
+use Rattle.lk_form.specs.declared.tree.Function.{Function}
+use Rattle.lk_form.specs.declared.tree.Statement.{Statement}
+use Rattle.lk_form.specs.declared.tree.Statement.TheVariants as made
+use Rattle.lk_form.specs.Words.{spelling, is_word_byte, is_name}
+use Rattle.lk_form.specs.Tokens.{Token, is_punctuator}
+use Rattle.lk_form.specs.Grammar.{Scope, type_word}
 
 -- how long the longest token in front of the source is, and 0 where none is
 unfoldable pub front_len : List ℕ → ℕ
@@ -20,3 +39,151 @@ is_decimal (d ∷ ds) = if d == 48 then (length ds == 0) else list_all is_ascii_
 -- the value of a NUMBER
 unfoldable pub number_of : List ℕ → Option ℕ
 number_of text = if is_decimal text && nat_le (digits_value 10 text) 2147483647 then Some (digits_value 10 text) else None
+
+-- ---- what a call answered
+
+abbrev pub fault_of : NameFault → Fault
+fault_of names.TooLong = Form
+fault_of names.NoMemory = NoMemory
+
+-- a look-up: what was found, or that there is nothing; want of memory says nothing
+abbrev pub Tells : {A : Type 0} → Option A → Result A Fault → Type 0
+Tells found (Ok a) = found ≡ Some a
+Tells found (Err Form) = found ≡ None
+Tells found (Err NoMemory) = ⊤
+
+-- a reader, whose answer is seen by view: what was read, with the tokens behind it
+abbrev pub GivesBy : {X A : Type 0} → (X → A) → Option (A × List Token) → Result X Fault → List Token → Type 0
+GivesBy view read (Ok x) behind = read ≡ Some (view x, behind)
+GivesBy view read (Err Form) behind = read ≡ None
+GivesBy view read (Err NoMemory) behind = ⊤
+
+abbrev pub Gives : {A : Type 0} → Option (A × List Token) → Result A Fault → List Token → Type 0
+Gives read result behind = GivesBy (λ a. a) read result behind
+
+-- ---- readers of tokens
+
+abbrev pub Parser : Type 0 → Type 0
+Parser A = List Token → Option (A × List Token)
+
+abbrev pub and_then : {A B : Type 0} → Option (A × List Token) → (A → Parser B) → Option (B × List Token)
+and_then None f = None
+and_then (Some p) f = f p.0 p.1
+
+infixl 10 ◌>>=◌
+abbrev pub ◌>>=◌ : {A B : Type 0} → Parser A → (A → Parser B) → Parser B
+p >>= f = λ tokens. and_then (p tokens) f
+
+infixl 10 ◌>>◌
+abbrev pub ◌>>◌ : {A B : Type 0} → Parser A → Parser B → Parser B
+p >> q = p >>= (λ _. q)
+
+abbrev pub pure : {A : Type 0} → A → Parser A
+pure a = λ tokens. Some (a, tokens)
+
+-- what was looked up, where it was found
+abbrev pub given : {A : Type 0} → Option A → Parser A
+given found = λ tokens. option_map (λ a. (a, tokens)) found
+
+-- these words and punctuators
+unfoldable pub takes : List Terminal → Parser (Unit {0})
+takes [] tokens = Some (tt, tokens)
+takes (word ∷ words) [] = None
+takes (word ∷ words) (token ∷ tokens) = if bytes_eq token.text (spelling word) then takes words tokens else None
+
+-- whether they are in front
+unfoldable pub begins : List Terminal → List Token → Bool
+begins words tokens = is_some (takes words tokens)
+
+-- any token
+unfoldable pub any_token : Parser Token
+any_token [] = None
+any_token (token ∷ tokens) = Some (token, tokens)
+
+-- the place of the token in front, which stays there
+unfoldable pub here : Parser Spot
+here [] = None
+here (token ∷ tokens) = Some (token.spot, token ∷ tokens)
+
+-- ---- names
+
+abbrev pub names_of : Scope → List (List ℕ)
+names_of scope = map (λ v. v.name) scope.variables ++ map (λ f. f.name) scope.functions
+
+-- the place of a name among them
+unfoldable pub place_of : Scope → List ℕ → Option ℕ
+place_of scope text = if nat_le (length text) 255 then position (pointwise nat_eq text) (names_of scope) else None
+
+abbrev pub same_kind : VariableKind → VariableKind → Bool
+same_kind kind.Int kind.Int = true
+same_kind kind.Mutex kind.Mutex = true
+same_kind kind.Thread kind.Thread = true
+same_kind a b = false
+
+-- the number, where it is that of a variable of this kind
+abbrev pub if_of_kind : VariableKind → ℕ → Option Variable → Option ℕ
+if_of_kind kind number None = None
+if_of_kind kind number (Some v) = if same_kind v.kind kind then Some number else None
+
+unfoldable pub variable_in : Scope → VariableKind → List ℕ → Option ℕ
+variable_in scope kind text = option_and_then (λ number. if_of_kind kind number (slice_get scope.variables number)) (place_of scope text)
+
+-- the functions come behind the variables
+unfoldable pub function_in : Scope → List ℕ → Option ℕ
+function_in scope text =
+    option_and_then (λ place. if nat_le (length scope.variables) place then Some (place - length scope.variables) else None) (place_of scope text)
+
+-- a name is declared once, and 4,000 of them at most
+abbrev pub may_declare : Scope → List ℕ → Bool
+may_declare scope name = not (has_name (names_of scope) name) && nat_lt (length (names_of scope)) 4000
+
+unfoldable pub with_variable : Scope → Variable → Option Scope
+with_variable scope v = if may_declare scope v.name then Some (record scope { variables = scope.variables ++ v ∷ [] }) else None
+
+unfoldable pub with_function : Scope → Function → Option Scope
+with_function scope f = if may_declare scope f.name then Some (record scope { functions = scope.functions ++ f ∷ [] }) else None
+
+-- ---- statements
+
+unfoldable pub variable : Scope → VariableKind → Parser ℕ
+variable scope kind = any_token >>= (λ token. given (variable_in scope kind token.text))
+
+unfoldable pub function : Scope → Parser ℕ
+function scope = any_token >>= (λ token. given (function_in scope token.text))
+
+unfoldable pub number : Parser ℕ
+number = any_token >>= (λ token. given (number_of token.text))
+
+unfoldable pub mutex_call : Scope → Terminal → Parser ℕ
+mutex_call scope word = do
+  opened ← takes (word ∷ t.Open ∷ t.Ampersand ∷ [])
+  mutex ← variable scope kind.Mutex
+  closed ← takes (t.Close ∷ t.Semicolon ∷ [])
+  pure mutex
+
+unfoldable pub create : Scope → Parser Statement
+create scope = do
+  opened ← takes (t.Create ∷ t.Open ∷ [])
+  spot ← here
+  ampersand ← takes (t.Ampersand ∷ [])
+  thread ← variable scope kind.Thread
+  attribute ← takes (t.Comma ∷ t.Zero ∷ t.Comma ∷ [])
+  routine ← function scope
+  closed ← takes (t.Comma ∷ t.Zero ∷ t.Close ∷ t.Semicolon ∷ [])
+  pure (made.Create thread spot routine)
+
+unfoldable pub assign : Scope → Parser Statement
+assign scope = do
+  spot ← here
+  target ← variable scope kind.Int
+  equals ← takes (t.Equals ∷ [])
+  value ← number
+  closed ← takes (t.Semicolon ∷ [])
+  pure (made.Assign target spot value)
+
+unfoldable pub statement : Scope → Parser Statement
+statement scope tokens =
+    if begins (t.Lock ∷ []) tokens then (mutex_call scope t.Lock >>= (λ mutex. pure (made.Lock mutex))) tokens else (
+    if begins (t.Unlock ∷ []) tokens then (mutex_call scope t.Unlock >>= (λ mutex. pure (made.Unlock mutex))) tokens else (
+    if begins (t.Create ∷ []) tokens then create scope tokens else
+    assign scope tokens))

@@ -5,6 +5,8 @@ ghost use Rattle.std.specs.Prelude.{ℕ, List, ◌≡◌};
 ghost use Rattle.lk_form.specs.declared.tree.Program.{Program};
 ghost use Rattle.lk_form.specs.Form.{IsOfForm, AreResolved};
 
+mod cursor;
+mod fault;
 mod lexeme;
 mod lexer;
 mod names;

@@ -1,5 +1,6 @@
 //! The words and punctuators that the grammar of the form names.
 ghost use Rattle.std.specs.Prelude.{◌≡◌};
+ghost use Rattle.std.specs.Str.{bytes_eq};
 ghost use Rattle.lk_form.specs.Words.{spelling};
 
 /// A word or punctuator that the grammar names.
@@ -71,5 +72,12 @@ impl Terminal {
             Terminal::Ampersand => "&",
             Terminal::Comma => ",",
         }
+    }
+
+    /// Whether this is its text.
+    pub fn spells(self, text: &[u8]) -> bool
+        ensures { result ≡ bytes_eq text.now (spelling self) }
+    {
+        text == self.text().as_bytes()
     }
 }
