@@ -52,6 +52,12 @@ Tells found (Ok a) = found ≡ Some a
 Tells found (Err Form) = found ≡ None
 Tells found (Err NoMemory) = ⊤
 
+-- a change, and what it left
+abbrev pub Leaves : {A X : Type 0} → Option A → Result X Fault → A → Type 0
+Leaves change (Ok x) now = change ≡ Some now
+Leaves change (Err Form) now = change ≡ None
+Leaves change (Err NoMemory) now = ⊤
+
 -- a reader, whose answer is seen by view: what was read, with the tokens behind it
 abbrev pub GivesBy : {X A : Type 0} → (X → A) → Option (A × List Token) → Result X Fault → List Token → Type 0
 GivesBy view read (Ok x) behind = read ≡ Some (view x, behind)
@@ -134,14 +140,14 @@ function_in scope text =
     option_and_then (λ place. if nat_le (length scope.variables) place then Some (place - length scope.variables) else None) (place_of scope text)
 
 -- a name is declared once, and 4,000 of them at most
-abbrev pub may_declare : Scope → List ℕ → Bool
-may_declare scope name = not (has_name (names_of scope) name) && nat_lt (length (names_of scope)) 4000
+abbrev pub may_declare : List (List ℕ) → List ℕ → Bool
+may_declare names name = not (has_name names name) && nat_lt (length names) 4000
 
 unfoldable pub with_variable : Scope → Variable → Option Scope
-with_variable scope v = if may_declare scope v.name then Some (record scope { variables = scope.variables ++ v ∷ [] }) else None
+with_variable scope v = if may_declare (names_of scope) v.name then Some (record scope { variables = scope.variables ++ v ∷ [] }) else None
 
 unfoldable pub with_function : Scope → Function → Option Scope
-with_function scope f = if may_declare scope f.name then Some (record scope { functions = scope.functions ++ f ∷ [] }) else None
+with_function scope f = if may_declare (names_of scope) f.name then Some (record scope { functions = scope.functions ++ f ∷ [] }) else None
 
 -- ---- statements
 

@@ -6,6 +6,7 @@ ghost use Rattle.lk_form.specs.declared.tree.Program.{Program};
 ghost use Rattle.lk_form.specs.Form.{IsOfForm, AreResolved};
 
 mod cursor;
+mod declarations;
 mod fault;
 mod lexeme;
 mod lexer;
