@@ -111,6 +111,20 @@ unfoldable pub here : Parser Spot
 here [] = None
 here (token ∷ tokens) = Some (token.spot, token ∷ tokens)
 
+-- ---- repetition: one step after another, until the tokens are such that it stops. The number bounds the steps, each of which takes a token.
+
+unfoldable pub repeat_from : {S : Type 0} → (S → Parser S) → (List Token → Bool) → ℕ → S → Parser S
+repeat_from step stops zero state tokens = None
+repeat_from step stops (suc turns) state tokens =
+    if stops tokens then Some (state, tokens) else and_then (step state tokens) (repeat_from step stops turns)
+
+unfoldable pub repeat : {S : Type 0} → (S → Parser S) → (List Token → Bool) → S → Parser S
+repeat step stops state tokens = repeat_from step stops (suc (length tokens)) state tokens
+
+-- one more item behind those that were found
+abbrev pub one_more : {A : Type 0} → Parser A → List A → Parser (List A)
+one_more item found = item >>= (λ next. pure (found ++ next ∷ []))
+
 -- ---- names
 
 abbrev pub names_of : Scope → List (List ℕ)
@@ -193,3 +207,14 @@ statement scope tokens =
     if begins (t.Unlock ∷ []) tokens then (mutex_call scope t.Unlock >>= (λ mutex. pure (made.Unlock mutex))) tokens else (
     if begins (t.Create ∷ []) tokens then create scope tokens else
     assign scope tokens))
+
+-- the statements before a `return`
+unfoldable pub statements : Scope → Parser (List Statement)
+statements scope = repeat (one_more (statement scope)) (begins (t.Return ∷ [])) []
+
+unfoldable pub body : Scope → Parser (List Statement)
+body scope = do
+  opened ← takes (t.OpenBrace ∷ [])
+  found ← statements scope
+  closed ← takes (t.Return ∷ t.Zero ∷ t.Semicolon ∷ t.CloseBrace ∷ [])
+  pure found

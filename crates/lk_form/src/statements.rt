@@ -1,7 +1,7 @@
 //! The readers of statements.
 ghost use Rattle.std.specs.Prelude.{◌≡◌, ◌<◌, length, OnOk};
 ghost use Rattle.lk_form.specs.Reading as spec;
-ghost use Rattle.lk_form.specs.Reading.{Gives};
+ghost use Rattle.lk_form.specs.Reading.{Gives, GivesBy};
 
 use crate::cursor::Cursor;
 use crate::declarations::Declarations;
@@ -9,6 +9,8 @@ use crate::fault::Fault;
 use crate::names::number;
 use crate::terminal::Terminal;
 use crate::tree::{Statement, VariableKind};
+use lk_base::Items;
+use std::alloc::Global;
 
 /// Reads the name of a variable of this kind.
 #[tactic(auto, unfolding(crate::specs::Reading::variable))]
@@ -105,7 +107,7 @@ fn assign(declared: &Declarations, cursor: &mut Cursor<'_, '_>) -> Result<Statem
 
 /// Reads a statement.
 #[tactic(auto, unfolding(crate::specs::Reading::statement))]
-pub fn statement(declared: &Declarations, cursor: &mut Cursor<'_, '_>) -> Result<Statement, Fault>
+fn statement(declared: &Declarations, cursor: &mut Cursor<'_, '_>) -> Result<Statement, Fault>
     ensures value { Gives (spec.statement declared.now cursor.old) result cursor.new }
     ensures shorter { OnOk result (length cursor.new < length cursor.old) }
 {
@@ -121,4 +123,40 @@ pub fn statement(declared: &Declarations, cursor: &mut Cursor<'_, '_>) -> Result
         return create(declared, cursor);
     }
     assign(declared, cursor)
+}
+
+/// Reads the statements before a `return`.
+fn statements(
+    alloc: Global,
+    declared: &Declarations,
+    cursor: &mut Cursor<'_, '_>,
+) -> Result<Vec<Statement>, Fault>
+    ensures { GivesBy (λ list. list.items) (spec.statements declared.now cursor.old) result cursor.new }
+{
+    let mut list = Vec::new(alloc);
+    while !cursor.begins(&[Terminal::Return]) {
+        let next = statement(declared, cursor)?;
+        list.push(next)?;
+    }
+    Ok(list)
+}
+
+/// Reads the statements of a function in braces, and `return 0;` behind them.
+#[tactic(auto, unfolding(crate::specs::Reading::body))]
+pub fn body(
+    alloc: Global,
+    declared: &Declarations,
+    cursor: &mut Cursor<'_, '_>,
+) -> Result<Items<Statement>, Fault>
+    ensures { Gives (spec.body declared.now cursor.old) result cursor.new }
+{
+    cursor.take(&[Terminal::OpenBrace])?;
+    let list = statements(alloc, declared, cursor)?;
+    cursor.take(&[
+        Terminal::Return,
+        Terminal::Zero,
+        Terminal::Semicolon,
+        Terminal::CloseBrace,
+    ])?;
+    Ok(Items::new(list))
 }
