@@ -24,7 +24,8 @@ use Rattle.lk_form.specs.declared.tree.Statement.{Statement}
 use Rattle.lk_form.specs.declared.tree.Statement.TheVariants as made
 use Rattle.lk_form.specs.Words.{spelling, is_word_byte, is_name}
 use Rattle.lk_form.specs.Tokens.{Token, is_punctuator}
-use Rattle.lk_form.specs.Grammar.{Scope, type_word}
+use Rattle.lk_form.specs.Grammar.{Scope}
+use Rattle.lk_form.specs.Form.{statement_count}
 
 -- how long the longest token in front of the source is, and 0 where none is
 unfoldable pub front_len : List ℕ → ℕ
@@ -106,6 +107,11 @@ unfoldable pub any_token : Parser Token
 any_token [] = None
 any_token (token ∷ tokens) = Some (token, tokens)
 
+-- the end of the tokens
+unfoldable pub end : Parser (Unit {0})
+end [] = Some (tt, [])
+end (token ∷ tokens) = None
+
 -- the place of the token in front, which stays there
 unfoldable pub here : Parser Spot
 here [] = None
@@ -163,6 +169,17 @@ with_variable scope v = if may_declare (names_of scope) v.name then Some (record
 unfoldable pub with_function : Scope → Function → Option Scope
 with_function scope f = if may_declare (names_of scope) f.name then Some (record scope { functions = scope.functions ++ f ∷ [] }) else None
 
+-- every parameter is no name at file scope
+abbrev pub parameters_differ : Scope → Bool
+parameters_differ scope = list_all (λ f. not (has_name (names_of scope) f.parameter)) scope.functions
+
+abbrev pub program_of : Scope → List Statement → Program
+program_of scope main = record { variables = scope.variables; functions = scope.functions; main = main }
+
+-- the program, where its parameters and the number of its statements are as they must be
+unfoldable pub finished : Scope → List Statement → Option Program
+finished scope main = if parameters_differ scope && nat_le (statement_count (program_of scope main)) 4000 then Some (program_of scope main) else None
+
 -- ---- statements
 
 unfoldable pub variable : Scope → VariableKind → Parser ℕ
@@ -218,3 +235,54 @@ body scope = do
   found ← statements scope
   closed ← takes (t.Return ∷ t.Zero ∷ t.Semicolon ∷ t.CloseBrace ∷ [])
   pure found
+
+-- ---- declarations
+
+unfoldable pub type_name : Parser VariableKind
+type_name tokens =
+    if begins (t.Int ∷ []) tokens then (takes (t.Int ∷ []) >> pure kind.Int) tokens else (
+    if begins (t.MutexType ∷ []) tokens then (takes (t.MutexType ∷ []) >> pure kind.Mutex) tokens else
+    (takes (t.ThreadType ∷ []) >> pure kind.Thread) tokens)
+
+-- a NAME
+unfoldable pub new_name : Parser Token
+new_name = any_token >>= (λ token. given (if is_name token.text then Some token else None))
+
+unfoldable pub variable_declaration : Parser Variable
+variable_declaration = do
+  kind ← type_name
+  name ← new_name
+  closed ← takes (t.Semicolon ∷ [])
+  pure (record { name = name.text; spot = name.spot; kind = kind })
+
+abbrev pub one_more_variable : Scope → Parser Scope
+one_more_variable scope = variable_declaration >>= (λ v. given (with_variable scope v))
+
+-- the variables, in front of a function
+unfoldable pub variables : Scope → Parser Scope
+variables scope = repeat one_more_variable (λ tokens. begins (t.Void ∷ []) tokens || begins (t.Int ∷ t.Main ∷ []) tokens) scope
+
+unfoldable pub function_definition : Scope → Parser Function
+function_definition scope = do
+  result ← takes (t.Void ∷ t.Star ∷ [])
+  name ← new_name
+  opened ← takes (t.Open ∷ t.Void ∷ t.Star ∷ [])
+  parameter ← new_name
+  closed ← takes (t.Close ∷ [])
+  statements ← body scope
+  pure (record { name = name.text; spot = name.spot; parameter = parameter.text; body = statements })
+
+abbrev pub one_more_function : Scope → Parser Scope
+one_more_function scope = function_definition scope >>= (λ f. given (with_function scope f))
+
+unfoldable pub functions : Scope → Parser Scope
+functions scope = repeat one_more_function (λ tokens. not (begins (t.Void ∷ []) tokens)) scope
+
+unfoldable pub program : Parser Program
+program = do
+  above ← variables (record { variables = []; functions = [] })
+  scope ← functions above
+  heading ← takes (t.Int ∷ t.Main ∷ t.Open ∷ t.Void ∷ t.Close ∷ [])
+  main ← body scope
+  ended ← end
+  given (finished scope main)

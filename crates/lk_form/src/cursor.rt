@@ -90,4 +90,15 @@ impl<'t, 's> Cursor<'t, 's> {
         }
         Ok(())
     }
+
+    /// Whether no token is left: else nothing is of the form.
+    #[tactic(auto, unfolding(crate::specs::Reading::end))]
+    pub fn end(&self) -> Result<(), Fault>
+        ensures { GivesBy (λ _. tt) (spec.end self.now) result self.now }
+    {
+        match self.lexemes.get(self.taken) {
+            Some(_) => Err(Fault::Form),
+            None => Ok(()),
+        }
+    }
 }

@@ -1,17 +1,21 @@
 //! The names at file scope so far, and what they name.
-ghost use Rattle.std.specs.Prelude.{◌≡◌, ◌<◌, [], ◌∷◌, ◌++◌, true, false, length, IfOk, OnOk, OnErr};
+ghost use Rattle.std.specs.Prelude.{◌≡◌, ◌<◌, [], ◌∷◌, ◌++◌, true, false, length, nat_le, IfOk, OnOk, OnErr};
 ghost use Rattle.lk_form.specs.Reading as spec;
+ghost use Rattle.lk_form.specs.Form.{statement_count};
 ghost use Rattle.lk_form.specs.Reading.{Tells, Leaves};
 
 use crate::fault::Fault;
-use crate::tree::{Function, Variable, VariableKind};
+use crate::tree::{Function, Program, Statement, Variable, VariableKind};
 use indexmap::IndexSet;
-use lk_base::Name;
+use lk_base::{Items, Name};
 use std::alloc::Global;
 use std::marker::Model;
 
 /// The most names at file scope.
 const MOST_NAMES: usize = 4000;
+
+/// The most statements of a program.
+const MOST_STATEMENTS: usize = 4000;
 
 /// The variables and the functions that were read, with an index of their names. A contract sees it as
 /// the two lists.
@@ -105,6 +109,56 @@ impl Declarations {
         self.functions.push_reserved(function);
         Ok(())
     }
+
+    /// Whether no parameter is called as a variable or a function is.
+    fn parameters_differ(&self) -> bool
+        ensures { result ≡ spec.parameters_differ self.now }
+    {
+        self.functions
+            .iter()
+            .all(|function| !self.names.contains(&function.parameter))
+    }
+
+    /// The program of these declarations and the statements of `main`, where its parameters are no names at
+    /// file scope and there are at most 4,000 statements.
+    #[tactic(auto, unfolding(crate::specs::Reading::finished))]
+    pub fn into_program(self, main: Items<Statement>) -> Result<Program, Fault>
+        ensures { Tells (spec.finished self main) result }
+    {
+        if !self.parameters_differ() {
+            return Err(Fault::Form);
+        }
+        let Declarations {
+            alloc: _,
+            names: _,
+            variables,
+            functions,
+        } = self;
+        let program = Program {
+            variables: Items::new(variables),
+            functions: Items::new(functions),
+            main,
+        };
+        if !has_few_statements(&program) {
+            return Err(Fault::Form);
+        }
+        Ok(program)
+    }
+}
+
+/// Whether a program has at most 4,000 statements, the returns apart.
+fn has_few_statements(program: &Program) -> bool
+    ensures { result ≡ nat_le (statement_count program.now) 4000 }
+{
+    let mut left = MOST_STATEMENTS;
+    for function in program.functions.list() {
+        let count = function.body.len();
+        if count > left {
+            return false;
+        }
+        left -= count;
+    }
+    program.main.len() <= left
 }
 
 /// Puts a name behind the others, where it is new and there are fewer than 4,000.
