@@ -1,17 +1,30 @@
 -- How the reader's functions fail together, and where the tokens end.
 use Rattle.std.proofs.Common.{◌≡◌, ℕ, zero, suc, if◌then◌else◌, ◌+◌, ◌<◌, ◌≤◌, Bool, true, false, List, [], ◌∷◌, ◌++◌, length, drop, get_or, Option, Some, None, Result, Ok, Err, refl, sym, ap, subst, ◌∙◌, arith}
 use Rattle.std.proofs.lemmas.List.{drop_all, length-drop}
+use Rattle.lk_base.specs.declared.name.NameFault.{NameFault}
+use Rattle.lk_base.specs.declared.name.NameFault.TheVariants as names
 use Rattle.lk_form.specs.declared.fault.Fault.{Fault}
 use Rattle.lk_form.specs.declared.fault.Fault.TheVariants.{Form, NoMemory}
 use Rattle.lk_form.specs.declared.terminal.Terminal.{Terminal}
 use Rattle.lk_form.specs.Tokens.{Token}
-use Rattle.lk_form.specs.Reading.{GivesBy, Tells, takes, begins, any_token, Parser, and_then, pure, one_more, repeat, repeat_from}
+use Rattle.lk_form.specs.Reading.{GivesBy, Moves, Tells, fault_of, takes, begins, any_token, Parser, and_then, pure, one_more, repeat, repeat_from}
 
 -- a call that passes on why a reader read nothing
 pub failed : {X Y A B : Type 0} (view : X → A) (other : Y → B) (read : Option (A × List Token)) (whole : Option (B × List Token)) (r : Result Y Fault) (e : Fault)
     (behind after : List Token) → r ≡ Err e → (read ≡ None → whole ≡ None) → GivesBy view read (Err e) behind → GivesBy other whole r after
 failed view other read whole r Form behind after is nothing gives = subst (λ r. GivesBy other whole r after) (sym is) (nothing gives)
 failed view other read whole r NoMemory behind after is nothing gives = subst (λ r. GivesBy other whole r after) (sym is) tt
+
+pub failed_move : {X A B : Type 0} (read : Option (A × List Token)) (whole : Option (B × List Token)) (r : Result X Fault) (e : Fault) (state : A) (now : B)
+    (behind after : List Token) → r ≡ Err e → (read ≡ None → whole ≡ None) → Moves {X = X} read (Err e) state behind → Moves whole r now after
+failed_move read whole r Form state now behind after is nothing moves = subst (λ r. Moves whole r now after) (sym is) (nothing moves)
+failed_move read whole r NoMemory state now behind after is nothing moves = subst (λ r. Moves whole r now after) (sym is) tt
+
+-- a text that is not too long is no name only where no memory is found
+pub unnamed : {X A : Type 0} (view : X → A) (whole : Option (A × List Token)) (r : Result X Fault) (fault : NameFault) (after : List Token)
+    → r ≡ Err (fault_of fault) → (fault ≡ names.TooLong → ⊥) → GivesBy view whole r after
+unnamed view whole r names.TooLong after is short = absurd (short refl)
+unnamed view whole r names.NoMemory after is short = subst (λ r. GivesBy view whole r after) (sym is) tt
 
 no_token : (tokens : List Token) → any_token tokens ≡ None → tokens ≡ []
 unfolding any_token

@@ -68,6 +68,12 @@ GivesBy view read (Err NoMemory) behind = ⊤
 abbrev pub Gives : {A : Type 0} → Option (A × List Token) → Result A Fault → List Token → Type 0
 Gives read result behind = GivesBy (λ a. a) read result behind
 
+-- a reader that changes a state: what it became, with the tokens behind what was read
+abbrev pub Moves : {A X : Type 0} → Option (A × List Token) → Result X Fault → A → List Token → Type 0
+Moves read (Ok x) now behind = read ≡ Some (now, behind)
+Moves read (Err Form) now behind = read ≡ None
+Moves read (Err NoMemory) now behind = ⊤
+
 -- ---- readers of tokens
 
 abbrev pub Parser : Type 0 → Type 0
@@ -255,12 +261,16 @@ variable_declaration = do
   closed ← takes (t.Semicolon ∷ [])
   pure (record { name = name.text; spot = name.spot; kind = kind })
 
-abbrev pub one_more_variable : Scope → Parser Scope
+unfoldable pub one_more_variable : Scope → Parser Scope
 one_more_variable scope = variable_declaration >>= (λ v. given (with_variable scope v))
+
+-- whether a function comes next
+unfoldable pub begins_function : List Token → Bool
+begins_function tokens = begins (t.Void ∷ []) tokens || begins (t.Int ∷ t.Main ∷ []) tokens
 
 -- the variables, in front of a function
 unfoldable pub variables : Scope → Parser Scope
-variables scope = repeat one_more_variable (λ tokens. begins (t.Void ∷ []) tokens || begins (t.Int ∷ t.Main ∷ []) tokens) scope
+variables scope = repeat one_more_variable begins_function scope
 
 unfoldable pub function_definition : Scope → Parser Function
 function_definition scope = do
@@ -272,11 +282,15 @@ function_definition scope = do
   statements ← body scope
   pure (record { name = name.text; spot = name.spot; parameter = parameter.text; body = statements })
 
-abbrev pub one_more_function : Scope → Parser Scope
+unfoldable pub one_more_function : Scope → Parser Scope
 one_more_function scope = function_definition scope >>= (λ f. given (with_function scope f))
 
+-- whether no thread function comes next
+unfoldable pub ends_functions : List Token → Bool
+ends_functions tokens = not (begins (t.Void ∷ []) tokens)
+
 unfoldable pub functions : Scope → Parser Scope
-functions scope = repeat one_more_function (λ tokens. not (begins (t.Void ∷ []) tokens)) scope
+functions scope = repeat one_more_function ends_functions scope
 
 unfoldable pub program : Parser Program
 program = do

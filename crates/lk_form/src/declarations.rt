@@ -91,7 +91,8 @@ impl Declarations {
     #[tactic(auto, unfolding(crate::specs::Reading::with_variable))]
     pub fn add_variable(&mut self, variable: Variable) -> Result<(), Fault>
         requires { self.old.functions ≡ [] }
-        ensures { Leaves (spec.with_variable self.old variable) result self.new }
+        ensures change { Leaves (spec.with_variable self.old variable) result self.new }
+        ensures functions { OnOk result (self.new.functions ≡ []) }
     {
         self.variables.reserve(1)?;
         declare(&mut self.names, &variable.name)?;

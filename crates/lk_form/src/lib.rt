@@ -11,6 +11,7 @@ mod fault;
 mod lexeme;
 mod lexer;
 mod names;
+mod program;
 mod statements;
 mod terminal;
 mod tree;

@@ -1,5 +1,5 @@
 //! The readers of statements.
-ghost use Rattle.std.specs.Prelude.{◌≡◌, ◌<◌, length, OnOk};
+ghost use Rattle.std.specs.Prelude.{◌≡◌, ◌<◌, ◌≤◌, length, OnOk};
 ghost use Rattle.lk_form.specs.Reading as spec;
 ghost use Rattle.lk_form.specs.Reading.{Gives, GivesBy};
 
@@ -131,7 +131,8 @@ fn statements(
     declared: &Declarations,
     cursor: &mut Cursor<'_, '_>,
 ) -> Result<Vec<Statement>, Fault>
-    ensures { GivesBy (λ list. list.items) (spec.statements declared.now cursor.old) result cursor.new }
+    ensures value { GivesBy (λ list. list.items) (spec.statements declared.now cursor.old) result cursor.new }
+    ensures no_longer { OnOk result (length cursor.new ≤ length cursor.old) }
 {
     let mut list = Vec::new(alloc);
     while !cursor.begins(&[Terminal::Return]) {
@@ -148,7 +149,8 @@ pub fn body(
     declared: &Declarations,
     cursor: &mut Cursor<'_, '_>,
 ) -> Result<Items<Statement>, Fault>
-    ensures { Gives (spec.body declared.now cursor.old) result cursor.new }
+    ensures value { Gives (spec.body declared.now cursor.old) result cursor.new }
+    ensures shorter { OnOk result (length cursor.new < length cursor.old) }
 {
     cursor.take(&[Terminal::OpenBrace])?;
     let list = statements(alloc, declared, cursor)?;

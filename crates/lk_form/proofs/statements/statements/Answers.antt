@@ -1,4 +1,4 @@
-use Rattle.std.proofs.Common.{◌∷◌, [], List, Vec, Global, Err, Some, sym, ap, ◌∙◌}
+use Rattle.std.proofs.Common.{◌∷◌, [], List, Vec, Global, Err, Some, sym, ap, ◌∙◌, arith}
 use Rattle.std.proofs.lemmas.Result.{err_from_is_err_and}
 use Rattle.lk_form.specs.declared.tree.Statement.{Statement}
 use Rattle.lk_form.specs.Reading.{statement, statements}
@@ -7,19 +7,22 @@ use Rattle.lk_form.proofs.statements.statements.Goals as goal
 
 pub loop-cursor-init : goal.loop-cursor-init
 unfolding statements
-loop-cursor-init c = rw c.new-list.ensures.items (Going-start _ _ [] c.args.cursor.now)
+loop-cursor-init c = (rw c.new-list.ensures.items (Going-start _ _ [] c.args.cursor.now), omega arith)
 
-pub returns-in_err-next : goal.returns-in_err-next
-returns-in_err-next c =
+pub returns-in_err-next-clause-value : goal.returns-in_err-next-clause-value
+returns-in_err-next-clause-value c =
     let p = err_from_is_err_and c.from_residual.result c.from_residual.ensures.1 in
     failed (λ (s : Statement). s) (λ (list : Vec Statement Global). list.items) _ _ c.from_residual.result c.in_err-next.field-0.0 _ _ (p.1 ∙ ap Err p.2)
-    (λ none. Going-fail c.loop-cursor.invariant (sym c.begins.ensures ∙ c.loop-cursor-test.true) (one_more-None (statement c.args.declared.now) c.loop-cursor.list.items c.loop-cursor.cursor none))
+    (λ none. Going-fail c.loop-cursor.invariant.0 (sym c.begins.ensures ∙ c.loop-cursor-test.true) (one_more-None (statement c.args.declared.now) c.loop-cursor.list.items c.loop-cursor.cursor none))
     c.in_err-next.ensures.value
 
 pub loop-cursor-preserved : goal.loop-cursor-preserved
 loop-cursor-preserved c =
-    rw c.in_ok-push.ensures.items
-    (Going-on c.loop-cursor.invariant (sym c.begins.ensures ∙ c.loop-cursor-test.true) (one_more-Some (statement c.args.declared.now) c.loop-cursor.list.items c.in_ok-next.next c.loop-cursor.cursor c.statement.new.cursor c.in_ok-next.ensures.value) c.in_ok-next.ensures.shorter)
+    let shorter = c.in_ok-next.ensures.shorter in (
+      rw c.in_ok-push.ensures.items
+          (Going-on c.loop-cursor.invariant.0 (sym c.begins.ensures ∙ c.loop-cursor-test.true) (one_more-Some (statement c.args.declared.now) c.loop-cursor.list.items c.in_ok-next.next c.loop-cursor.cursor c.statement.new.cursor c.in_ok-next.ensures.value) c.in_ok-next.ensures.shorter),
+      omega arith,
+    )
 
-pub returns : goal.returns
-returns c = Going-stop c.loop-cursor.invariant (sym c.begins.ensures ∙ c.loop-cursor-test.false)
+pub returns-clause-value : goal.returns-clause-value
+returns-clause-value c = Going-stop c.loop-cursor.invariant.0 (sym c.begins.ensures ∙ c.loop-cursor-test.false)
