@@ -2,3 +2,4 @@ pub mod Splitting
 pub mod Digits
 pub mod Readers
 pub mod Naming
+pub mod Exact
