@@ -3,3 +3,4 @@ pub mod Digits
 pub mod Readers
 pub mod Naming
 pub mod Exact
+pub mod Scopes
