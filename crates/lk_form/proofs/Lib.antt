@@ -4,3 +4,4 @@ pub mod Readers
 pub mod Naming
 pub mod Exact
 pub mod Scopes
+pub mod Productions

@@ -204,7 +204,7 @@ module _ (xs : List (List ℕ)) (y : List ℕ) (may : may_declare xs y ≡ true)
   different_declared different = IsDistinct-push nat_list_eq_equiv xs y different (not-true _ (and_parts _ _ may).0)
 
   pub few_declared : length (xs ++ y ∷ []) ≤ 4000
-  few_declared = let below = ltb-true (length xs) 4000 (and_parts _ _ may).1 in omega (arith, length-append xs (y ∷ []))
+  few_declared = omega (arith, length-append xs (y ∷ []), ltb-true (length xs) 4000 (and_parts (not (has_name xs y)) (nat_lt (length xs) 4000) may).1)
 
 pub names-with_variable : (scope : Scope) (v : Variable) → scope.functions ≡ [] → names_of (record scope { variables = scope.variables ++ v ∷ [] }) ≡ names_of scope ++ v.name ∷ []
 names-with_variable scope v none =
