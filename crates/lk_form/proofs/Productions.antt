@@ -1,5 +1,5 @@
 -- Each reader of the form is exact for its production.
-use Rattle.std.proofs.Common.{◌≡◌, ℕ, ◌+◌, ◌<◌, ◌≤◌, Bool, true, false, not, ◌||◌, cond, if◌then◌else◌, List, [], ◌∷◌, ◌++◌, length, Option, Some, None, is_some, refl, sym, ap, subst, ◌∙◌, arith}
+use Rattle.std.proofs.Common.{◌≡◌, ℕ, ◌+◌, ◌<◌, ◌≤◌, Bool, true, false, not, ◌||◌, cond, if◌then◌else◌, List, [], ◌∷◌, ◌++◌, length, ◌⊎◌, inl, inr, ⊎_elim, Option, Some, None, is_some, refl, sym, ap, subst, ◌∙◌, arith}
 use Rattle.std.specs.Str.{bytes_eq}
 use Rattle.std.proofs.lemmas.Bool.{true≢false, false≢true, cases_Bool, false_from_ne_true}
 use Rattle.std.proofs.lemmas.Option.{cond_some, same_Some}
@@ -17,9 +17,10 @@ use Rattle.lk_form.specs.Words.{spelling, is_name, IsNumber}
 use Rattle.lk_form.specs.Tokens.{Token}
 use Rattle.lk_form.specs.Grammar.{Scope, Begins, nothing, word, IsVariable, IsFunction, ReadsStatement, assign, lock, unlock, create, type_word}
 use Rattle.lk_form.specs.Reading as reading
-use Rattle.lk_form.specs.Reading.{Parser, ◌>>=◌, pure, given}
+use Rattle.lk_form.specs.Reading.{Parser, ◌>>=◌, pure, given, begins, takes}
+use Rattle.lk_form.proofs.Naming.{not_spelled, reserved}
 use Rattle.lk_form.proofs.Digits.{IsNumber-from, number_of-from}
-use Rattle.lk_form.proofs.Scopes.{IsFit, variable_in-from, IsVariable-from, function_in-from, IsFunction-from}
+use Rattle.lk_form.proofs.Scopes.{IsFit, allowed_variable, variable_in-from, IsVariable-from, function_in-from, IsFunction-from}
 use Rattle.lk_form.proofs.Exact.{Relation, Exact, Then, in_row, as_said, Stays, stays, pure_exact, Found, found, given_exact, Next, next, any_token_exact, Here, at, here_exact, Takes, takes_exact}
 
 -- ---- the parts of statements
@@ -153,3 +154,73 @@ module _ (scope : Scope) (fit : IsFit scope) where
 
       back : {s : Statement} {from rest : List Token} → Assignment scope s from rest → assign_parts scope s from rest
       back (assignment is equals is_number closed) = (_, _, at, (_, _, variable_at is, (tt, _, equals, (_, _, number_at is_number, (tt, _, closed, stays)))))
+
+-- ---- which statement it is
+
+is_some_if : {A : Type 0} (b : Bool) (x : A) → is_some (if b then Some x else None) ≡ b
+is_some_if true x = refl
+is_some_if false x = refl
+
+pub begins_one : (token : Token) (rest : List Token) (v : Terminal) → begins (v ∷ []) (token ∷ rest) ≡ bytes_eq token.text (spelling v)
+unfolding begins takes
+begins_one token rest v = is_some_if (bytes_eq token.text (spelling v)) (tt, rest)
+
+-- the word in front is told apart from others
+pub begins_front : {w : Terminal} {ws : List Terminal} {from rest : List Token} → Begins (w ∷ ws) from rest → (v : Terminal) → begins (v ∷ []) from ≡ bytes_eq (spelling w) (spelling v)
+begins_front {w} {ws} {rest = rest} (word {token = token} {from = from} e b) v = begins_one token from v ∙ ap (λ text. bytes_eq text (spelling v)) e
+
+chosen : {A : Type 0} (b : Bool) (x y z : A) → (if b then x else y) ≡ z → ((b ≡ true) × (x ≡ z)) ⊎ ((b ≡ false) × (y ≡ z))
+chosen true x y z e = inl (refl, e)
+chosen false x y z e = inr (refl, e)
+
+module _ (scope : Scope) (fit : IsFit scope) where
+  locked : {s : Statement} {from rest : List Token} → Then (MutexCall scope t.Lock) (λ mutex. Stays (made.Lock mutex)) s from rest → ReadsStatement scope s from rest
+  locked (_, _, mutex_call opened is closed, stays) = lock opened is closed
+
+  unlocked : {s : Statement} {from rest : List Token} → Then (MutexCall scope t.Unlock) (λ mutex. Stays (made.Unlock mutex)) s from rest → ReadsStatement scope s from rest
+  unlocked (_, _, mutex_call opened is closed, stays) = unlock opened is closed
+
+  created : {s : Statement} {from rest : List Token} → CreateCall scope s from rest → ReadsStatement scope s from rest
+  created (create_call opened is_ampersand is commas is_function closed) = create opened is_ampersand is commas is_function closed
+
+  assigned : {s : Statement} {from rest : List Token} → Assignment scope s from rest → ReadsStatement scope s from rest
+  assigned (assignment is equals is_number closed) = assign is equals is_number closed
+
+  lock_exact : Exact (reading.mutex_call scope t.Lock >>= (λ mutex. pure (made.Lock mutex))) (Then (MutexCall scope t.Lock) (λ mutex. Stays (made.Lock mutex)))
+  lock_exact = in_row (mutex_call_exact scope fit t.Lock) (λ mutex. pure_exact (made.Lock mutex))
+
+  unlock_exact : Exact (reading.mutex_call scope t.Unlock >>= (λ mutex. pure (made.Unlock mutex))) (Then (MutexCall scope t.Unlock) (λ mutex. Stays (made.Unlock mutex)))
+  unlock_exact = in_row (mutex_call_exact scope fit t.Unlock) (λ mutex. pure_exact (made.Unlock mutex))
+
+  -- the name of a variable is no word of the grammar
+  unspelled : {kind : VariableKind} {number : ℕ} {text : List ℕ} → IsVariable scope kind number text → (v : Terminal) → bytes_eq text (spelling v) ≡ false
+  unspelled {text = text} is v = not_spelled text v (allowed_variable fit is) (reserved v)
+
+  statement_sound : (s : Statement) (from rest : List Token) → reading.statement scope from ≡ Some (s, rest) → ReadsStatement scope s from rest
+  unfolding reading.statement
+  statement_sound s from rest e = ⊎_elim
+      (λ h. locked (lock_exact.sound s from rest h.1))
+      (λ h. ⊎_elim
+      (λ h. unlocked (unlock_exact.sound s from rest h.1))
+      (λ h. ⊎_elim
+      (λ h. created ((create_exact scope fit).sound s from rest h.1))
+      (λ h. assigned ((assign_exact scope fit).sound s from rest h.1))
+      (chosen (begins (t.Create ∷ []) from) _ _ _ h.1))
+      (chosen (begins (t.Unlock ∷ []) from) _ _ _ h.1))
+      (chosen (begins (t.Lock ∷ []) from) _ _ _ e)
+
+  statement_complete : {s : Statement} {from rest : List Token} → ReadsStatement scope s from rest → reading.statement scope from ≡ Some (s, rest)
+  unfolding reading.statement
+  statement_complete {s} {from} {rest} (lock opened is closed) =
+      rw (begins_front opened t.Lock) (lock_exact.complete s from rest (_, _, mutex_call opened is closed, stays))
+  statement_complete {s} {from} {rest} (unlock opened is closed) =
+      rw (begins_front opened t.Lock, begins_front opened t.Unlock) (unlock_exact.complete s from rest (_, _, mutex_call opened is closed, stays))
+  statement_complete {s} {from} {rest} (create opened is_ampersand is commas is_function closed) =
+      rw (begins_front opened t.Lock, begins_front opened t.Unlock, begins_front opened t.Create)
+      ((create_exact scope fit).complete s from rest (create_call opened is_ampersand is commas is_function closed))
+  statement_complete {s} {rest = rest} (assign {name = name} {from = from} is equals is_number closed) =
+      rw (begins_one name from t.Lock, unspelled is t.Lock, begins_one name from t.Unlock, unspelled is t.Unlock, begins_one name from t.Create, unspelled is t.Create)
+      ((assign_exact scope fit).complete s (name ∷ from) rest (assignment is equals is_number closed))
+
+  pub statement_exact : Exact (reading.statement scope) (ReadsStatement scope)
+  statement_exact = record { sound = statement_sound; complete = λ s from rest r. statement_complete r }

@@ -135,6 +135,11 @@ IsVariable-from {scope} {kind} {number} {text} e = option_and_then_some (λ n. i
           same_kind = kinds_from v.kind kind p.0;
         }
 
+-- the name of a variable may be declared
+pub allowed_variable : {scope : Scope} {kind : VariableKind} {number : ℕ} {text : List ℕ} → IsFit scope → IsVariable scope kind number text → is_name text ≡ true
+allowed_variable {scope} {kind} {number} {text} fit is =
+    at_place (λ n. is_name n ≡ true) (names_of scope) number text fit.allowed (named_variable scope number is.variable is.numbered ∙ ap Some is.named)
+
 pub function_in-from : {scope : Scope} {number : ℕ} {text : List ℕ} → IsFit scope → IsFunction scope number text → function_in scope text ≡ Some number
 unfolding function_in
 function_in-from {scope} {number} {text} fit is =
