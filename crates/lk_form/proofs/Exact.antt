@@ -1,5 +1,5 @@
 -- A reader is exact for a relation where it reads just what the relation says. Readers in a row are exact for relations in a row.
-use Rattle.std.proofs.Common.{◌≡◌, ℕ, Bool, true, false, cond, if◌then◌else◌, List, [], ◌∷◌, Option, Some, None, refl, sym, ap, subst, ◌∙◌}
+use Rattle.std.proofs.Common.{◌≡◌, ℕ, Bool, true, false, cond, if◌then◌else◌, List, [], ◌∷◌, ◌⊎◌, inl, inr, Option, Some, None, refl, sym, ap, subst, ◌∙◌}
 use Rattle.std.specs.Option.{option_map}
 use Rattle.std.specs.Str.{bytes_eq}
 use Rattle.std.proofs.lemmas.Bool.{true≢false}
@@ -20,11 +20,16 @@ pub record Exact {A : Type 0} (p : Parser A) (R : Relation A) : Type 0 where
   pub sound : (a : A) (from rest : List Token) → p from ≡ Some (a, rest) → R a from rest
   pub complete : (a : A) (from rest : List Token) → R a from rest → p from ≡ Some (a, rest)
 
+-- which way a test went
+pub chosen : {A : Type 0} (b : Bool) (x y z : A) → (if b then x else y) ≡ z → ((b ≡ true) × (x ≡ z)) ⊎ ((b ≡ false) × (y ≡ z))
+chosen true x y z e = inl (refl, e)
+chosen false x y z e = inr (refl, e)
+
 -- one after the other
 abbrev pub Then : {A B : Type 0} → Relation A → (A → Relation B) → Relation B
 Then {A} R S b from rest = (a : A) × (mid : List Token) × R a from mid × S a b mid rest
 
-step_parts : {A B : Type 0} (read : Option (A × List Token)) (q : A → Parser B) (b : B) (rest : List Token) → and_then read q ≡ Some (b, rest)
+pub step_parts : {A B : Type 0} (read : Option (A × List Token)) (q : A → Parser B) (b : B) (rest : List Token) → and_then read q ≡ Some (b, rest)
     → (a : A) × (mid : List Token) × (read ≡ Some (a, mid)) × (q a mid ≡ Some (b, rest))
 step_parts None q b rest e = absurd cc
 step_parts (Some p) q b rest e = (p.0, p.1, refl, e)

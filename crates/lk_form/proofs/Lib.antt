@@ -5,3 +5,4 @@ pub mod Naming
 pub mod Exact
 pub mod Scopes
 pub mod Productions
+pub mod Repetition

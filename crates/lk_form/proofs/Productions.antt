@@ -21,7 +21,7 @@ use Rattle.lk_form.specs.Reading.{Parser, ◌>>=◌, pure, given, begins, takes}
 use Rattle.lk_form.proofs.Naming.{not_spelled, reserved}
 use Rattle.lk_form.proofs.Digits.{IsNumber-from, number_of-from}
 use Rattle.lk_form.proofs.Scopes.{IsFit, allowed_variable, variable_in-from, IsVariable-from, function_in-from, IsFunction-from}
-use Rattle.lk_form.proofs.Exact.{Relation, Exact, Then, in_row, as_said, Stays, stays, pure_exact, Found, found, given_exact, Next, next, any_token_exact, Here, at, here_exact, Takes, takes_exact}
+use Rattle.lk_form.proofs.Exact.{Relation, Exact, chosen, Then, in_row, as_said, Stays, stays, pure_exact, Found, found, given_exact, Next, next, any_token_exact, Here, at, here_exact, Takes, takes_exact}
 
 -- ---- the parts of statements
 
@@ -168,10 +168,6 @@ begins_one token rest v = is_some_if (bytes_eq token.text (spelling v)) (tt, res
 -- the word in front is told apart from others
 pub begins_front : {w : Terminal} {ws : List Terminal} {from rest : List Token} → Begins (w ∷ ws) from rest → (v : Terminal) → begins (v ∷ []) from ≡ bytes_eq (spelling w) (spelling v)
 begins_front {w} {ws} {rest = rest} (word {token = token} {from = from} e b) v = begins_one token from v ∙ ap (λ text. bytes_eq text (spelling v)) e
-
-chosen : {A : Type 0} (b : Bool) (x y z : A) → (if b then x else y) ≡ z → ((b ≡ true) × (x ≡ z)) ⊎ ((b ≡ false) × (y ≡ z))
-chosen true x y z e = inl (refl, e)
-chosen false x y z e = inr (refl, e)
 
 module _ (scope : Scope) (fit : IsFit scope) where
   locked : {s : Statement} {from rest : List Token} → Then (MutexCall scope t.Lock) (λ mutex. Stays (made.Lock mutex)) s from rest → ReadsStatement scope s from rest
