@@ -6,3 +6,4 @@ pub mod Exact
 pub mod Scopes
 pub mod Productions
 pub mod Repetition
+pub mod Bodies

@@ -189,7 +189,7 @@ module _ (scope : Scope) (fit : IsFit scope) where
   unlock_exact = in_row (mutex_call_exact scope fit t.Unlock) (λ mutex. pure_exact (made.Unlock mutex))
 
   -- the name of a variable is no word of the grammar
-  unspelled : {kind : VariableKind} {number : ℕ} {text : List ℕ} → IsVariable scope kind number text → (v : Terminal) → bytes_eq text (spelling v) ≡ false
+  pub unspelled : {kind : VariableKind} {number : ℕ} {text : List ℕ} → IsVariable scope kind number text → (v : Terminal) → bytes_eq text (spelling v) ≡ false
   unspelled {text = text} is v = not_spelled text v (allowed_variable fit is) (reserved v)
 
   statement_sound : (s : Statement) (from rest : List Token) → reading.statement scope from ≡ Some (s, rest) → ReadsStatement scope s from rest
