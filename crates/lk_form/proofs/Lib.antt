@@ -7,3 +7,4 @@ pub mod Scopes
 pub mod Productions
 pub mod Repetition
 pub mod Bodies
+pub mod Declaring

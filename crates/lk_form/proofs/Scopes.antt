@@ -220,7 +220,7 @@ names-with_function scope f =
     rw (map_push (λ (f : Function). f.name) scope.functions f) (sym (append_assoc (map (λ (v : Variable). v.name) scope.variables) (map (λ (f : Function). f.name) scope.functions) (f.name ∷ [])))
 
 -- fit names and one more that may be declared
-fit_more : (scope next : Scope) (name : List ℕ) → names_of next ≡ names_of scope ++ name ∷ [] → IsFit scope → may_declare (names_of scope) name ≡ true → is_name name ≡ true → IsFit next
+pub fit_more : (scope next : Scope) (name : List ℕ) → names_of next ≡ names_of scope ++ name ∷ [] → IsFit scope → may_declare (names_of scope) name ≡ true → is_name name ≡ true → IsFit next
 fit_more scope next name same fit may named = record {
   different = rw same (different_declared (names_of scope) name may fit.different);
   allowed = rw same (all_append _ (names_of scope) (name ∷ []) fit.allowed (named, tt));
