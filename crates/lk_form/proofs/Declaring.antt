@@ -97,7 +97,7 @@ variable_declaration_exact = as_said
     back : {v : Variable} {from rest : List Token} → ReadsVariable v from rest → variable_parts v from rest
     back (variable kind typed is closed) = (kind, _, typed, (_, _, name_at is, (tt, _, closed, stays)))
 
-abbrev VariableStep : Scope → Relation Scope
+abbrev pub VariableStep : Scope → Relation Scope
 VariableStep scope = Then ReadsVariable (λ v. Found (reading.with_variable scope v))
 
 -- the scope with more variables
@@ -158,7 +158,7 @@ one_variable_exact scope before = in_row variable_declaration_exact (λ v. given
 variable_step_shorter : (scope now : Scope) (from mid : List Token) → VariableStep scope now from mid → length mid < length from
 variable_step_shorter scope now from mid (v, behind, r, found e) = variable_shorter r
 
-abbrev VariablesFrom : Scope → Relation Scope
+abbrev pub VariablesFrom : Scope → Relation Scope
 VariablesFrom = Repeats VariableStep reading.begins_function
 
 -- what the repetition has read
@@ -229,7 +229,7 @@ function_definition_exact scope fit = as_said
     back : {f : Function} {from rest : List Token} → ReadsFunction scope f from rest → function_parts scope f from rest
     back (thread result is opened is_parameter closed body) = (tt, _, result, (_, _, name_at is, (tt, _, opened, (_, _, name_at is_parameter, (tt, _, closed, (_, _, body, stays))))))
 
-abbrev FunctionStep : Scope → Relation Scope
+abbrev pub FunctionStep : Scope → Relation Scope
 FunctionStep scope = Then (ReadsFunction scope) (λ f. Found (reading.with_function scope f))
 
 abbrev pub with_functions : Scope → List Function → Scope
@@ -267,7 +267,7 @@ a_function_next : {scope : Scope} {f : Function} {from rest : List Token} → Re
 unfolding reading.ends_functions
 a_function_next (thread result is opened is_parameter closed body) = ap not (begins_front result t.Void)
 
-abbrev FunctionsFrom : Scope → Relation Scope
+abbrev pub FunctionsFrom : Scope → Relation Scope
 FunctionsFrom = Repeats FunctionStep reading.ends_functions
 
 pub listed_functions : {scope now : Scope} {from rest : List Token} → FunctionsFrom scope now from rest
@@ -289,8 +289,28 @@ function_names-moved : (scope : Scope) (f : Function) (fs : List Function) → n
 function_names-moved scope f fs =
     sym (append_assoc (names_of scope) (f.name ∷ []) (function_names fs)) ∙ ap (λ names. names ++ function_names fs) (sym (names-with_function scope f))
 
+abbrev pub scope_of : List Variable → List Function → Scope
+scope_of variables functions = record { variables = variables; functions = functions }
+
 pub repeated_functions : {variables : List Variable} {above fs : List Function} {from rest : List Token} → ReadsFunctions variables above fs from rest
-    → let scope = (record { variables = variables; functions = above }) in AreDifferent (names_of scope ++ function_names fs) → length (names_of scope ++ function_names fs) ≤ 4000
-    → reading.ends_functions rest ≡ true → FunctionsFrom scope (with_functions scope fs) from rest
-repeated_functions {variables} {above} (none {from = from}) different few stop = ?
-repeated_functions {variables} {above} {rest = rest} (more {first = f} {others = fs} {from = from} r rs) different few stop = ?
+    → AreDifferent (names_of (scope_of variables above) ++ function_names fs) → length (names_of (scope_of variables above) ++ function_names fs) ≤ 4000
+    → reading.ends_functions rest ≡ true → FunctionsFrom (scope_of variables above) (scope_of variables (above ++ fs)) from rest
+repeated_functions {variables} {above} (none {from = from}) different few stop =
+    subst (λ fs. FunctionsFrom (scope_of variables above) (scope_of variables fs) from from) (sym (append-nil above)) (done stop)
+repeated_functions {variables} {above} {rest = rest} (more {first = f} {others = fs} {from = from} r rs) different few stop =
+    let scope = scope_of variables above in
+    let moved = function_names-moved scope f fs in
+    let added = with_function-from scope f (may_declare-from (names_of scope) f.name (function_names fs) different few) in
+    let behind = repeated_functions rs (subst AreDifferent moved different) (subst (λ names. length names ≤ 4000) moved few) stop in
+    subst (λ all. FunctionsFrom scope (scope_of variables all) from rest) (append_assoc above (f ∷ []) fs)
+    (again (a_function_next r) (f, _, r, found added) (function_shorter r) behind)
+
+pub functions_sound : (scope now : Scope) (from rest : List Token) → IsFit scope → reading.functions scope from ≡ Some (now, rest) → FunctionsFrom scope now from rest × IsFit now
+unfolding reading.functions
+functions_sound scope now from rest fit e =
+    repeat_sound reading.one_more_function FunctionStep reading.ends_functions IsFit one_function_exact functions_more function_step_shorter scope now from rest fit e
+
+pub functions_complete : {scope now : Scope} {from rest : List Token} → IsFit scope → FunctionsFrom scope now from rest → reading.functions scope from ≡ Some (now, rest)
+unfolding reading.functions
+functions_complete fit r =
+    repeat_complete reading.one_more_function FunctionStep reading.ends_functions IsFit one_function_exact functions_more function_step_shorter fit r

@@ -40,6 +40,16 @@ in_row {p = p} {q} x y = record {
   complete = λ b from rest r. ap (λ read. and_then read q) (x.complete r.0 from r.1 r.2) ∙ (y r.0).complete b r.1 rest r.3;
 }
 
+-- the same, where the second is exact only behind what the first reads
+pub in_row_under : {A B : Type 0} {p : Parser A} {q : A → Parser B} {R : Relation A} {S : A → Relation B} → Exact p R
+    → ((a : A) (from mid : List Token) → R a from mid → Exact (q a) (S a)) → Exact (p >>= q) (Then R S)
+in_row_under {p = p} {q} x y = record {
+  sound = λ b from rest e.
+      let s = step_parts (p from) q b rest e in
+      let r = x.sound s.0 from s.1 s.2 in (s.0, s.1, r, (y s.0 from s.1 r).sound b s.1 rest s.3);
+  complete = λ b from rest r. ap (λ read. and_then read q) (x.complete r.0 from r.1 r.2) ∙ (y r.0 from r.1 r.2).complete b r.1 rest r.3;
+}
+
 -- the same, said in other words
 pub as_said : {A : Type 0} {p : Parser A} {R S : Relation A} → Exact p R → ((a : A) (from rest : List Token) → R a from rest → S a from rest)
     → ((a : A) (from rest : List Token) → S a from rest → R a from rest) → Exact p S

@@ -8,3 +8,4 @@ pub mod Productions
 pub mod Repetition
 pub mod Bodies
 pub mod Declaring
+pub mod Whole
