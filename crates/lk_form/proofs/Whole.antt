@@ -1,8 +1,10 @@
 -- The reader of a program is exact, and so a source has at most one program.
 use Rattle.std.proofs.Common.{◌≡◌, ℕ, ◌+◌, ◌<◌, ◌≤◌, Bool, true, false, not, ◌&&◌, ◌||◌, if◌then◌else◌, List, [], ◌∷◌, ◌++◌, length, map, Option, Some, None, All, refl, sym, ap, subst, ◌∙◌, arith, nat_le}
 use Rattle.std.specs.List.{list_all, IsDistinct}
+use Rattle.std.specs.Str.{bytes_eq}
+use Rattle.std.proofs.lemmas.Slice.Eq.{bytes_eq-Decides}
 use Rattle.std.proofs.lemmas.Bool.{and_parts, and_from, or_left, or_right, not-true, not_from_false, leb-true, le-leb}
-use Rattle.std.proofs.lemmas.List.{append-nil}
+use Rattle.std.proofs.lemmas.List.{append-nil, length-append}
 use Rattle.std.proofs.lemmas.List.Elements.{All-weaker}
 use Rattle.std.proofs.lemmas.List.Sums.{AllPass-from_list_all, list_all-from_AllPass}
 use Rattle.std.proofs.lemmas.Option.{cond_some}
@@ -13,6 +15,7 @@ use Rattle.lk_form.specs.declared.tree.Program.{Program}
 use Rattle.lk_form.specs.declared.tree.Variable.{Variable}
 use Rattle.lk_form.specs.declared.tree.Function.{Function}
 use Rattle.lk_form.specs.declared.tree.Statement.{Statement}
+use Rattle.lk_form.specs.Words.{spelling}
 use Rattle.lk_form.specs.Tokens.{Token}
 use Rattle.lk_form.specs.Grammar.{Scope, Begins, word, ReadsBody, ReadsVariables, ReadsFunctions, none, more, thread, Spells}
 use Rattle.lk_form.specs.Form.{file_names, statement_count}
@@ -106,3 +109,42 @@ meant {program} (above, threads, (vars, before), (scope, heading, (funs, fit), (
     let f = listed_functions funs in
     let same : scope ≡ scope_of v.0 f.0 = f.1 ∙ ap (λ s. with_functions s f.0) v.1 in
     at_scope program main v.0 f.0 scope same v.2 (subst (λ s. ReadsFunctions s.variables s.functions f.0 threads heading) v.1 f.2) begun statements fit e
+
+-- ---- what is meant is read
+
+main_next : {from rest : List Token} → Begins (t.Int ∷ t.Main ∷ t.Open ∷ t.Void ∷ t.Close ∷ []) from rest → begins (t.Int ∷ t.Main ∷ []) from ≡ true
+unfolding begins takes
+main_next (word {token = first} is_int (word {token = second} is_main others)) =
+    rw ((bytes_eq-Decides first.text (spelling t.Int)).1 is_int, (bytes_eq-Decides second.text (spelling t.Main)).1 is_main) refl
+
+-- behind the variables a function comes, a thread's or `main`
+function_next : {vs : List Variable} {above fs : List Function} {from heading body : List Token} → ReadsFunctions vs above fs from heading
+    → Begins (t.Int ∷ t.Main ∷ t.Open ∷ t.Void ∷ t.Close ∷ []) heading body → reading.begins_function from ≡ true
+unfolding reading.begins_function
+function_next none begun = or_right _ _ (main_next begun)
+function_next (more (thread result is opened is_parameter closed body) others) begun = or_left _ _ (begins_front result t.Void)
+
+no_function_next : {from rest : List Token} → Begins (t.Int ∷ t.Main ∷ t.Open ∷ t.Void ∷ t.Close ∷ []) from rest → reading.ends_functions from ≡ true
+unfolding reading.ends_functions
+no_function_next begun = ap not (begins_front begun t.Void)
+
+finished-from : (program : Program) {tokens : List Token} → Means tokens program → reading.finished (scope_of program.variables program.functions) program.main ≡ Some program
+unfolding reading.finished
+finished-from program m =
+    ap (λ b. if b then Some program else None)
+    (and_from _ _ (differ-from (scope_of program.variables program.functions) m.apart) (le-leb (statement_count program) 4000 m.few_statements))
+
+pub read_back : {program : Program} {tokens : List Token} → Means tokens program → program_parts program tokens []
+read_back {program} {tokens} m =
+    let s = m.spelled in
+    let vs = program.variables in
+    let fs = program.functions in
+    let above = scope_of vs [] in
+    let scope = scope_of vs fs in
+    let named : names_of above ++ function_names fs ≡ file_names program = ap (λ names. names ++ function_names fs) (append-nil (variable_names vs)) in
+    let vars = repeated_variables s.variables (scope_of [] []) refl (different_front (variable_names vs) (function_names fs) m.different)
+    (omega (arith, m.few_names, length-append (variable_names vs) (function_names fs))) (function_next s.functions s.heading) in
+    let before = (variables_sound (scope_of [] []) above tokens s.threads nothing_yet (variables_complete nothing_yet vars)).1 in
+    let funs = repeated_functions s.functions (subst AreDifferent (sym named) m.different) (subst (λ names. length names ≤ 4000) (sym named) m.few_names) (no_function_next s.heading) in
+    let fit = (functions_sound above scope s.threads s.main before.fit (functions_complete before.fit funs)).1 in
+    (above, s.threads, (vars, before), (scope, s.main, (funs, fit), (tt, s.body, s.heading, (program.main, [], s.statements, (tt, [], ended, found (finished-from program m))))))
