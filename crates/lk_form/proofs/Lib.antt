@@ -9,3 +9,4 @@ pub mod Repetition
 pub mod Bodies
 pub mod Declaring
 pub mod Whole
+pub mod Resolving

@@ -7,7 +7,7 @@ use Rattle.std.proofs.lemmas.Bool.{and_parts, and_from, or_left, or_right, not-t
 use Rattle.std.proofs.lemmas.List.{append-nil, length-append}
 use Rattle.std.proofs.lemmas.List.Elements.{All-weaker}
 use Rattle.std.proofs.lemmas.List.Sums.{AllPass-from_list_all, list_all-from_AllPass}
-use Rattle.std.proofs.lemmas.Option.{cond_some}
+use Rattle.std.proofs.lemmas.Option.{cond_some, some_pair_parts}
 use Rattle.lk_base.specs.Files.{has_name, AreDifferent}
 use Rattle.lk_form.specs.declared.terminal.Terminal.{Terminal}
 use Rattle.lk_form.specs.declared.terminal.Terminal.TheVariants as t
@@ -16,11 +16,12 @@ use Rattle.lk_form.specs.declared.tree.Variable.{Variable}
 use Rattle.lk_form.specs.declared.tree.Function.{Function}
 use Rattle.lk_form.specs.declared.tree.Statement.{Statement}
 use Rattle.lk_form.specs.Words.{spelling}
-use Rattle.lk_form.specs.Tokens.{Token}
+use Rattle.lk_form.specs.Tokens.{Token, Splits, start_of}
 use Rattle.lk_form.specs.Grammar.{Scope, Begins, word, ReadsBody, ReadsVariables, ReadsFunctions, none, more, thread, Spells}
-use Rattle.lk_form.specs.Form.{file_names, statement_count}
+use Rattle.lk_form.specs.Form.{file_names, statement_count, IsOfForm}
 use Rattle.lk_form.specs.Reading as reading
 use Rattle.lk_form.specs.Reading.{Parser, begins, takes, names_of, program_of, parameters_differ}
+use Rattle.lk_form.proofs.Splitting.{one_split}
 use Rattle.lk_form.proofs.Scopes.{IsFit, different_front}
 use Rattle.lk_form.proofs.Exact.{Relation, Exact, Then, in_row, in_row_under, as_said, Found, found, given_exact, Takes, takes_exact, Ended, ended, end_exact}
 use Rattle.lk_form.proofs.Productions.{begins_front}
@@ -148,3 +149,25 @@ read_back {program} {tokens} m =
     let funs = repeated_functions s.functions (subst AreDifferent (sym named) m.different) (subst (λ names. length names ≤ 4000) (sym named) m.few_names) (no_function_next s.heading) in
     let fit = (functions_sound above scope s.threads s.main before.fit (functions_complete before.fit funs)).1 in
     (above, s.threads, (vars, before), (scope, s.main, (funs, fit), (tt, s.body, s.heading, (program.main, [], s.statements, (tt, [], ended, found (finished-from program m))))))
+
+pub program_sound : (program : Program) (tokens rest : List Token) → reading.program tokens ≡ Some (program, rest) → Means tokens program
+program_sound program tokens rest e = meant (program_exact.sound program tokens rest e)
+
+pub program_complete : (program : Program) (tokens : List Token) → Means tokens program → reading.program tokens ≡ Some (program, [])
+program_complete program tokens m = program_exact.complete program tokens [] (read_back m)
+
+-- ---- from a source
+
+pub IsOfForm-from : {own : ℕ} {source : List ℕ} {program : Program} (tokens rest : List Token) → Splits (start_of own) source tokens → reading.program tokens ≡ Some (program, rest) → IsOfForm own source program
+IsOfForm-from {program = program} tokens rest split e =
+    let m = program_sound program tokens rest e in
+    record { tokens = tokens; split = split; spelled = m.spelled; different = m.different; apart = m.apart; few_names = m.few_names; few_statements = m.few_statements }
+
+pub read-from : {own : ℕ} {source : List ℕ} {program : Program} (tokens : List Token) → Splits (start_of own) source tokens → IsOfForm own source program → reading.program tokens ≡ Some (program, [])
+read-from {program = program} tokens split form =
+    program_complete program tokens (subst (λ tokens. Means tokens program) (one_split form.split split)
+    (record { spelled = form.spelled; different = form.different; apart = form.apart; few_names = form.few_names; few_statements = form.few_statements }))
+
+pub one_program : (own : ℕ) (source : List ℕ) (a b : Program) → IsOfForm own source a → IsOfForm own source b → a ≡ b
+one_program own source a b form_a form_b =
+    (some_pair_parts a b [] [] (sym (read-from form_b.tokens form_b.split form_a) ∙ read-from form_b.tokens form_b.split form_b)).0
