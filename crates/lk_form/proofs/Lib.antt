@@ -1,0 +1,12 @@
+pub mod Splitting
+pub mod Digits
+pub mod Readers
+pub mod Naming
+pub mod Exact
+pub mod Scopes
+pub mod Productions
+pub mod Repetition
+pub mod Bodies
+pub mod Declaring
+pub mod Whole
+pub mod Resolving

@@ -1,0 +1,11 @@
+use Rattle.std.proofs.Common.{length}
+use Rattle.lk_form.specs.Reading.{one_more_function, ends_functions, functions}
+use Rattle.lk_form.proofs.Readers.{Going}
+use Rattle.lk_form.proofs.program.functions.Given as goal
+
+abbrev pub invariant-loop-alloc : goal.invariant-loop-alloc
+invariant-loop-alloc l =
+    Going one_more_function ends_functions (functions l.initial.declared l.initial.cursor) l.declared l.cursor
+
+abbrev pub decreases-loop-alloc : goal.decreases-loop-alloc
+decreases-loop-alloc l = length l.cursor

@@ -1,0 +1,55 @@
+//! The reader of the first form: a straight-line subset of C with threads and mutexes.
+//!
+//! A source of the form declares variables, then thread functions, then `main`. Its statements write
+//! numbers to variables, lock and unlock mutexes, and start threads.
+#![tactic(auto)]
+
+ghost use Rattle.std.specs.Prelude.{ℕ, List, ◌≡◌, ◌≤◌, length, IfOk, IfSome, MatchOption};
+ghost use Rattle.lk_form.specs.declared.tree.Program.{Program};
+ghost use Rattle.lk_form.specs.Form.{IsOfForm, AreResolved};
+
+mod cursor;
+mod declarations;
+mod fault;
+mod lexeme;
+mod lexer;
+mod names;
+mod program;
+mod statements;
+mod terminal;
+mod tree;
+
+use crate::cursor::Cursor;
+use crate::fault::Fault;
+use lk_base::NoMemory;
+use std::alloc::Global;
+pub use tree::{Function, Program, Statement, Variable, VariableKind};
+
+/// The program that a source is, or nothing where it is not of the form. The source is the file of the
+/// number `own`, and has at most 1,048,576 bytes.
+pub fn read_program(alloc: Global, own: u32, source: &[u8]) -> Result<Option<Program>, NoMemory>
+    requires { length source.now ≤ 1048576 }
+    ensures exact { IfOk result (λ found. MatchOption found
+        ((program : Program) → IsOfForm own source.now program → ⊥)
+        (IsOfForm own source.now)) }
+    ensures resolved { IfOk result (λ found. IfSome found AreResolved) }
+{
+    let Some(lexemes) = lexer::tokens(alloc, own, source)? else {
+        return Ok(None);
+    };
+    match program::program(alloc, &mut Cursor::new(&lexemes)) {
+        Ok(program) => Ok(Some(program)),
+        Err(Fault::Form) => Ok(None),
+        Err(Fault::NoMemory) => Err(NoMemory),
+    }
+}
+
+/// At most one program has a given source.
+pub fn one_program()
+    ensures { (own : ℕ) (source : List ℕ) (a b : Program) → IsOfForm own source a → IsOfForm own source b → a ≡ b }
+{}
+
+/// The numbers of a program name variables of the right kinds and functions above.
+pub fn numbers_are_resolved()
+    ensures { (own : ℕ) (source : List ℕ) (program : Program) → IsOfForm own source program → AreResolved program }
+{}
