@@ -1,18 +1,15 @@
 -- The readers of variables and functions are exact.
-use Rattle.std.proofs.Common.{◌≡◌, ℕ, ◌+◌, ◌<◌, ◌≤◌, Bool, true, false, not, ◌||◌, cond, if◌then◌else◌, List, [], ◌∷◌, ◌++◌, length, map, ◌⊎◌, inl, inr, ⊎_elim, Option, Some, None, is_some, refl, sym, ap, subst, ◌∙◌, arith}
-use Rattle.std.specs.List.{AllByRecursion}
+use Rattle.std.proofs.Common.{◌≡◌, ℕ, ◌<◌, ◌≤◌, Bool, true, false, not, if◌then◌else◌, List, [], ◌∷◌, ◌++◌, length, map, ⊎_elim, Some, None, is_some, refl, sym, ap, subst, ◌∙◌, arith}
 use Rattle.std.specs.Str.{bytes_eq}
-use Rattle.std.proofs.lemmas.Bool.{true≢false, false≢true, or_from, not_from_true, not_from_false}
+use Rattle.std.proofs.lemmas.Bool.{or_from}
 use Rattle.std.proofs.lemmas.List.{append-nil, append_assoc}
-use Rattle.std.proofs.lemmas.Option.{cond_some, same_Some}
+use Rattle.std.proofs.lemmas.Option.{cond_some}
 use Rattle.lk_base.specs.Files.{AreDifferent}
-use Rattle.lk_form.specs.declared.terminal.Terminal.{Terminal}
 use Rattle.lk_form.specs.declared.terminal.Terminal.TheVariants as t
 use Rattle.lk_form.specs.declared.tree.Variable.{Variable}
 use Rattle.lk_form.specs.declared.tree.VariableKind.{VariableKind}
 use Rattle.lk_form.specs.declared.tree.VariableKind.TheVariants as kind
 use Rattle.lk_form.specs.declared.tree.Function.{Function}
-use Rattle.lk_form.specs.declared.tree.Statement.{Statement}
 use Rattle.lk_form.specs.Words.{spelling, is_name}
 use Rattle.lk_form.specs.Tokens.{Token}
 use Rattle.lk_form.specs.Grammar.{Scope, Begins, nothing, word, ReadsBody, type_word, ReadsVariable, variable, ReadsVariables, none, more, ReadsFunction, thread, ReadsFunctions}
@@ -22,7 +19,7 @@ use Rattle.lk_form.proofs.Naming.{not_spelled, reserved}
 use Rattle.lk_form.proofs.Scopes.{IsFit, fit_more, names-with_variable, names-with_function, may_declare-from}
 use Rattle.lk_form.proofs.Exact.{Relation, Exact, Then, chosen, in_row, as_said, Stays, stays, pure_exact, Found, found, given_exact, Next, next, any_token_exact, Takes, takes_exact}
 use Rattle.lk_form.proofs.Repetition.{Repeats, done, again, repeat_sound, repeat_complete}
-use Rattle.lk_form.proofs.Productions.{begins_one, begins_front}
+use Rattle.lk_form.proofs.Productions.{begins_front}
 use Rattle.lk_form.proofs.Bodies.{Begins-length, body_exact, body_shorter}
 
 -- ---- types

@@ -1,21 +1,15 @@
 -- Each reader of the form is exact for its production.
-use Rattle.std.proofs.Common.{◌≡◌, ℕ, ◌+◌, ◌<◌, ◌≤◌, Bool, true, false, not, ◌||◌, cond, if◌then◌else◌, List, [], ◌∷◌, ◌++◌, length, ◌⊎◌, inl, inr, ⊎_elim, Option, Some, None, is_some, refl, sym, ap, subst, ◌∙◌, arith}
+use Rattle.std.proofs.Common.{◌≡◌, ℕ, Bool, true, false, if◌then◌else◌, List, [], ◌∷◌, ⊎_elim, Some, None, is_some, refl, ap, ◌∙◌}
 use Rattle.std.specs.Str.{bytes_eq}
-use Rattle.std.proofs.lemmas.Bool.{true≢false, false≢true, cases_Bool, false_from_ne_true}
-use Rattle.std.proofs.lemmas.Option.{cond_some, same_Some}
-use Rattle.std.proofs.lemmas.Slice.Eq.{bytes_eq-Decides}
-use Rattle.lk_base.specs.declared.spot.Spot.{Spot}
 use Rattle.lk_form.specs.declared.terminal.Terminal.{Terminal}
 use Rattle.lk_form.specs.declared.terminal.Terminal.TheVariants as t
-use Rattle.lk_form.specs.declared.tree.Variable.{Variable}
 use Rattle.lk_form.specs.declared.tree.VariableKind.{VariableKind}
 use Rattle.lk_form.specs.declared.tree.VariableKind.TheVariants as kind
-use Rattle.lk_form.specs.declared.tree.Function.{Function}
 use Rattle.lk_form.specs.declared.tree.Statement.{Statement}
 use Rattle.lk_form.specs.declared.tree.Statement.TheVariants as made
-use Rattle.lk_form.specs.Words.{spelling, is_name, IsNumber}
+use Rattle.lk_form.specs.Words.{spelling, IsNumber}
 use Rattle.lk_form.specs.Tokens.{Token}
-use Rattle.lk_form.specs.Grammar.{Scope, Begins, nothing, word, IsVariable, IsFunction, ReadsStatement, assign, lock, unlock, create, type_word}
+use Rattle.lk_form.specs.Grammar.{Scope, Begins, nothing, word, IsVariable, IsFunction, ReadsStatement, assign, lock, unlock, create}
 use Rattle.lk_form.specs.Reading as reading
 use Rattle.lk_form.specs.Reading.{Parser, ◌>>=◌, pure, given, begins, takes}
 use Rattle.lk_form.proofs.Naming.{not_spelled, reserved}

@@ -1,5 +1,5 @@
 -- How the reader's functions fail together, and where the tokens end.
-use Rattle.std.proofs.Common.{◌≡◌, ℕ, zero, suc, if◌then◌else◌, ◌+◌, ◌<◌, ◌≤◌, Bool, true, false, List, [], ◌∷◌, ◌++◌, length, drop, get_or, Option, Some, None, Result, Ok, Err, refl, sym, ap, subst, ◌∙◌, arith}
+use Rattle.std.proofs.Common.{◌≡◌, ℕ, zero, suc, if◌then◌else◌, ◌<◌, ◌≤◌, Bool, true, false, List, [], ◌∷◌, ◌++◌, length, drop, Option, Some, None, Result, Err, refl, sym, ap, subst, ◌∙◌, arith}
 use Rattle.std.proofs.lemmas.List.{drop_all, length-drop}
 use Rattle.lk_base.specs.declared.name.NameFault.{NameFault}
 use Rattle.lk_base.specs.declared.name.NameFault.TheVariants as names
@@ -7,7 +7,7 @@ use Rattle.lk_form.specs.declared.fault.Fault.{Fault}
 use Rattle.lk_form.specs.declared.fault.Fault.TheVariants.{Form, NoMemory}
 use Rattle.lk_form.specs.declared.terminal.Terminal.{Terminal}
 use Rattle.lk_form.specs.Tokens.{Token}
-use Rattle.lk_form.specs.Reading.{GivesBy, Moves, Tells, fault_of, takes, begins, any_token, Parser, and_then, pure, one_more, repeat, repeat_from}
+use Rattle.lk_form.specs.Reading.{GivesBy, Moves, fault_of, takes, begins, any_token, Parser, and_then, pure, one_more, repeat, repeat_from}
 
 -- a call that passes on why a reader read nothing
 pub failed : {X Y A B : Type 0} (view : X → A) (other : Y → B) (read : Option (A × List Token)) (whole : Option (B × List Token)) (r : Result Y Fault) (e : Fault)

@@ -1,8 +1,8 @@
 -- A repetition is exact where its step is.
-use Rattle.std.proofs.Common.{◌≡◌, ℕ, zero, suc, ◌+◌, ◌<◌, ◌≤◌, Bool, true, false, if◌then◌else◌, List, [], ◌∷◌, ◌++◌, length, Option, Some, None, refl, sym, ap, subst, ◌∙◌, ⊎_elim, arith}
+use Rattle.std.proofs.Common.{◌≡◌, ℕ, zero, suc, ◌<◌, Bool, true, false, List, length, Some, refl, subst, ⊎_elim, arith}
 use Rattle.std.proofs.lemmas.Option.{some_pair_parts}
 use Rattle.lk_form.specs.Tokens.{Token}
-use Rattle.lk_form.specs.Reading.{Parser, and_then, repeat, repeat_from}
+use Rattle.lk_form.specs.Reading.{Parser, repeat, repeat_from}
 use Rattle.lk_form.proofs.Exact.{Relation, Exact, chosen, step_parts}
 
 -- one step after another, each of which takes a token, until the tokens are such that it stops

@@ -1,5 +1,5 @@
 -- What a program's numbers name.
-use Rattle.std.proofs.Common.{◌≡◌, ℕ, zero, suc, ◌+◌, ◌<◌, ◌≤◌, List, [], ◌∷◌, ◌++◌, length, map, slice_get, Option, Some, None, All, zero-add, refl, sym, ap, subst, ◌∙◌, arith}
+use Rattle.std.proofs.Common.{◌≡◌, ℕ, zero, suc, ◌+◌, List, [], ◌∷◌, ◌++◌, length, map, slice_get, Some, All, zero-add, subst, arith}
 use Rattle.std.proofs.lemmas.List.{length-append, length-map}
 use Rattle.std.proofs.lemmas.List.Elements.{All-nil, All-cons}
 use Rattle.std.proofs.lemmas.Option.{slice_get_within, same_Some}
@@ -9,9 +9,8 @@ use Rattle.lk_form.specs.declared.tree.VariableKind.{VariableKind}
 use Rattle.lk_form.specs.declared.tree.Function.{Function}
 use Rattle.lk_form.specs.declared.tree.Statement.{Statement}
 use Rattle.lk_form.specs.Tokens.{Token}
-use Rattle.lk_form.specs.Grammar.{Scope, IsVariable, IsFunction, ReadsStatement, assign, lock, unlock, create, ReadsStatements, none, more, ReadsFunction, thread, ReadsFunctions}
+use Rattle.lk_form.specs.Grammar.{Scope, IsVariable, ReadsStatement, assign, lock, unlock, create, ReadsStatements, none, more, ReadsFunction, thread, ReadsFunctions}
 use Rattle.lk_form.specs.Form.{IsOfForm, IsOfKind, IsResolved, AreResolved}
-use Rattle.lk_form.proofs.Declaring.{scope_of}
 
 of_kind : {scope : Scope} {kind : VariableKind} {number : ℕ} {text : List ℕ} → IsVariable scope kind number text → IsOfKind scope.variables kind number
 of_kind is = (is.variable, is.numbered, is.same_kind)

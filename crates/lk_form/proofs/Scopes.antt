@@ -1,14 +1,13 @@
 -- A name that is declared has one place among the names, and the look-up finds it.
-use Rattle.std.proofs.Common.{◌≡◌, ℕ, zero, suc, ◌+◌, ◌-◌, ◌<◌, ◌≤◌, Bool, true, false, not, ◌&&◌, ◌||◌, cond, if◌then◌else◌, nat_le, nat_lt, nat_eq, List, [], ◌∷◌, ◌++◌, length, map, get_or, position, slice_get, Option, Some, None, refl, sym, ap, subst, ◌∙◌, zero-add, arith}
-use Rattle.std.specs.List.{IsDistinct, AllByRecursion, list_any}
-use Rattle.std.specs.Option.{option_and_then, option_map}
+use Rattle.std.proofs.Common.{◌≡◌, ℕ, zero, suc, ◌+◌, ◌-◌, ◌≤◌, Bool, true, false, not, if◌then◌else◌, nat_le, nat_lt, nat_eq, List, [], ◌∷◌, ◌++◌, length, map, get_or, position, slice_get, Option, Some, None, refl, sym, ap, subst, ◌∙◌, zero-add, arith}
+use Rattle.std.specs.List.{IsDistinct, AllByRecursion}
+use Rattle.std.specs.Option.{option_map}
 use Rattle.std.specs.Cmp.Lexicographic.{pointwise, nat_list_eq_equiv}
-use Rattle.std.specs.Str.{bytes_eq}
-use Rattle.std.proofs.lemmas.Bool.{true≢false, false≢true, leb-true, ltb-true, lt-ltb, le-leb, lt-leb, and_parts, and_from, or_parts, or_from, not-true, not_from_false, false_from_ne_true, cases_lt}
+use Rattle.std.proofs.lemmas.Bool.{true≢false, false≢true, leb-true, ltb-true, lt-ltb, le-leb, and_parts, and_from, or_from, not-true, not_from_false, false_from_ne_true}
 use Rattle.std.proofs.lemmas.List.{length-append, length-map, map_push, append_assoc, append-nil}
 use Rattle.std.proofs.lemmas.List.Quantifiers.{position-Some}
 use Rattle.std.proofs.lemmas.List.Sums.{position_or_len_is}
-use Rattle.std.proofs.lemmas.Map.Keys.{apart_from_distinct, IsDistinct-head, IsDistinct-tail, IsDistinct-cons, IsDistinct-push}
+use Rattle.std.proofs.lemmas.Map.Keys.{apart_from_distinct, IsDistinct-push}
 use Rattle.std.proofs.lemmas.Option.{slice_get_within, slice_get-get_or, get_or_from_slice_get, slice_get-map, option_and_then_some, same_Some, cond_some}
 use Rattle.std.proofs.lemmas.Slice.Eq.{bytes_eq-Decides}
 use Rattle.lk_base.specs.Files.{has_name, AreDifferent}
@@ -19,7 +18,7 @@ use Rattle.lk_form.specs.declared.tree.Function.{Function}
 use Rattle.lk_form.specs.Words.{is_name}
 use Rattle.lk_form.specs.Grammar.{Scope, IsVariable, IsFunction}
 use Rattle.lk_form.proofs.Naming.{is_name-short}
-use Rattle.lk_form.specs.Reading.{names_of, place_of, same_kind, if_of_kind, variable_in, function_in, may_declare, with_variable, with_function}
+use Rattle.lk_form.specs.Reading.{names_of, place_of, same_kind, if_of_kind, variable_in, function_in, may_declare}
 
 -- ---- texts
 

@@ -1,8 +1,8 @@
 -- A source has at most one split, and what the lexer finds in front is the longest token.
-use Rattle.std.proofs.Common.{◌≡◌, ◌≢◌, ℕ, zero, suc, ◌+◌, ◌<◌, ◌≤◌, Bool, true, false, ◌&&◌, ◌||◌, ◌==◌, cond, if◌then◌else◌, List, [], ◌∷◌, ◌++◌, length, take, drop, ◌⊎◌, Some, None, refl, sym, ap, subst, ◌∙◌, inl, inr, ⊎_elim, one-add, arith, rules}
+use Rattle.std.proofs.Common.{◌≡◌, ℕ, zero, suc, ◌+◌, ◌<◌, ◌≤◌, Bool, true, false, ◌==◌, cond, if◌then◌else◌, List, [], ◌∷◌, ◌++◌, length, take, drop, ◌⊎◌, Some, None, refl, sym, ap, subst, ◌∙◌, inl, inr, ⊎_elim, one-add, arith}
 use Rattle.std.specs.List.{list_all, prefix_len, slice_get}
 use Rattle.std.proofs.lemmas.List.{append-nil, append_assoc, take-append-drop, length-take-le, length-drop}
-use Rattle.std.proofs.lemmas.Bool.{true≢false, false≢true, and_parts, or_cases, or_parts, and_from, or_left, or_right, cases_Bool}
+use Rattle.std.proofs.lemmas.Bool.{true≢false, false≢true, and_parts, or_cases, and_from, or_left, or_right}
 use Rattle.std.proofs.lemmas.Bool.Decides.{nat_tests}
 use Rattle.lk_base.specs.declared.spot.Spot.{Spot}
 use Rattle.lk_form.specs.Words.{is_word_byte}

@@ -1,7 +1,6 @@
 -- The reader of a program is exact, and so a source has at most one program.
-use Rattle.std.proofs.Common.{◌≡◌, ℕ, ◌+◌, ◌<◌, ◌≤◌, Bool, true, false, not, ◌&&◌, ◌||◌, if◌then◌else◌, List, [], ◌∷◌, ◌++◌, length, map, Option, Some, None, All, refl, sym, ap, subst, ◌∙◌, arith, nat_le}
-use Rattle.std.specs.List.{list_all, IsDistinct}
-use Rattle.std.specs.Str.{bytes_eq}
+use Rattle.std.proofs.Common.{◌≡◌, ℕ, ◌≤◌, true, false, not, if◌then◌else◌, List, [], ◌∷◌, ◌++◌, length, Some, None, All, refl, sym, ap, subst, ◌∙◌, arith, nat_le}
+use Rattle.std.specs.List.{IsDistinct}
 use Rattle.std.proofs.lemmas.Slice.Eq.{bytes_eq-Decides}
 use Rattle.std.proofs.lemmas.Bool.{and_parts, and_from, or_left, or_right, not-true, not_from_false, leb-true, le-leb}
 use Rattle.std.proofs.lemmas.List.{append-nil, length-append}
@@ -9,7 +8,6 @@ use Rattle.std.proofs.lemmas.List.Elements.{All-weaker}
 use Rattle.std.proofs.lemmas.List.Sums.{AllPass-from_list_all, list_all-from_AllPass}
 use Rattle.std.proofs.lemmas.Option.{cond_some, some_pair_parts}
 use Rattle.lk_base.specs.Files.{has_name, AreDifferent}
-use Rattle.lk_form.specs.declared.terminal.Terminal.{Terminal}
 use Rattle.lk_form.specs.declared.terminal.Terminal.TheVariants as t
 use Rattle.lk_form.specs.declared.tree.Program.{Program}
 use Rattle.lk_form.specs.declared.tree.Variable.{Variable}
@@ -23,10 +21,10 @@ use Rattle.lk_form.specs.Reading as reading
 use Rattle.lk_form.specs.Reading.{Parser, begins, takes, names_of, program_of, parameters_differ}
 use Rattle.lk_form.proofs.Splitting.{one_split}
 use Rattle.lk_form.proofs.Scopes.{IsFit, different_front}
-use Rattle.lk_form.proofs.Exact.{Relation, Exact, Then, in_row, in_row_under, as_said, Found, found, given_exact, Takes, takes_exact, Ended, ended, end_exact}
+use Rattle.lk_form.proofs.Exact.{Relation, Exact, Then, in_row, in_row_under, Found, found, given_exact, Takes, takes_exact, Ended, ended, end_exact}
 use Rattle.lk_form.proofs.Productions.{begins_front}
 use Rattle.lk_form.proofs.Bodies.{body_exact}
-use Rattle.lk_form.proofs.Declaring.{VariablesFrom, FunctionsFrom, IsBefore, scope_of, with_variables, with_functions, variable_names, function_names, listed_variables, repeated_variables, variables_sound, variables_complete, listed_functions, repeated_functions, functions_sound, functions_complete}
+use Rattle.lk_form.proofs.Declaring.{VariablesFrom, FunctionsFrom, IsBefore, scope_of, with_functions, variable_names, function_names, listed_variables, repeated_variables, variables_sound, variables_complete, listed_functions, repeated_functions, functions_sound, functions_complete}
 
 -- what the tokens spell, with what the form asks besides
 pub record Means (tokens : List Token) (program : Program) : Type 0 where

@@ -23,6 +23,10 @@ use crate::cursor::Cursor;
 use crate::fault::Fault;
 use lk_base::NoMemory;
 use std::alloc::Global;
+
+#[cfg(test)]
+mod tests;
+
 pub use tree::{Function, Program, Statement, Variable, VariableKind};
 
 /// The program that a source is, or nothing where it is not of the form. The source is the file of the

@@ -1,4 +1,4 @@
-use Rattle.std.proofs.Common.{rules, arith}
+use Rattle.std.proofs.Common.{rules}
 use Rattle.lk_form.proofs.Splitting.{IsCut-blank, IsCut-token, IsCut-end, IsCut-stuck}
 use Rattle.lk_form.proofs.lexer.tokens.Goals as goal
 

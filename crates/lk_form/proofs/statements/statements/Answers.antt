@@ -1,4 +1,4 @@
-use Rattle.std.proofs.Common.{◌∷◌, [], List, Vec, Global, Err, Some, sym, ap, ◌∙◌, arith}
+use Rattle.std.proofs.Common.{[], Vec, Global, Err, sym, ap, ◌∙◌, arith}
 use Rattle.std.proofs.lemmas.Result.{err_from_is_err_and}
 use Rattle.lk_form.specs.declared.tree.Statement.{Statement}
 use Rattle.lk_form.specs.Reading.{statement, statements}
