@@ -1,0 +1,60 @@
+-- Words come to one outcome.
+use Rattle.std.proofs.Common.{ℕ, ◌≡◌, ◌∙◌, List, [], ◌∷◌, refl, sym, ap, subst, arith}
+use Rattle.lk_io.specs.Shelf.{Held}
+use Rattle.lk_form.specs.declared.tree.Program.{Program}
+use Rattle.lk_form.specs.Form.{IsOfForm}
+use Rattle.lk_facts.specs.declared.straight.Statement.{Statement}
+use Rattle.lk_facts.specs.declared.verdict.Verdict.{Verdict}
+use Rattle.lk_facts.specs.Straight.{AreVerdicts}
+use Rattle.lk_facts.proofs.OneVerdict.{one_verdict}
+use Rattle.lk_top.specs.Outcome.{AreVerdictsOf, Outcome, Verdicts, Judged, too_long, not_of_form, of_form, ComesTo, no_command, missing, judged}
+
+one_verdicts : (program : List Statement) (main : ℕ) (locations : List ℕ) (vs ws : List Verdict) → AreVerdicts program main locations vs → AreVerdicts program main locations ws → vs ≡ ws
+one_verdicts program main [] [] [] a b = refl
+one_verdicts program main [] [] (w ∷ ws) a b = absurd b
+one_verdicts program main [] (v ∷ vs) ws a b = absurd a
+one_verdicts program main (l ∷ ls) [] ws a b = absurd a
+one_verdicts program main (l ∷ ls) (v ∷ vs) [] a b = absurd b
+one_verdicts program main (l ∷ ls) (v ∷ vs) (w ∷ ws) a b =
+    let first = one_verdict program main v w a.1 b.1 (a.0 ∙ sym b.0) in
+    let others = one_verdicts program main ls vs ws a.2 b.2 in
+    cc
+
+abbrev pub HasOneProgram : Type 0
+HasOneProgram =
+    (own : ℕ) (source : List ℕ) (a b : Program) → IsOfForm own source a → IsOfForm own source b → a ≡ b
+
+module _ (one_program : HasOneProgram) where
+  same_verdicts : (name : List ℕ) (p q : Program) (vs ws : List Verdict) → p ≡ q → AreVerdictsOf p vs → AreVerdictsOf q ws → Verdicts name p vs ≡ Verdicts name q ws
+  same_verdicts name p q vs ws e a b =
+      let b' = subst (λ r. AreVerdictsOf r ws) (sym e) b in
+      let same = one_verdicts _ _ _ vs ws a b' in
+      cc
+
+  one_judgement : {name source : List ℕ} {a b : Outcome} → Judged name source a → Judged name source b → a ≡ b
+  one_judgement (too_long l) (too_long m) = refl
+  one_judgement (too_long l) (not_of_form m none) = absurd (omega arith)
+  one_judgement (too_long l) (of_form p vs m form are) = absurd (omega arith)
+  one_judgement (not_of_form l none) (too_long m) = absurd (omega arith)
+  one_judgement (not_of_form l none) (not_of_form m none2) = refl
+  one_judgement (not_of_form l none) (of_form p vs m form are) = absurd (none p form)
+  one_judgement (of_form p vs l form are) (too_long m) = absurd (omega arith)
+  one_judgement (of_form p vs l form are) (not_of_form m none) = absurd (none p form)
+  one_judgement {name = name} {source = source} (of_form p vs l form are) (of_form q ws m form' are') =
+      same_verdicts name p q vs ws (one_program 0 source p q form form') are are'
+
+  pub one_outcome : {words : List (List ℕ)} {files : Held} {a b : Outcome} → ComesTo words files a → ComesTo words files b → a ≡ b
+  one_outcome (no_command e) (no_command d) = refl
+  one_outcome (no_command e) (missing name d f) = let clash = sym e ∙ d in cc
+  one_outcome (no_command e) (judged name source o d f j) = let clash = sym e ∙ d in cc
+  one_outcome (missing name e f) (no_command d) = let clash = sym e ∙ d in cc
+  one_outcome (missing name e f) (missing other d g) = let same = sym e ∙ d in cc
+  one_outcome {files = files} (missing name e f) (judged other source o d g j) =
+      let same : name ≡ other = cc in let clash = sym f ∙ (ap files same ∙ g) in cc
+  one_outcome (judged name source o e f j) (no_command d) = let clash = sym e ∙ d in cc
+  one_outcome {files = files} (judged name source o e f j) (missing other d g) =
+      let same : name ≡ other = cc in let clash = sym f ∙ (ap files same ∙ g) in cc
+  one_outcome {files = files} {b = b} (judged name source o e f j) (judged other text o' d g k) =
+      let same : name ≡ other = cc in
+      let one : source ≡ text = let both = sym f ∙ (ap files same ∙ g) in cc in
+      one_judgement j (subst (λ n. Judged n source b) (sym same) (subst (λ t. Judged other t b) (sym one) k))

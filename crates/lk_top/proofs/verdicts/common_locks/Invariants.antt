@@ -1,0 +1,7 @@
+use Rattle.std.proofs.Common.{take, ◌+◌}
+use Rattle.lk_facts.specs.Straight.{Lists}
+use Rattle.lk_top.proofs.Guarding.{AreHeldAt}
+use Rattle.lk_top.proofs.verdicts.common_locks.Given as goal
+
+abbrev pub invariant-loop-racing : goal.invariant-loop-racing
+invariant-loop-racing l = Lists (AreHeldAt (take (l.racing-index + 1) l.accesses)) l.common

@@ -1,0 +1,45 @@
+-- What an answer says of the words, the shelf's files and its count of faults.
+use Rattle.std.specs.Prelude.{ℕ, ◌≡◌, true, List, Some}
+use Rattle.std.specs.Option.{ForSome}
+use Rattle.lk_base.specs.declared.code.Code.{Code}
+use Rattle.lk_base.specs.declared.refusal.Refusal.{Refusal}
+use Rattle.lk_form.specs.declared.tree.Program.{Program}
+use Rattle.lk_facts.specs.declared.verdict.Verdict.{Verdict}
+use Rattle.lk_top.specs.declared.answer.Answer.{Answer}
+use Rattle.lk_top.specs.declared.answer.Answer.TheVariants.{Report, Refusal as Refuse, Unread}
+use Rattle.lk_top.specs.Texts.{refused_line, unread_line}
+use Rattle.lk_top.specs.Report.{report_text}
+use Rattle.lk_top.specs.Outcome.{Refused, Verdicts, Judged, AreVerdictsOf, refusal_of}
+use Rattle.lk_top.specs.Run.{Shelved, HasRisen, IsAsBefore, status_of, is_report}
+
+-- the report of the program's verdicts
+abbrev pub Reported : List ℕ → Program → Answer → Type 0
+Reported name program (Report text status) =
+    (verdicts : List Verdict) × AreVerdictsOf program verdicts × (text.items ≡ report_text name program verdicts) × (status ≡ status_of verdicts)
+Reported name program (Refuse line) = ⊥
+Reported name program (Unread line) = ⊥
+
+-- the line of a refusal at the file's first byte
+abbrev pub Refuses : List ℕ → Code → Answer → Type 0
+Refuses name code (Report text status) = ⊥
+Refuses name code (Refuse line) = line.items ≡ refused_line name (refusal_of code)
+Refuses name code (Unread line) = ⊥
+
+-- what the source of this name comes to
+abbrev pub Judges : List ℕ → List ℕ → Answer → Type 0
+Judges name source (Report text status) =
+    (program : Program) × (verdicts : List Verdict) × Judged name source (Verdicts name program verdicts) × (text.items ≡ report_text name program verdicts) × (status ≡ status_of verdicts)
+Judges name source (Refuse line) =
+    (refusal : Refusal) × Judged name source (Refused name refusal) × (line.items ≡ refused_line name refusal)
+Judges name source (Unread line) = ⊥
+
+-- what the file of this name comes to
+abbrev pub Answers : List ℕ → Shelved → Answer → Type 0
+Answers name shelf (Report text status) =
+    IsAsBefore shelf.faults × (is_report status ≡ true)
+    × ForSome shelf.files (λ files. (source : List ℕ) × (files name ≡ Some source) × Judges name source (Report text status))
+Answers name shelf (Refuse line) =
+    IsAsBefore shelf.faults
+    × ((refusal : Refusal) × (line.items ≡ refused_line name refusal) × ForSome shelf.files (λ files. (source : List ℕ) × (files name ≡ Some source) × Judged name source (Refused name refusal)))
+Answers name shelf (Unread line) =
+    HasRisen shelf.faults × ForSome shelf.bad (λ told. told ≡ name) × (line.items ≡ unread_line name)

@@ -1,0 +1,167 @@
+-- What a run of a command leaves, by the status that it ends with.
+use Rattle.std.specs.Prelude.{ℕ, ◌≡◌, ◌⊎◌, Bool, true, false, if◌then◌else◌, List, Option, Some, None, take}
+use Rattle.std.specs.Option.{ForSome}
+use Rattle.lk_base.specs.declared.refusal.Refusal.{Refusal}
+use Rattle.lk_base.specs.declared.status.Status.{Status}
+use Rattle.lk_base.specs.declared.status.Status.TheVariants as status
+use Rattle.lk_io.specs.Counts.{Rose}
+use Rattle.lk_io.specs.Shelf.{Held}
+use Rattle.lk_io.specs.Sink.{Takes}
+use Rattle.lk_form.specs.declared.tree.Program.{Program}
+use Rattle.lk_facts.specs.declared.verdict.Verdict.{Verdict}
+use Rattle.lk_top.specs.Words.{command}
+use Rattle.lk_top.specs.Texts.{refused_line, usage_line, unread_line, unwritten_line, no_memory_line}
+use Rattle.lk_top.specs.Report.{report_text, has_suspect}
+use Rattle.lk_top.specs.Outcome.{Refused, Verdicts, ComesTo}
+
+-- a count before a call and after it
+pub record Count : Type 0 where
+  pub before : ℕ
+  pub now : ℕ
+
+abbrev pub HasRisen : Count → Type 0
+HasRisen count = Rose count.before count.now
+
+abbrev pub IsAsBefore : Count → Type 0
+IsAsBefore count = count.now ≡ count.before
+
+-- what a shelf tells: its files, the name of its last failed read, and its count of faults
+pub record Shelved : Type 0 where
+  pub files : Option Held
+  pub bad : Option (List ℕ)
+  pub faults : Count
+
+-- what a sink tells: what it has taken before a call and after it, and its count of faults
+pub record Sunk : Type 0 where
+  pub before : Option (List ℕ)
+  pub now : Option (List ℕ)
+  pub faults : Count
+
+abbrev pub shelved : {F : Type 0} → (F → Option Held) → (F → Option (List ℕ)) → (F → ℕ) → F → F → Shelved
+shelved held bad faults old new =
+    record { files = held old; bad = bad new; faults = record { before = faults old; now = faults new } }
+
+abbrev pub sunk : {S : Type 0} → (S → Option (List ℕ)) → (S → ℕ) → S → S → Sunk
+sunk gone faults old new =
+    record { before = gone old; now = gone new; faults = record { before = faults old; now = faults new } }
+
+-- the sink took the text
+abbrev pub Got : Sunk → List ℕ → Type 0
+Got sink text = Takes sink.before sink.now text
+
+-- the sink took a front of the text, which may be empty or whole
+abbrev pub GotFront : Sunk → List ℕ → Type 0
+GotFront sink text = (count : ℕ) × Takes sink.before sink.now (take count text)
+
+-- the sink is as before, as far as it tells
+abbrev pub GotNothing : Sunk → Type 0
+GotNothing sink = (sink.now ≡ sink.before) × IsAsBefore sink.faults
+
+-- the status of verdicts
+abbrev pub status_of : List Verdict → Status
+status_of verdicts = if has_suspect verdicts then status.Suspects else status.Clean
+
+-- no count of faults has risen
+pub record NoneHasRisen (shelf : Shelved) (out err : Sunk) : Type 0 where
+  pub shelf_faults : HasRisen shelf.faults → ⊥
+  pub out_faults : HasRisen out.faults → ⊥
+  pub err_faults : HasRisen err.faults → ⊥
+
+-- The words come to verdicts of this status, and the output has the whole report.
+pub record Reports (words : List (List ℕ)) (files : Held) (out : Sunk) (ends : Status) : Type 0 where
+  pub name : List ℕ
+  pub program : Program
+  pub verdicts : List Verdict
+  pub outcome : ComesTo words files (Verdicts name program verdicts)
+  pub status : ends ≡ status_of verdicts
+  pub report : Got out (report_text name program verdicts)
+
+-- The words come to a refusal, and the error output has its line.
+pub record Refuses (words : List (List ℕ)) (files : Held) (err : Sunk) : Type 0 where
+  pub name : List ℕ
+  pub refusal : Refusal
+  pub outcome : ComesTo words files (Refused name refusal)
+  pub line : Got err (refused_line name refusal)
+
+-- The file of the command can't be read: the shelf's count rose, a told bad name is the file's, and the
+-- error output has the line with its name.
+pub record Misses (words : List (List ℕ)) (shelf : Shelved) (err : Sunk) : Type 0 where
+  pub name : List ℕ
+  pub file : command words ≡ Some name
+  pub rose : HasRisen shelf.faults
+  pub bad : ForSome shelf.bad (λ told. told ≡ name)
+  pub line : Got err (unread_line name)
+
+-- the lines that the error output may get where the output did not fail
+pub data Line (words : List (List ℕ)) (shelf : Shelved) : List ℕ → Type 0 where
+  usage : command words ≡ None → Line words shelf usage_line
+  refused : (name : List ℕ) (refusal : Refusal) → ForSome shelf.files (λ files. ComesTo words files (Refused name refusal)) → Line words shelf (refused_line name refusal)
+  unread : (name : List ℕ) → command words ≡ Some name → HasRisen shelf.faults → Line words shelf (unread_line name)
+  no_memory : Line words shelf no_memory_line
+
+-- The output got a front of the report, or nothing.
+abbrev pub GotReportFront : List (List ℕ) → Option Held → Sunk → Type 0
+GotReportFront words files out =
+    GotNothing out
+    ⊎ ForSome files (λ files. (name : List ℕ) × (program : Program) × (verdicts : List Verdict) × ComesTo words files (Verdicts name program verdicts) × GotFront out (report_text name program verdicts))
+
+-- The line of which the error output got a front is that of failed output only where the output's count
+-- rose, and another only where it is as before.
+pub record FailedLine (words : List (List ℕ)) (shelf : Shelved) (out err : Sunk) : Type 0 where
+  pub line : List ℕ
+  pub front : GotFront err line
+  pub which : ((line ≡ unwritten_line) × HasRisen out.faults) ⊎ (Line words shelf line × IsAsBefore out.faults)
+
+-- What failed writing leaves.
+pub record Fails (words : List (List ℕ)) (shelf : Shelved) (out err : Sunk) : Type 0 where
+  pub rose : HasRisen out.faults ⊎ HasRisen err.faults
+  pub out_front : GotReportFront words shelf.files out
+  pub out_same : (HasRisen out.faults → ⊥) → out.now ≡ out.before
+  pub err_line : (HasRisen err.faults → ⊥) → Got err unwritten_line
+  pub err_front : HasRisen err.faults → FailedLine words shelf out err
+
+-- an answer, or want of memory
+abbrev pub IsOrNoMemory : Status → Status → Type 0
+IsOrNoMemory ends wanted = (ends ≡ wanted) ⊎ (ends ≡ status.NoMemory)
+
+-- verdicts are reported, but for want of memory
+abbrev pub AlwaysReports : List (List ℕ) → Held → Status → Type 0
+AlwaysReports words files ends =
+    (name : List ℕ) (program : Program) (verdicts : List Verdict) → ComesTo words files (Verdicts name program verdicts) → IsOrNoMemory ends (status_of verdicts)
+
+-- a refusal is told, but for want of memory
+abbrev pub AlwaysRefuses : List (List ℕ) → Held → Status → Type 0
+AlwaysRefuses words files ends =
+    (name : List ℕ) (refusal : Refusal) → ComesTo words files (Refused name refusal) → IsOrNoMemory ends status.Refused
+
+-- the report is written
+abbrev pub is_report : Status → Bool
+is_report status.Clean = true
+is_report status.Suspects = true
+is_report status.Refused = false
+is_report status.Usage = false
+is_report status.ReadFault = false
+is_report status.WriteFault = false
+is_report status.NoMemory = false
+
+-- the output is never written to
+abbrev pub leaves_output : Status → Bool
+leaves_output status.Refused = true
+leaves_output status.Usage = true
+leaves_output status.ReadFault = true
+leaves_output status.NoMemory = true
+leaves_output status.Clean = false
+leaves_output status.Suspects = false
+leaves_output status.WriteFault = false
+
+-- The error output was told a line: it got it, or failed with a front of it.
+abbrev pub Told : Status → List ℕ → Sunk → Status → Type 0
+Told wanted line err ends =
+    ((ends ≡ wanted) × Got err line × IsAsBefore err.faults)
+    ⊎ ((ends ≡ status.WriteFault) × HasRisen err.faults × GotFront err line)
+
+-- The output got the whole text, or it failed with a front of it and the error output was told.
+abbrev pub Published : Status → List ℕ → Sunk → Sunk → Status → Type 0
+Published wanted text out err ends =
+    ((ends ≡ wanted) × Got out text × IsAsBefore out.faults × GotNothing err)
+    ⊎ ((ends ≡ status.WriteFault) × HasRisen out.faults × GotFront out text × Told status.WriteFault unwritten_line err ends)

@@ -1,0 +1,109 @@
+//! What a command comes to, before anything is written.
+ghost use Rattle.std.specs.Prelude.{◌≡◌, ◌≤◌, length, IfOk};
+ghost use Rattle.lk_io.specs.Shelf.{IsFileName};
+ghost use Rattle.lk_form.specs.Form.{AreResolved};
+ghost use Rattle.lk_top.specs.Outcome.{refusal_of};
+ghost use Rattle.lk_top.specs.Run.{shelved};
+ghost use Rattle.lk_top.specs.Answer.{Reported, Refuses, Judges, Answers};
+
+use crate::report::{FIRST_BYTE, has_suspect, report};
+use crate::straight::{locations_of, main_of, straight_program};
+use crate::texts::{refused_line, unread_line};
+use crate::verdicts::verdicts;
+use lk_base::{Code, LONGEST_SOURCES, Name, NameFault, NoMemory, Refusal, Status};
+use lk_form::{Program, read_program};
+use lk_io::{ReadFault, Shelf, read_whole};
+use std::alloc::Global;
+
+/// What a command with a FILE comes to: the text that is to be written.
+#[derive(Drop)]
+pub(crate) enum Answer {
+    /// The whole report, and the status that tells whether a location is suspect.
+    Report { text: Vec<u8>, status: Status },
+    /// The line of a refusal.
+    Refusal { line: Vec<u8> },
+    /// The line for a file that can't be read.
+    Unread { line: Vec<u8> },
+}
+
+/// A refusal at the file's first byte, without a name.
+fn refusal_of(alloc: Global, code: Code) -> Result<Refusal, NoMemory>
+    ensures { IfOk result (λ refusal. refusal ≡ refusal_of code) }
+{
+    match Name::from_bytes(alloc, &[]) {
+        Ok(name) => Ok(Refusal {
+            code,
+            spot: FIRST_BYTE,
+            name,
+        }),
+        Err(NameFault::TooLong | NameFault::NoMemory) => Err(NoMemory),
+    }
+}
+
+/// What a program of the form comes to.
+fn judge_program(alloc: Global, name: &[u8], program: &Program) -> Result<Answer, NoMemory>
+    requires { AreResolved program.now }
+    ensures { IfOk result (λ answer. Reported name.now program.now answer) }
+{
+    let statements = straight_program(alloc, program)?;
+    let locations = locations_of(alloc, program)?;
+    let verdicts = verdicts(alloc, &statements, main_of(program), &locations)?;
+    let status = match has_suspect(&verdicts) {
+        true => Status::Suspects,
+        false => Status::Clean,
+    };
+    let text = report(alloc, name, program, &statements, &verdicts)?;
+    Ok(Answer::Report { text, status })
+}
+
+/// What a source comes to.
+fn judge(alloc: Global, name: &[u8], source: &[u8]) -> Result<Answer, NoMemory>
+    requires { length source.now ≤ 1048576 }
+    ensures { IfOk result (λ answer. Judges name.now source.now answer) }
+{
+    match read_program(alloc, FIRST_BYTE.file, source)? {
+        Some(program) => {
+            let answer = judge_program(alloc, name, &program)?;
+            Ok(answer)
+        }
+        None => {
+            let answer = refuse(alloc, name, Code::Form)?;
+            Ok(answer)
+        }
+    }
+}
+
+fn refuse(alloc: Global, name: &[u8], code: Code) -> Result<Answer, NoMemory>
+    ensures { IfOk result (λ answer. Refuses name.now code answer) }
+{
+    let refusal = refusal_of(alloc, code)?;
+    let line = refused_line(alloc, name, &refusal)?;
+    Ok(Answer::Refusal { line })
+}
+
+/// What the file of this name comes to.
+pub(crate) fn examine<F: Shelf>(
+    alloc: Global,
+    name: &str,
+    shelf: &mut F,
+) -> Result<Answer, NoMemory>
+    requires { IsFileName name.now }
+    ensures answer { IfOk result (Answers name.now (shelved F.held F.bad F.faults shelf.old shelf.new)) }
+    ensures held { F.held shelf.new ≡ F.held shelf.old }
+    ensures later { F.faults shelf.old ≤ F.faults shelf.new }
+{
+    match read_whole(alloc, shelf, name, LONGEST_SOURCES) {
+        Ok(source) => {
+            let answer = judge(alloc, name.as_bytes(), &source)?;
+            Ok(answer)
+        }
+        Err(ReadFault::TooLong) => {
+            let answer = refuse(alloc, name.as_bytes(), Code::TooLong)?;
+            Ok(answer)
+        }
+        Err(ReadFault::Failed) => Ok(Answer::Unread {
+            line: unread_line(alloc, name.as_bytes())?,
+        }),
+        Err(ReadFault::NoMemory) => Err(NoMemory),
+    }
+}
