@@ -55,22 +55,21 @@ fn the_first_program_has_its_report(rt: HostRuntime) -> Result<(), Fail> {
 
 #[test]
 fn words_that_are_no_command_get_the_usage_line(rt: HostRuntime) -> Result<(), Fail> {
-    let long = "x".repeat(rt.alloc(), 256)?;
-    let cases: [&[&str]; 8] = [
-        &[],
-        &["check"],
-        &["check", "-x", "r.c"],
-        &["scan", "r.c"],
-        &["check", "-x"],
-        &["check", ""],
-        &["check", "a.c", "b.c"],
-        &["check", long.as_str()],
-    ];
-    for words in cases {
-        let mut shelf = MemShelf::new(rt.alloc());
-        let ran = run_over(rt.alloc(), words, &mut shelf)?;
+    let alloc = rt.alloc();
+    let long = "x".repeat(alloc, 256)?;
+    let mut shelf = MemShelf::new(alloc);
+    let ran = run_over(alloc, &[], &mut shelf)?;
+    assert_ran(&rt, &ran, Status::Usage, "", USAGE);
+    for words in [["check", ""], ["check", "-x"], ["scan", "r.c"]] {
+        let ran = run_over(alloc, &words, &mut shelf)?;
         assert_ran(&rt, &ran, Status::Usage, "", USAGE);
     }
+    let ran = run_over(alloc, &["check"], &mut shelf)?;
+    assert_ran(&rt, &ran, Status::Usage, "", USAGE);
+    let ran = run_over(alloc, &["check", "-x", "r.c"], &mut shelf)?;
+    assert_ran(&rt, &ran, Status::Usage, "", USAGE);
+    let ran = run_over(alloc, &["check", long.as_str()], &mut shelf)?;
+    assert_ran(&rt, &ran, Status::Usage, "", USAGE);
     Ok(())
 }
 
@@ -186,6 +185,24 @@ fn both_sinks_may_fail(rt: HostRuntime) -> Result<(), Fail> {
     assert_eq!(rt; status, Status::WriteFault);
     assert_eq!(rt; out.bytes(), b"".as_slice());
     assert_eq!(rt; err.bytes(), b"lsrace: ca".as_slice());
+    Ok(())
+}
+
+#[test]
+fn a_line_that_fails_ends_in_a_write_fault(rt: HostRuntime) -> Result<(), Fail> {
+    let alloc = rt.alloc();
+    let mut shelf = MemShelf::new(alloc);
+    shelf.put("r.c", b"int n = 1;")?;
+    let mut words = Vec::new(alloc);
+    words.push(String::from_str(alloc, "check")?)?;
+    words.push(String::from_str(alloc, "r.c")?)?;
+    let mut out = MemSink::with_room(alloc, 1000, 1000)?;
+    let mut err = MemSink::with_room(alloc, 1000, 1000)?;
+    err.fail_at(1)?;
+    let status = run(alloc, &words, &mut shelf, &mut out, &mut err);
+    assert_eq!(rt; status, Status::WriteFault);
+    assert_eq!(rt; out.bytes(), b"".as_slice());
+    assert_eq!(rt; err.bytes(), b"".as_slice());
     Ok(())
 }
 

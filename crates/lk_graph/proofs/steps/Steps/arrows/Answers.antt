@@ -1,0 +1,10 @@
+use Rattle.std.proofs.Common.{arith}
+use Rattle.lk_graph.proofs.Arrows.{arrows_more, arrows_within}
+use Rattle.lk_graph.proofs.steps.Steps.arrows.Goals as goal
+
+pub loop-point-preserved : goal.loop-point-preserved
+loop-point-preserved c = arrows_more c.args.self c.args.points.now _ _ c.loop-point.point _ (omega arith) c.in_ok-push_arrows.ensures c.loop-point.invariant
+
+pub returns-clause-within : goal.returns-clause-within
+returns-clause-within c =
+    arrows_within c.args.self c.args.points.now c.loop-point.arrows.items c.count-point.ensures.in_range (λ p q there. ((c.loop-point.invariant p q).0 there).1)

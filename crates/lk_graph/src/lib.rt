@@ -1,0 +1,10 @@
+//! What can come after a control point, and which points can come again.
+#![tactic(auto)]
+
+mod reach;
+mod steps;
+
+pub use reach::{after, cycles};
+
+#[cfg(test)]
+mod tests;
