@@ -4,7 +4,8 @@
 usage: bench/speed.py PATH-OF-LSRACE
 
 For each number of statements it prints the seconds of both (the least of five runs), their ratio, the
-peak memory of lsrace, and how the time grew against the row before. It shows speed and proves nothing.
+peak memory of lsrace, and how the time grew against the row before: first for sources of 50 variables,
+then for sources whose variables grow with their statements. It shows speed and proves nothing.
 """
 import os
 import subprocess
@@ -20,9 +21,8 @@ int pthread_mutex_unlock(pthread_mutex_t *);
 """
 
 
-def source(statements, threads=20):
-    """A program of that many statements in thread functions and main, half of them under a mutex."""
-    names = max(1, statements // 8)
+def source(statements, names, threads=20):
+    """A program of that many statements in thread functions and main, most of them under a mutex."""
     lines = [f"int x{i};" for i in range(names)]
     lines += [f"pthread_mutex_t m{i};" for i in range(8)]
     lines += [f"pthread_t t{i};" for i in range(threads)]
@@ -64,15 +64,14 @@ def measured(command, **more):
     return least, peak
 
 
-def main():
-    if len(sys.argv) != 2:
-        sys.exit(__doc__)
-    lsrace = os.path.abspath(sys.argv[1])
+def table(lsrace, names_of):
+    """Prints a row for each number of statements."""
     before = None
-    print("statements    bytes  lsrace s   gcc s  ratio  peak MB  growth")
+    print("statements  names    bytes  lsrace s   gcc s  ratio  peak MB  growth")
     with tempfile.TemporaryDirectory() as folder:
         for statements in (250, 500, 1000, 2000, 4000):
-            text = source(statements)
+            names = names_of(statements)
+            text = source(statements, names)
             with open(os.path.join(folder, "big.c"), "w") as file:
                 file.write(text)
             with open(os.path.join(folder, "gcc.c"), "w") as file:
@@ -80,8 +79,16 @@ def main():
             own, peak = measured([lsrace, "check", "big.c"], cwd=folder)
             gcc, _ = measured(["gcc", "-fsyntax-only", "gcc.c"], cwd=folder)
             growth = "" if before is None else f"{own / before:6.2f}"
-            print(f"{statements:10} {len(text):8} {own:9.4f} {gcc:7.4f} {own / gcc:6.2f} {peak:8.1f}  {growth}")
+            print(f"{statements:10} {names:6} {len(text):8} {own:9.4f} {gcc:7.4f} {own / gcc:6.2f} {peak:8.1f}  {growth}")
             before = own
+
+
+def main():
+    if len(sys.argv) != 2:
+        sys.exit(__doc__)
+    lsrace = os.path.abspath(sys.argv[1])
+    table(lsrace, lambda statements: 50)
+    table(lsrace, lambda statements: max(50, statements * 9 // 10))
 
 
 if __name__ == "__main__":
