@@ -1,0 +1,10 @@
+pub mod ActLemmas
+pub mod OverLemmas
+pub mod ProgressLemmas
+pub mod ReleasingLemmas
+pub mod SetLemmas
+pub mod StateLemmas
+pub mod KeepLemmas
+pub mod AddLemmas
+pub mod HoldLemmas
+pub mod LockSetLemmas

@@ -1,0 +1,17 @@
+//! The locks that are held at each point of a program, and those that each function may release.
+#![tactic(auto)]
+
+mod adding;
+mod facts;
+mod holding;
+mod keeping;
+mod lock_sets;
+mod over;
+mod releasing;
+mod sets;
+mod states;
+
+pub use lock_sets::held;
+
+#[cfg(test)]
+mod tests;
