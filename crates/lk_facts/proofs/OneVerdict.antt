@@ -8,7 +8,8 @@ use Rattle.lk_facts.specs.declared.verdict.Racing.{Racing}
 use Rattle.lk_facts.specs.declared.verdict.Verdict.{Verdict}
 use Rattle.lk_facts.specs.declared.verdict.VerdictState.{VerdictState}
 use Rattle.lk_facts.specs.declared.verdict.VerdictState.TheVariants.{Guarded, Unshared, Suspect}
-use Rattle.lk_facts.specs.Straight.{Races, IsHeld, Guards, Lists, AreRacing, IsDecided}
+use Rattle.lk_facts.specs.Lists.{Lists}
+use Rattle.lk_facts.specs.Straight.{Races, IsHeld, Guards, AreRacing, IsDecided}
 use Rattle.lk_facts.specs.StraightLaws.{HasOneVerdict, HasOneState, ShareALock}
 use Rattle.lk_facts.proofs.Sorted.{one_list, member_first}
 

@@ -4,7 +4,7 @@ use Rattle.std.proofs.lemmas.Bool.Decides.{nat_tests}
 use Rattle.lk_sets.proofs.Members.{same_answers}
 use Rattle.lk_sets.proofs.Rising.{one_list as one_set}
 use Rattle.lk_sets.specs.Ids.{has_id}
-use Rattle.lk_facts.specs.Straight.{Lists}
+use Rattle.lk_facts.specs.Lists.{Lists}
 
 pub member_first : (x : ℕ) (xs : List ℕ) → has_id (x ∷ xs) x ≡ true
 member_first x xs = grind (arith, nat_tests)

@@ -1,4 +1,5 @@
 pub mod Actions
+pub mod Analysis
 pub mod Doing
 pub mod Flow
 pub mod Held
@@ -6,6 +7,7 @@ pub mod InRange
 pub mod Items
 pub mod Labels
 pub mod Laws
+pub mod Lists
 pub mod LockSets
 pub mod Origins
 pub mod Program

@@ -1,10 +1,9 @@
 -- The rules for programs of straight lines, after LOCKSMITH (Pratikakis, Foster and Hicks, TOPLAS 2011):
 -- what is held, which accesses may race, and what a location's verdict is. Statements, functions,
 -- locations and locks are numbers; a statement's number is its place in the program.
-use Rattle.std.specs.Prelude.{ℕ, ◌≡◌, ◌≢◌, ◌<◌, ◌≤◌, ◌⊎◌, ◌↔◌, true, List, [], ◌∷◌, Some, slice_get, map, All, length}
-use Rattle.std.specs.List.Sorted.{IsStrictlyIncreasing}
+use Rattle.std.specs.Prelude.{ℕ, ◌≡◌, ◌≢◌, ◌<◌, ◌≤◌, ◌⊎◌, List, [], ◌∷◌, Some, slice_get, map, All, length}
 use Rattle.lk_base.specs.declared.spot.Spot.{Spot}
-use Rattle.lk_sets.specs.Ids.{has_id}
+use Rattle.lk_facts.specs.Lists.{Lists}
 use Rattle.lk_facts.specs.declared.straight.Effect.{Effect}
 use Rattle.lk_facts.specs.declared.straight.Effect.TheVariants.{Write, Lock, Unlock, Create}
 use Rattle.lk_facts.specs.declared.straight.Statement.{Statement}
@@ -81,11 +80,6 @@ pub record Races (program : List Statement) (main location a : ℕ) : Type 0 whe
 -- The lock is held at each racing access of the location.
 abbrev pub Guards : List Statement → ℕ → ℕ → ℕ → Type 0
 Guards program main location lock = (a : ℕ) → Races program main location a → IsHeld program a lock
-
--- The list has just the numbers with the property, in ascending order.
-pub record Lists (P : ℕ → Type 0) (ids : List ℕ) : Type 0 where
-  pub sorted : IsStrictlyIncreasing ids
-  pub members : (x : ℕ) → (has_id ids x ≡ true) ↔ P x
 
 -- The list has just the racing accesses of the location, each with the locks that are held there.
 pub record AreRacing (program : List Statement) (main location : ℕ) (accesses : List Racing) : Type 0 where

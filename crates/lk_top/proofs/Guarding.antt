@@ -10,7 +10,8 @@ use Rattle.lk_facts.specs.declared.verdict.Racing.{Racing}
 use Rattle.lk_facts.specs.declared.verdict.Verdict.{Verdict}
 use Rattle.lk_facts.specs.declared.verdict.VerdictState.{VerdictState}
 use Rattle.lk_facts.specs.declared.verdict.VerdictState.TheVariants.{Guarded, Unshared, Suspect}
-use Rattle.lk_facts.specs.Straight.{IsHeld, Guards, Lists, AreRacing, IsDecided, IsVerdict, AreVerdicts}
+use Rattle.lk_facts.specs.Lists.{Lists}
+use Rattle.lk_facts.specs.Straight.{IsHeld, Guards, AreRacing, IsDecided, IsVerdict, AreVerdicts}
 use Rattle.lk_top.specs.Guards.{IsCommon, FitsState}
 
 -- the lock is listed with each of the accesses

@@ -6,7 +6,8 @@ use Rattle.lk_sets.specs.Ids.{has_id, IsSetOf}
 use Rattle.lk_facts.specs.declared.straight.Effect.{Effect}
 use Rattle.lk_facts.specs.declared.straight.Effect.TheVariants.{Write, Lock, Unlock, Create}
 use Rattle.lk_facts.specs.declared.straight.Statement.{Statement}
-use Rattle.lk_facts.specs.Straight.{Does, StandsIn, IsHeld, Lists, IsStraight}
+use Rattle.lk_facts.specs.Lists.{Lists}
+use Rattle.lk_facts.specs.Straight.{Does, StandsIn, IsHeld, IsStraight}
 use Rattle.lk_top.specs.Held.{is_held_after, AreHeld}
 use Rattle.lk_top.proofs.Program.{statement_at, does_at, stands_here, same_function, same_effect}
 

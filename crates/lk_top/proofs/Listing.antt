@@ -8,7 +8,8 @@ use Rattle.lk_sets.specs.Ids.{has_id, IsSetOf}
 use Rattle.lk_sets.proofs.Rising.{has_id-append, append_rises}
 use Rattle.lk_facts.specs.declared.straight.Statement.{Statement}
 use Rattle.lk_facts.specs.declared.verdict.Racing.{Racing}
-use Rattle.lk_facts.specs.Straight.{Races, IsHeld, Lists, AreRacing}
+use Rattle.lk_facts.specs.Lists.{Lists}
+use Rattle.lk_facts.specs.Straight.{Races, IsHeld, AreRacing}
 use Rattle.lk_top.proofs.Conflicting.{race_within}
 
 module _ (P : ℕ → Type 0) where

@@ -3,7 +3,8 @@ use Rattle.std.specs.Prelude.{ℕ, Bool, List, [], ◌≡◌, ◌<◌, ◌&&◌,
 use Rattle.lk_facts.specs.declared.straight.Effect.{Effect}
 use Rattle.lk_facts.specs.declared.straight.Effect.TheVariants.{Write, Lock, Unlock, Create}
 use Rattle.lk_facts.specs.declared.straight.Statement.{Statement}
-use Rattle.lk_facts.specs.Straight.{IsHeld, Lists}
+use Rattle.lk_facts.specs.Lists.{Lists}
+use Rattle.lk_facts.specs.Straight.{IsHeld}
 
 -- whether lock x is held after an effect, by a test of what is held before it
 abbrev pub is_held_after : Effect → (ℕ → Bool) → ℕ → Bool

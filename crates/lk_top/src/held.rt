@@ -1,7 +1,8 @@
 //! Which locks are held before each statement.
 ghost use Rattle.std.specs.Prelude.{◌≡◌, ◌+◌, ◌<◌, ◌&&◌, ◌||◌, ◌==◌, not, length, IfOk};
 ghost use Rattle.lk_sets.specs.Ids.{has_id, IsSetOf};
-ghost use Rattle.lk_facts.specs.Straight.{IsStraight, IsHeld, Lists};
+ghost use Rattle.lk_facts.specs.Lists.{Lists};
+ghost use Rattle.lk_facts.specs.Straight.{IsStraight, IsHeld};
 ghost use Rattle.lk_top.specs.Held.{is_held_after, AreHeld};
 
 use lk_base::NoMemory;

@@ -1,6 +1,7 @@
 //! The verdicts of a program of straight lines.
 ghost use Rattle.std.specs.Prelude.{◌≡◌, ◌+◌, length, IfOk};
-ghost use Rattle.lk_facts.specs.Straight.{AreVerdicts, IsStraight, IsVerdict, Lists, Runs};
+ghost use Rattle.lk_facts.specs.Lists.{Lists};
+ghost use Rattle.lk_facts.specs.Straight.{AreVerdicts, IsStraight, IsVerdict, Runs};
 ghost use Rattle.lk_top.specs.Guards.{FitsState, IsCommon};
 ghost use Rattle.lk_top.specs.Held.{AreHeld};
 ghost use Rattle.lk_top.specs.Tables.{Marks};

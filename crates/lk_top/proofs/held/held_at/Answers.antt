@@ -1,7 +1,8 @@
 use Rattle.std.proofs.Common.{◌-◌, [], inl, inr, sym, subst, arith}
 use Rattle.std.proofs.lemmas.List.{get_or_read}
 use Rattle.std.proofs.lemmas.Result.{IfOk-weaker}
-use Rattle.lk_facts.specs.Straight.{IsHeld, Lists}
+use Rattle.lk_facts.specs.Lists.{Lists}
+use Rattle.lk_facts.specs.Straight.{IsHeld}
 use Rattle.lk_top.proofs.Holding.{held_at_begin, held_from_above}
 use Rattle.lk_top.proofs.held.held_at.Goals as goal
 use Rattle.lk_top.proofs.held.held_at.Goals.{then-at-eq0-via-then-at-eq0, then-at-eq0-via-else-at-eq0+then-program-at}

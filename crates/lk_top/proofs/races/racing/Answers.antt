@@ -1,6 +1,7 @@
 use Rattle.std.proofs.Common.{◌≡◌, ◌+◌, [], length, refl, sym, subst, arith}
 use Rattle.std.proofs.lemmas.List.{get_or_read}
-use Rattle.lk_facts.specs.Straight.{IsHeld, Lists}
+use Rattle.lk_facts.specs.Lists.{Lists}
+use Rattle.lk_facts.specs.Straight.{IsHeld}
 use Rattle.lk_top.proofs.Listing.{AreRacingBelow, racing_push, racing_all, locks_copied}
 use Rattle.lk_top.proofs.races.racing.Goals as goal
 

@@ -1,5 +1,5 @@
 use Rattle.std.proofs.Common.{take, ◌+◌}
-use Rattle.lk_facts.specs.Straight.{Lists}
+use Rattle.lk_facts.specs.Lists.{Lists}
 use Rattle.lk_top.proofs.Guarding.{AreHeldAt}
 use Rattle.lk_top.proofs.verdicts.common_locks.Given as goal
 

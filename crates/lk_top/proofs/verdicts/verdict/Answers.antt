@@ -1,6 +1,7 @@
 use Rattle.std.proofs.Common.{List, sym, subst}
 use Rattle.lk_facts.specs.declared.verdict.Racing.{Racing}
-use Rattle.lk_facts.specs.Straight.{AreRacing, IsDecided, Lists}
+use Rattle.lk_facts.specs.Lists.{Lists}
+use Rattle.lk_facts.specs.Straight.{AreRacing, IsDecided}
 use Rattle.lk_top.specs.Guards.{IsCommon, FitsState}
 use Rattle.lk_top.proofs.Guarding.{decided}
 use Rattle.lk_top.proofs.verdicts.verdict.Goals as goal
