@@ -1,6 +1,7 @@
 -- The laws of the definitions.
 use Rattle.std.proofs.Common.{◌≡◌, ℕ, Bool, true, false, ⊎_elim, inl, inr, refl}
 use Rattle.lk_facts.proofs.HeldLemmas.{never_not_held}
+use Rattle.lk_facts.proofs.MoreRaces.{more_conflicts, more_races}
 use Rattle.lk_facts.specs.Flow.{Flow}
 use Rattle.lk_facts.specs.Held.{NotHeld, Drops}
 use Rattle.lk_facts.specs.Items.{ItemTest, LockTest, Rises, PointItem, HasLock}
@@ -19,7 +20,7 @@ pub held_never : HeldIsNeverNotHeld
 held_never program labels flow p x held lost = never_not_held program labels flow held.0 held.1 lost held.2
 
 -- what is either true or false, and isn't false, is true
-not_false : (b : Bool) → (b ≡ false → ⊥) → b ≡ true
+pub not_false : (b : Bool) → (b ≡ false → ⊥) → b ≡ true
 not_false true h = refl
 not_false false h = absurd (h refl)
 
@@ -102,29 +103,6 @@ one_verdict program flow races locks linear o v w (IsVerdict.suspect race free) 
 one_verdict program flow races locks linear o v w (IsVerdict.suspect race free) (IsVerdict.suspect race' free') = refl
 
 module _ (program : Program) (labels : LabelTable) (flow : Flow) (less more : Ground) (worse : IsWorse less more) where
-  more_items : {p f s a : ℕ} {source : Source} {child : Bool} → PointItem program labels flow less.has p f source child s a → PointItem program labels flow more.has p f source child s a
-  more_items (PointItem.accessed here) = PointItem.accessed here
-  more_items (PointItem.risen rises has over) = PointItem.risen rises (worse.has _ _ _ _ has) over
-
-  more_conflict : {f o p s a q t b : ℕ} {source source' : Source} {child : Bool} → Conflict program labels flow less.after less.has f o p source s a q source' child t b → Conflict program labels flow more.after more.has f o p source s a q source' child t b
-  more_conflict both = record {
-    location = both.location;
-    first = more_items both.first;
-    second = more_items both.second;
-    later = worse.after _ _ both.later;
-    first_may = both.first_may;
-    second_may = both.second_may;
-    write = both.write;
-  }
-
-  more_conflicts : {f o p a : ℕ} {source : Source} {child : Bool} → Conflicts program labels flow less.after less.has f o p source child a → Conflicts program labels flow more.after more.has f o p source child a
-  more_conflicts (Conflicts.first both) = Conflicts.first (more_conflict both)
-  more_conflicts (Conflicts.second both) = Conflicts.second (more_conflict both)
-
-  more_races : {f o a : ℕ} {child : Bool} → Races program labels flow less.after less.has f child o a → Races program labels flow more.after more.has f child o a
-  more_races (Races.conflict is) = Races.conflict (more_conflicts is)
-  more_races (Races.risen rises race) = Races.risen rises (more_races race)
-
   fewer_locks : (locks locks' : LockTest) → ((f : ℕ) (child : Bool) (s a x : ℕ) → locks' f child s a x ≡ true → locks f child s a x ≡ true) →
       (p : ℕ) (source : Source) (child : Bool) (a x : ℕ) → HasLock program labels flow more.held locks' p source child a x → HasLock program labels flow less.held locks p source child a x
   fewer_locks locks locks' fewer p OwnAccess child a x has = worse.at p x has
@@ -141,14 +119,14 @@ unguarded program labels flow less more worse races races' locks locks' are are'
     })
   where
     there : (child : Bool) (a : ℕ) → races program.main child o a ≡ true → races' program.main child o a ≡ true
-    there child a race = (are'.exact _ _ _ _).1 (more_races program labels flow less more worse ((are.exact _ _ _ _).0 race))
+    there child a race = (are'.exact _ _ _ _).1 (more_races program labels flow worse.after worse.has ((are.exact _ _ _ _).0 race))
 
     allowed : AreRaceLocks program labels flow less.after less.has less.held less.locks races locks'
     allowed = record {
       conflict = λ f o p source child a x is has.
           fewer_locks program labels flow less more worse less.locks more.locks worse.locks p source child a x
-          (are'.within.conflict f o p source child a x (more_conflicts program labels flow less more worse is) has);
+          (are'.within.conflict f o p source child a x (more_conflicts program labels flow worse.after worse.has is) has);
       risen = λ p f g o a x way below above rises race has.
           fewer_locks program labels flow less more worse locks' locks' (λ f child s a x h. h) p (ItemBelow way g below o) above a x
-          (are'.within.risen p f g o a x way below above rises ((are'.exact _ _ _ _).1 (more_races program labels flow less more worse ((are.exact _ _ _ _).0 race))) has);
+          (are'.within.risen p f g o a x way below above rises ((are'.exact _ _ _ _).1 (more_races program labels flow worse.after worse.has ((are.exact _ _ _ _).0 race))) has);
     }

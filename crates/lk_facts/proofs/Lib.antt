@@ -1,5 +1,7 @@
 pub mod HeldLemmas
 pub mod LawLemmas
+pub mod MoreRaces
+pub mod OneAnalysis
 pub mod OneThread
 pub mod OneVerdict
 pub mod Ranges

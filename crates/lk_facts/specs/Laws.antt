@@ -1,5 +1,6 @@
 -- What the definitions imply. Each law is the contract of a public function.
-use Rattle.std.specs.Prelude.{◌≡◌, ◌↔◌, ℕ, Bool, true, false, Some, ◌⊎◌}
+use Rattle.std.specs.Prelude.{◌≡◌, ◌↔◌, ℕ, Bool, true, false, List, Some, ◌⊎◌}
+use Rattle.lk_facts.specs.Analysis.{AreVerdictsOf}
 use Rattle.lk_facts.specs.Doing.{Runs}
 use Rattle.lk_facts.specs.Flow.{Flow, Over, Clash, MeansOnly}
 use Rattle.lk_facts.specs.Held.{Released, NotHeld, NotAdded, MayDrop, Keeps, IsHeld, AreLockSets}
@@ -10,6 +11,7 @@ use Rattle.lk_facts.specs.Program.{Program, live_at, entry_of, writes_at}
 use Rattle.lk_facts.specs.Racing.{Races, AreRaces}
 use Rattle.lk_facts.specs.Reach.{IsNext}
 use Rattle.lk_facts.specs.Verdicts.{InLockSet, Guards, IsVerdict}
+use Rattle.lk_facts.specs.declared.verdict.Verdict.{Verdict}
 use Rattle.lk_facts.specs.declared.verdict.VerdictState.{VerdictState}
 use Rattle.lk_facts.specs.declared.verdict.VerdictState.TheVariants.{Guarded, Suspect}
 use Rattle.lk_sets.specs.Ids.{has_id}
@@ -104,3 +106,9 @@ SuspectStaysUnguarded =
     AreRaces program labels flow more.after more.has more.held more.locks races' locks' →
     (linear linear' : ℕ → Bool) → ((q : ℕ) → linear' q ≡ true → linear q ≡ true) →
     (o : ℕ) → IsVerdict program flow races locks linear o Suspect → IsVerdict program flow races' locks' linear' o Guarded → ⊥
+
+-- the analysis says one thing of a program
+abbrev pub VerdictsAreOne : Type 0
+VerdictsAreOne =
+    (program : Program) (labels : LabelTable) (flow : Flow) (linear : ℕ → Bool) (vs ws : List Verdict) →
+    AreVerdictsOf program labels flow linear vs → AreVerdictsOf program labels flow linear ws → vs ≡ ws

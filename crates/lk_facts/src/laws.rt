@@ -9,6 +9,7 @@ ghost use Rattle.lk_facts.specs.Laws.{
   GuardIsInLockSets,
   VerdictIsOne,
   SuspectStaysUnguarded,
+  VerdictsAreOne,
 };
 
 /// No lock is both held and not held on some way.
@@ -56,4 +57,9 @@ pub fn verdict_is_one()
 /// into a guarded one.
 pub fn suspect_stays_unguarded()
     ensures { SuspectStaysUnguarded }
+{}
+
+/// The analysis has one list of verdicts for a program.
+pub fn verdicts_are_one()
+    ensures { VerdictsAreOne }
 {}

@@ -31,7 +31,7 @@ pub use labels::Labels;
 pub use laws::{
     callees_lock_is_not_kept, guard_is_in_lock_sets, held_is_never_not_held, lock_sets_are_exact,
     nothing_is_held_at_entries, races_come_in_pairs, released_is_not_held, suspect_stays_unguarded,
-    verdict_is_one,
+    verdict_is_one, verdicts_are_one,
 };
 pub use origins::Origins;
 pub use point::Point;
