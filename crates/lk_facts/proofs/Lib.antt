@@ -2,8 +2,6 @@ pub mod HeldLemmas
 pub mod LawLemmas
 pub mod MoreRaces
 pub mod OneAnalysis
-pub mod OneThread
-pub mod OneVerdict
 pub mod Ranges
 pub mod Sets
 pub mod Sorted

@@ -13,6 +13,4 @@ pub mod Origins
 pub mod Program
 pub mod Racing
 pub mod Reach
-pub mod Straight
-pub mod StraightLaws
 pub mod Verdicts

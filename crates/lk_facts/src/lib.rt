@@ -16,8 +16,6 @@ mod points;
 mod root;
 mod sizes;
 mod source;
-mod straight;
-mod straight_laws;
 mod verdict;
 mod way;
 
@@ -39,10 +37,5 @@ pub use points::Points;
 pub use root::{Holder, Root, RootKind};
 pub use sizes::Sizes;
 pub use source::Source;
-pub use straight::{Effect, Statement};
-pub use straight_laws::{
-    each_location_has_one_verdict, no_location_has_two_states, own_accesses_do_not_race,
-    racing_accesses_of_a_guarded_location_share_a_lock,
-};
 pub use verdict::{Racing, Verdict, VerdictState};
 pub use way::Way;

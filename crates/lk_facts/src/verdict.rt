@@ -17,7 +17,7 @@ pub enum VerdictState {
 /// A racing access of a location, and the locks that are held there.
 #[derive(Debug, Drop)]
 pub struct Racing {
-    /// The control point, or in a program of straight lines the statement.
+    /// The control point.
     pub access: u32,
     /// The numbers of the locks.
     pub locks: IdSet,
