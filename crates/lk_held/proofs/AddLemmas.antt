@@ -22,7 +22,7 @@ use Rattle.lk_held.specs.declared.states.States.{States}
 use Rattle.lk_held.specs.States.{set_of}
 use Rattle.lk_held.specs.Holding.{AreStates, Omits, AreAdded, AreAfter, IsKept}
 use Rattle.lk_held.proofs.ActLemmas.{takes_no_run}
-use Rattle.lk_held.proofs.SetLemmas.{All-from_has_id, has_id-one}
+use Rattle.lk_rise.proofs.SetLemmas.{All-from_has_id, has_id-one}
 
 -- only labels name mutexes
 pub lock_within : (labels : LabelTable) (x : ℕ) → is_lock_at labels x ≡ true → x < length labels.entries

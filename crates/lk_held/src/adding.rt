@@ -11,7 +11,7 @@ ghost use Rattle.lk_held.specs.States.{holds};
 ghost use Rattle.lk_sets.specs.Ids.{has_id, IsSetOf};
 
 use crate::facts::Facts;
-use crate::over::{held_as, rises_as};
+use lk_rise::{held_as, rises_as};
 use crate::states::States;
 use lk_base::NoMemory;
 use lk_facts::{Label, Origins, Site};

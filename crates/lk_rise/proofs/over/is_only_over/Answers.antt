@@ -1,7 +1,7 @@
 use Rattle.std.proofs.Common.{◌≡◌, ℕ, true, List, subst, IsTrue, ◌↔◌, All}
 use Rattle.lk_sets.specs.Rows.{Rows, has}
-use Rattle.lk_held.proofs.OverLemmas.{only_over}
-use Rattle.lk_held.proofs.over.is_only_over.Goals as goal
+use Rattle.lk_rise.proofs.OverLemmas.{only_over}
+use Rattle.lk_rise.proofs.over.is_only_over.Goals as goal
 
 pub returns-then-has_no_other : goal.returns-then-has_no_other
 returns-then-has_no_other c =

@@ -8,14 +8,14 @@ use lk_sets::IdSet;
 use std::alloc::Global;
 
 /// Whether the set has all the numbers.
-pub(crate) fn has_all(set: &IdSet, ids: &[u32]) -> bool
+pub fn has_all(set: &IdSet, ids: &[u32]) -> bool
     ensures { result ≡ list_all (λ x. has_id set.now x) ids.now }
 {
     ids.iter().all(|id| set.has(*id))
 }
 
 /// A set without numbers.
-pub(crate) fn empty_set(alloc: Global) -> Result<IdSet, NoMemory>
+pub fn empty_set(alloc: Global) -> Result<IdSet, NoMemory>
     ensures { IfOk result (λ set. set ≡ []) }
 {
     let set = IdSet::from_list(alloc, &[])?;

@@ -1,7 +1,7 @@
 use Rattle.std.proofs.Common.{◌≡◌, ℕ, true}
 use Rattle.lk_sets.specs.Ids.{has_id}
 use Rattle.lk_sets.specs.Rows.{has}
-use Rattle.lk_held.proofs.over.clash.Given as goal
+use Rattle.lk_rise.proofs.over.clash.Given as goal
 
 abbrev pub invariant-loop-origin : goal.invariant-loop-origin
 invariant-loop-origin l =

@@ -2,8 +2,8 @@ use Rattle.std.proofs.Common.{◌≡◌, ℕ, true, subst}
 use Rattle.lk_facts.specs.Flow.{IsOnly}
 use Rattle.lk_facts.specs.Origins.{flow_of}
 use Rattle.lk_sets.specs.Rows.{Rows, has}
-use Rattle.lk_held.proofs.OverLemmas.{held_place, held_itself}
-use Rattle.lk_held.proofs.over.held_as.Goals as goal
+use Rattle.lk_rise.proofs.OverLemmas.{held_place, held_itself}
+use Rattle.lk_rise.proofs.over.held_as.Goals as goal
 
 pub returns-in-Some-clause-value : goal.returns-in-Some-clause-value
 returns-in-Some-clause-value c =

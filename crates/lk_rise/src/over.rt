@@ -4,7 +4,7 @@ ghost use Rattle.std.specs.Prelude.{◌≡◌, ◌<◌, ◌++◌, ℕ, true, ◌
 ghost use Rattle.lk_facts.specs.Flow.{IsOnly, Over, Up, IsHeldAs, RisesAs, Clash};
 ghost use Rattle.lk_facts.specs.Origins.{flow_of};
 ghost use Rattle.lk_facts.specs.declared.way.Way.TheVariants.{Through};
-ghost use Rattle.lk_held.specs.Only.{IsTheOne, IsOneIfOnly, over_list};
+ghost use Rattle.lk_rise.specs.Only.{IsTheOne, IsOneIfOnly, over_list};
 ghost use Rattle.lk_sets.specs.Rows.{has};
 
 use lk_base::NoMemory;
@@ -12,7 +12,7 @@ use lk_facts::{Label, Origins, Site};
 use lk_sets::BitRows;
 
 /// Whether two labels may mean one and the same place.
-pub(crate) fn clash(origins: &Origins, x: u32, y: u32) -> bool
+pub fn clash(origins: &Origins, x: u32, y: u32) -> bool
     requires x { x < origins.now.all.size }
     requires y { y < origins.now.all.size }
     ensures { IsTrue result ↔ Clash (flow_of origins.now) x y }
@@ -55,7 +55,7 @@ fn only_in_row(rows: &BitRows, a: u32) -> Option<u32>
 
 /// What a lock set holds for a lock: the one place that the label can mean, where there is just one, else the
 /// label itself.
-pub(crate) fn held_as(origins: &Origins, x: u32) -> u32
+pub fn held_as(origins: &Origins, x: u32) -> u32
     requires { x < origins.now.all.size }
     ensures value { IsOnly (IsHeldAs (flow_of origins.now) x) result }
     ensures in_range { result < origins.now.all.size }
@@ -112,7 +112,7 @@ fn up(origins: &Origins, site: Site, x: u32) -> Option<u32>
 }
 
 /// What a lock set outside holds for the lock x inside, where that is one label.
-pub(crate) fn rises_as(origins: &Origins, site: Site, x: u32) -> Option<u32>
+pub fn rises_as(origins: &Origins, site: Site, x: u32) -> Option<u32>
     requires { x < origins.now.all.size }
     ensures value { IsTheOne (RisesAs (flow_of origins.now) (Through site) x) result }
     ensures in_range { IfSome result (λ y. y < origins.now.all.size) }
@@ -124,7 +124,7 @@ pub(crate) fn rises_as(origins: &Origins, site: Site, x: u32) -> Option<u32>
 }
 
 /// Puts all labels that x inside may be outside behind the numbers.
-pub(crate) fn push_over(
+pub fn push_over(
     origins: &Origins,
     site: Site,
     x: u32,

@@ -1,7 +1,7 @@
 use Rattle.std.proofs.Common.{◌≡◌, ◌<◌, subst, sym, ◌∙◌}
 use Rattle.lk_sets.specs.Rows.{Rows, IsSquare, row_of}
 use Rattle.lk_sets.proofs.Reading.{has_id-row, read_here}
-use Rattle.lk_held.proofs.over.clash.Goals as goal
+use Rattle.lk_rise.proofs.over.clash.Goals as goal
 
 pub loop-origin-init : goal.loop-origin-init
 loop-origin-init c =

@@ -14,8 +14,8 @@ use Rattle.lk_sets.specs.Ids.{has_id}
 use Rattle.lk_sets.specs.Rows.{Rows, IsSquare, has, row_of}
 use Rattle.lk_sets.proofs.Reading.{has_id-row}
 use Rattle.lk_sets.proofs.Rising.{has_id-append}
-use Rattle.lk_held.specs.Only.{over_list}
-use Rattle.lk_held.proofs.SetLemmas.{All-from_has_id, All-has_id, has_id-flat_map}
+use Rattle.lk_rise.specs.Only.{over_list}
+use Rattle.lk_rise.proofs.SetLemmas.{All-from_has_id, All-has_id, has_id-flat_map}
 
 -- x is only m outside, where both its lists have no other number
 pub only_over : (inner : Rows) (x m : ℕ) (outside : List ℕ) (all : Bool) → ((o : ℕ) → has inner x o ≡ true → o ≡ m) → (IsTrue all ↔ All (λ o. o ≡ m) outside) → IsTrue all ↔ ((o : ℕ) → (has inner x o ≡ true) ⊎ (has_id outside o ≡ true) → o ≡ m)

@@ -1,0 +1,3 @@
+pub mod Correlations
+pub mod Only
+pub mod Rising
