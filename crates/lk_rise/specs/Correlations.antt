@@ -14,19 +14,25 @@ abbrev pub item_of : (f : ℕ) (child : Bool) (subject access : ℕ) → Item
 item_of f child subject access = record { function = f; child = child; subject = subject; access = access }
 
 abbrev pub is_same : Item → Item → Bool
-is_same a b = a.function == b.function && beq a.child b.child && a.subject == b.subject && a.access == b.access
+is_same a b = a.function == b.function && (beq a.child b.child && (a.subject == b.subject && a.access == b.access))
 
 -- the locks of an item, where it is there
 abbrev pub set_of : List (Item × List ℕ) → Item → Option (List ℕ)
 set_of entries item = lookup (is_same item) entries
 
 -- whether the item is there
-abbrev pub has_of : List (Item × List ℕ) → ItemTest
-has_of entries f child subject access = is_some (set_of entries (item_of f child subject access))
+abbrev pub has_item : List (Item × List ℕ) → Item → Bool
+has_item entries item = is_some (set_of entries item)
 
 -- whether the lock is held at the item
+abbrev pub has_lock : List (Item × List ℕ) → Item → ℕ → Bool
+has_lock entries item x = option_map_or (λ set. has_id set x) (set_of entries item) false
+
+abbrev pub has_of : List (Item × List ℕ) → ItemTest
+has_of entries f child subject access = has_item entries (item_of f child subject access)
+
 abbrev pub locks_of : List (Item × List ℕ) → LockTest
-locks_of entries f child subject access x = option_map_or (λ set. has_id set x) (set_of entries (item_of f child subject access)) false
+locks_of entries f child subject access x = has_lock entries (item_of f child subject access) x
 
 -- no item is there twice: what a place has is what is read of its item
 pub record AreCorrelations (entries : List (Item × List ℕ)) : Type 0 where
