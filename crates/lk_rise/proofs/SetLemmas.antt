@@ -1,8 +1,9 @@
 -- Lists as sets of numbers: what holds of each number, how long a list is, and what a list has that is made of others.
-use Rattle.std.proofs.Common.{◌≡◌, ◌<◌, ◌≤◌, ◌&&◌, ◌||◌, ◌↔◌, ◌⊎◌, ℕ, suc, Bool, true, false, eqb, cond, List, [], ◌∷◌, ◌++◌, length, All, Contains, refl, sym, ap, ◌∙◌, subst, ⊎_elim, inl, inr, arith}
+use Rattle.std.proofs.Common.{◌≡◌, ◌<◌, ◌≤◌, ◌+◌, ◌&&◌, ◌||◌, ◌↔◌, ◌⊎◌, ℕ, suc, Bool, true, false, eqb, cond, List, [], ◌∷◌, ◌++◌, length, get_or, take, All, Contains, refl, sym, ap, ◌∙◌, subst, ⊎_elim, inl, inr, arith}
 use Rattle.std.specs.List.{filter, flat_map, list_all, list_any, range_with_len}
 use Rattle.std.specs.List.Sorted.{IsStrictlyIncreasing}
 use Rattle.std.proofs.lemmas.Bool.{and_cases, and_parts, both_ways, cases_Bool, eqb-true, eq-eqb, false≢true, lt-ltb, or_cases, or_left, or_right}
+use Rattle.std.proofs.lemmas.List.{take_more}
 use Rattle.std.proofs.lemmas.List.Elements.{All-contains, All-contains_itself, All-weaker}
 use Rattle.std.proofs.lemmas.List.FromFn.{length-range_with_len}
 use Rattle.std.proofs.lemmas.List.Kept.{IsStrictlyIncreasing-filter}
@@ -122,3 +123,24 @@ passes_at p (y ∷ ys) x there passes =
       | inl same ↦ or_left _ _ (subst (λ z. p z ≡ true) (sym (eqb-true y x same)) passes)
       | inr later ↦ or_right (p y) _ (passes_at p ys x later passes)
     ]
+
+-- a relation from the numbers of a list, one number more
+pub related_more : (R : ℕ → ℕ → Type 0) (xs : List ℕ) (i d : ℕ) (old new : List ℕ) → i < length xs →
+    ((y : ℕ) → (has_id new y ≡ true) ↔ ((has_id old y ≡ true) ⊎ R (get_or xs i d) y)) →
+    ((y : ℕ) → (has_id old y ≡ true) ↔ ((x : ℕ) × (has_id (take i xs) x ≡ true) × R x y)) →
+    (y : ℕ) → (has_id new y ≡ true) ↔ ((x : ℕ) × (has_id (take (i + 1) xs) x ≡ true) × R x y)
+related_more R xs i d old new within more before y =
+    let z = get_or xs i d in
+    let parts : (x : ℕ) → has_id (take (i + 1) xs) x ≡ (has_id (take i xs) x || has_id (z ∷ []) x) = λ x. ap (λ s. has_id s x) (take_more xs i d within) ∙ has_id-append (take i xs) (z ∷ []) x in (
+      λ there.
+          ⊎_elim
+          (λ earlier. let found = (before y).0 earlier in (found.0, parts found.0 ∙ or_left _ _ found.1, found.2))
+          (λ now. (z, parts z ∙ or_right (has_id (take i xs) z) _ ((has_id-one z z).1 refl), now))
+          ((more y).0 there),
+      λ found.
+          (more y).1
+          (elim (or_cases (has_id (take i xs) found.0) (has_id (z ∷ []) found.0) (sym (parts found.0) ∙ found.1)) [
+            | inl earlier ↦ inl ((before y).1 (found.0, earlier, found.2))
+            | inr now ↦ inr (subst (λ x. R x y) ((has_id-one z found.0).0 now) found.2)
+          ]),
+    )

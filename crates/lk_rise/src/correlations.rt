@@ -1,11 +1,15 @@
 //! Accesses, with the locks that are held at them.
-ghost use Rattle.std.specs.Prelude.{◌≡◌, ◌<◌, Some, length, slice_get};
+ghost use Rattle.std.specs.Prelude.{◌≡◌, ◌<◌, [], Some, length, slice_get, IfOk, MatchOption};
 ghost use Rattle.std.specs.List.Sorted.{IsStrictlyIncreasing};
 ghost use Rattle.std.specs.Option.{option_map};
-ghost use Rattle.lk_rise.specs.Correlations.{AreCorrelations};
+ghost use Rattle.lk_rise.specs.Correlations.{AreCorrelations, set_of};
+ghost use Rattle.lk_rise.specs.Tables.{IsLeft, IsWithin, Offered, item_at};
 
+use crate::sets::has_all;
 use indexmap::IndexMap;
+use lk_base::NoMemory;
 use lk_sets::IdSet;
+use std::alloc::Global;
 use std::marker::Model;
 
 /// An item: an access that a function makes, itself or in what it runs or starts.
@@ -39,6 +43,15 @@ impl Model for Correlations {
 }
 
 impl Correlations {
+    /// No items.
+    pub(crate) fn new(alloc: Global) -> Correlations
+        ensures { result ≡ [] }
+    {
+        Correlations {
+            entries: IndexMap::new(alloc),
+        }
+    }
+
     /// How many items there are.
     pub fn count(&self) -> usize
         ensures value { result ≡ length self.now }
@@ -70,5 +83,44 @@ impl Correlations {
         ensures sorted { IsStrictlyIncreasing result.now }
     {
         self.entry(i).1.ids()
+    }
+
+    /// What is left of the locks of an item once they have met a set, or nothing where all are left. Of a new item
+    /// all of the set is left.
+    fn left(&self, alloc: Global, item: Item, set: &IdSet) -> Result<Option<IdSet>, NoMemory>
+        ensures { IfOk result (λ found. MatchOption found (IsWithin self.now item set.now) (IsLeft self.now item set.now)) }
+    {
+        match self.entries.get(&item) {
+            None => {
+                let copy = IdSet::from_list(alloc, set.ids())?;
+                Ok(Some(copy))
+            }
+            Some(old) => {
+                if has_all(set, old.ids()) {
+                    return Ok(None);
+                }
+                let met = old.meet(set)?;
+                Ok(Some(met))
+            }
+        }
+    }
+
+    /// Puts an item with the locks of a set, or takes those away from its locks that aren't in the set where the item
+    /// is there already, and answers whether something changed.
+    pub(crate) fn offer(
+        &mut self,
+        alloc: Global,
+        item: Item,
+        set: &IdSet,
+    ) -> Result<bool, NoMemory>
+        ensures { IfOk result (Offered self.old self.new item set.now) }
+    {
+        match self.left(alloc, item, set)? {
+            None => Ok(false),
+            Some(left) => {
+                self.entries.insert(item, left)?;
+                Ok(true)
+            }
+        }
     }
 }

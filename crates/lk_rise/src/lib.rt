@@ -3,11 +3,13 @@
 #![tactic(auto)]
 
 mod correlations;
+mod links;
 mod over;
+mod passing;
 mod rising;
 mod sets;
 
 pub use correlations::{Correlations, Item};
-pub use over::{clash, held_as, push_over, rises_as};
+pub use over::{clash, held_as, push_over, risen, rises_as};
 pub use rising::{Subjects, rise};
 pub use sets::{empty_set, has_all};

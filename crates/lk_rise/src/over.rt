@@ -1,15 +1,17 @@
 //! What a label inside a function is to its caller, and what a lock set holds for a lock. Labels are given by their
 //! numbers.
-ghost use Rattle.std.specs.Prelude.{◌≡◌, ◌<◌, ◌++◌, ℕ, true, ◌↔◌, IsTrue, IfSome, OnOk, MatchOption, All};
+ghost use Rattle.std.specs.Prelude.{◌≡◌, ◌<◌, ◌++◌, ◌⊎◌, ℕ, true, ◌↔◌, IsTrue, IfSome, IfOk, OnOk, MatchOption, All};
 ghost use Rattle.lk_facts.specs.Flow.{IsOnly, Over, Up, IsHeldAs, RisesAs, Clash};
 ghost use Rattle.lk_facts.specs.Origins.{flow_of};
 ghost use Rattle.lk_facts.specs.declared.way.Way.TheVariants.{Through};
 ghost use Rattle.lk_rise.specs.Only.{IsTheOne, IsOneIfOnly, over_list};
+ghost use Rattle.lk_sets.specs.Ids.{has_id};
 ghost use Rattle.lk_sets.specs.Rows.{has};
 
 use lk_base::NoMemory;
 use lk_facts::{Label, Origins, Site};
 use lk_sets::BitRows;
+use std::alloc::Global;
 
 /// Whether two labels may mean one and the same place.
 pub fn clash(origins: &Origins, x: u32, y: u32) -> bool
@@ -138,4 +140,35 @@ pub fn push_over(
     }
     ids.extend_from_slice(origins.cross(site, Label(x)))?;
     Ok(())
+}
+
+/// Puts what a lock set outside holds for the lock x inside behind the numbers, where that is one label.
+fn push_risen(origins: &Origins, site: Site, x: u32, ids: &mut Vec<u32>) -> Result<(), NoMemory>
+    requires { x < origins.now.all.size }
+    ensures { OnOk result ((y : ℕ) → (has_id ids.new.items y ≡ true) ↔ ((has_id ids.old.items y ≡ true) ⊎ RisesAs (flow_of origins.now) (Through site) x y)) }
+{
+    if let Some(y) = rises_as(origins, site, x) {
+        ids.push(y)?;
+    }
+    Ok(())
+}
+
+/// What lock sets outside hold for the locks inside, through the site of a call.
+pub fn risen(
+    alloc: Global,
+    origins: &Origins,
+    site: Site,
+    locks: &[u32],
+) -> Result<Vec<u32>, NoMemory>
+    requires { All (λ x. x < origins.now.all.size) locks.now }
+    ensures members { IfOk result (λ ids. (y : ℕ) → (has_id ids.items y ≡ true)
+        ↔ ((x : ℕ) × (has_id locks.now x ≡ true) × RisesAs (flow_of origins.now) (Through site) x y)) }
+    ensures in_range { IfOk result (λ ids. All (λ y. y < origins.now.all.size) ids.items) }
+{
+    prove!(origins.labels() == origins.all().size());
+    let mut ids = Vec::new(alloc);
+    for x in locks {
+        push_risen(origins, site, *x, &mut ids)?;
+    }
+    Ok(ids)
 }

@@ -20,7 +20,27 @@ pub enum Subjects {
     AsTheyAre,
 }
 
-/// The given items, and those that rise from them, by calls and creations, with the locks that are held at each.
+/// What items rise in.
+#[derive(Drop)]
+pub(crate) struct Rising<'a> {
+    /// The points and functions.
+    pub points: &'a Points,
+    /// The labels.
+    pub labels: &'a Labels,
+    /// Which origins may flow to which labels.
+    pub origins: &'a Origins,
+    /// The locks that are held at the points.
+    pub held: &'a Held,
+    /// The items that are given.
+    pub base: &'a [(Item, IdSet)],
+    /// What subjects are above.
+    pub subjects: Subjects,
+    ghost origins_size: { origins.now.all.size ≡ length labels.now.entries },
+    ghost held_points: { length held.now.at ≡ length points.now.points },
+    ghost held_labels: { held.now.labels ≡ length labels.now.entries },
+}
+
+/// The given items, and those that rise from them by calls and creations, with the locks that are held at each.
 ///
 /// An item that is given several times has only the locks that are in all of its sets. Lock sets, labels and origins
 /// are those of the points, and the numbers in the given items are in range.
@@ -40,5 +60,18 @@ pub fn rise(
     ensures risen { IfOk result (AreRisen points.now labels.now (flow_of origins.now) (Carries (flow_of origins.now) subjects) based.now (held_table held.now)) }
     ensures in_range { IfOk result (AreInRange points.now labels.now (subjects_below points.now labels.now subjects)) }
 {
-    Err(NoMemory)
+    let rising = Rising {
+        points,
+        labels,
+        origins,
+        held,
+        base: based,
+        subjects,
+    };
+    let links = rising.links(alloc)?;
+    let mut table = Correlations::new(alloc);
+    rising.put_base(alloc, &mut table)?;
+    rising.grow(alloc, &links, &mut table)?;
+    while rising.pass_each(alloc, &links, &mut table)? {}
+    Ok(table)
 }

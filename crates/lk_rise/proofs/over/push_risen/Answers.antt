@@ -1,4 +1,4 @@
-use Rattle.lk_held.proofs.adding.push_risen.Goals as goal
+use Rattle.lk_rise.proofs.over.push_risen.Goals as goal
 use Rattle.std.proofs.Common.{⊎_elim, inl}
 
 pub returns-in_default : goal.returns-in_default

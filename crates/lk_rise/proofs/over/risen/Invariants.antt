@@ -3,8 +3,8 @@ use Rattle.lk_facts.specs.Flow.{RisesAs}
 use Rattle.lk_facts.specs.Origins.{flow_of}
 use Rattle.lk_facts.specs.declared.way.Way.TheVariants.{Through}
 use Rattle.lk_sets.specs.Ids.{has_id}
-use Rattle.lk_held.proofs.facts.Facts.risen.Given as goal
+use Rattle.lk_rise.proofs.over.risen.Given as goal
 
 abbrev pub invariant-loop-x : goal.invariant-loop-x
 invariant-loop-x l =
-    (y : ℕ) → (has_id l.ids.items y ≡ true) ↔ ((x : ℕ) × (has_id (take l.x-index l.locks) x ≡ true) × RisesAs (flow_of l.self.origins.now) (Through l.site) x y)
+    (y : ℕ) → (has_id l.ids.items y ≡ true) ↔ ((x : ℕ) × (has_id (take l.x-index l.locks) x ≡ true) × RisesAs (flow_of l.origins) (Through l.site) x y)
