@@ -89,7 +89,7 @@ pub risen_within : (origins : OriginTable) → AreOriginsInRange origins → IsS
 risen_within origins ranged all inner i x y rises = held_within origins all rises.0 y (over_within origins ranged inner i x rises.0 rises.1.holds) rises.2
 
 -- the list of what a label is outside has just that
-over_is : (origins : OriginTable) (i x m : ℕ) → (has_id (over_list origins i x) m ≡ true) ↔ Over (flow_of origins) (Through i) x m
+pub over_is : (origins : OriginTable) (i x m : ℕ) → (has_id (over_list origins i x) m ≡ true) ↔ Over (flow_of origins) (Through i) x m
 over_is origins i x m =
     let parts = has_id-append (row_of origins.inner x) (cross_of origins i x) m in
     let row = has_id-row origins.inner x m (row_of origins.inner x) refl in (

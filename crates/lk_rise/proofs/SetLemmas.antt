@@ -144,3 +144,12 @@ related_more R xs i d old new within more before y =
             | inr now ↦ inr (subst (λ x. R x y) ((has_id-one z found.0).0 now) found.2)
           ]),
     )
+
+-- a number that is there has a place
+pub place_of_id : (ids : List ℕ) (x : ℕ) → has_id ids x ≡ true → (j : ℕ) × (j < length ids) × (get_or ids j 0 ≡ x)
+place_of_id [] x there = absurd (false≢true there)
+place_of_id (y ∷ ys) x there =
+    elim (or_cases (eqb y x) (has_id ys x) there) [
+      | inl same ↦ (0, omega arith, eqb-true y x same)
+      | inr later ↦ let place = place_of_id ys x later in (suc place.0, omega (arith, place.1), place.2)
+    ]

@@ -12,6 +12,7 @@ module _ (program : Program) (labels : LabelTable) (flow : Flow) where
   -- items rise at the point by this link, and in no other way
   pub record IsLink (p : ℕ) (link : Link) : Type 0 where
     pub point : link.point ≡ p
+    pub within : p < length program.points
     pub above : link.above < length program.functions
     pub rises : (child : Bool) → Rises program labels flow p link.above (Through link.site) link.below child (child || link.starts)
     pub only : (f g : ℕ) (way : Way) (child above : Bool) → Rises program labels flow p f way g child above → (f ≡ link.above) × (g ≡ link.below) × (way ≡ Through link.site) × (above ≡ (child || link.starts))

@@ -1,5 +1,5 @@
 -- How a table of items grows and how its locks become fewer. Only the private calls of this crate speak of it.
-use Rattle.std.specs.Prelude.{◌≡◌, ℕ, ◌<◌, ◌&&◌, ◌||◌, ◌⊎◌, Bool, true, false, List, Option, Some, Contains, length, slice_get, sum_by}
+use Rattle.std.specs.Prelude.{◌≡◌, ℕ, ◌<◌, ◌&&◌, ◌||◌, ◌⊎◌, Bool, true, false, if◌then◌else◌, List, Option, Some, Contains, length, slice_get, sum_by}
 use Rattle.std.specs.List.Sorted.{IsStrictlyIncreasing}
 use Rattle.std.specs.Map.{values_of}
 use Rattle.std.specs.Option.{option_map, option_map_or}
@@ -39,6 +39,7 @@ pub record Puts (old new : List (Item × List ℕ)) (item : Item) (set : List �
   pub left : List ℕ
   pub is_left : IsLeft old item set left
   pub is : new ≡ insert_entry is_same old item left
+  pub found : (other : Item) → set_of new other ≡ (if is_same item other then Some left else set_of old other)
 
 pub record Offered (old new : List (Item × List ℕ)) (item : Item) (set : List ℕ) (changed : Bool) : Type 0 where
   pub same : changed ≡ false → new ≡ old
@@ -110,6 +111,7 @@ module _ (s : Setting) where
   -- locks; and where nothing has changed its locks are done.
   pub record Works (Present Done : List (Item × List ℕ) → Type 0) (old new : List (Item × List ℕ)) (changed : Bool) : Type 0 where
     pub grows : Grows old new
+    pub long : Present old → length new ≡ length old
     pub falls : changed ≡ true → Present old → weight new < weight old
     pub same : changed ≡ false → new ≡ old
     pub present : Present new

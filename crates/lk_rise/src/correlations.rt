@@ -1,5 +1,5 @@
 //! Accesses, with the locks that are held at them.
-ghost use Rattle.std.specs.Prelude.{◌≡◌, ◌<◌, [], Some, length, slice_get, IfOk, MatchOption};
+ghost use Rattle.std.specs.Prelude.{◌≡◌, ◌<◌, ◌^◌, [], Some, length, slice_get, IfOk, MatchOption};
 ghost use Rattle.std.specs.List.Sorted.{IsStrictlyIncreasing};
 ghost use Rattle.std.specs.Option.{option_map};
 ghost use Rattle.lk_rise.specs.Correlations.{AreCorrelations, set_of};
@@ -55,6 +55,7 @@ impl Correlations {
     /// How many items there are.
     pub fn count(&self) -> usize
         ensures value { result ≡ length self.now }
+        ensures small { result < 2 ^ 63 }
         ensures different { AreCorrelations self.now }
     {
         self.entries.len()
@@ -107,12 +108,7 @@ impl Correlations {
 
     /// Puts an item with the locks of a set, or takes those away from its locks that aren't in the set where the item
     /// is there already, and answers whether something changed.
-    pub(crate) fn offer(
-        &mut self,
-        alloc: Global,
-        item: Item,
-        set: &IdSet,
-    ) -> Result<bool, NoMemory>
+    pub(crate) fn offer(&mut self, alloc: Global, item: Item, set: &IdSet) -> Result<bool, NoMemory>
         ensures { IfOk result (Offered self.old self.new item set.now) }
     {
         match self.left(alloc, item, set)? {

@@ -1,5 +1,5 @@
 //! Calls and creations.
-ghost use Rattle.std.specs.Prelude.{◌≡◌, ◌<◌, length, IfOk};
+ghost use Rattle.std.specs.Prelude.{◌≡◌, ◌<◌, ◌+◌, length, IfOk, OnOk};
 ghost use Rattle.lk_facts.specs.Origins.{flow_of};
 ghost use Rattle.lk_rise.specs.Links.{IsLinkOf, AreLinksBelow};
 
@@ -50,15 +50,25 @@ impl Rising<'_> {
         }
     }
 
+    /// Puts the link of a point behind those of the points before it, where it has one.
+    fn push_link(&self, point: u32, links: &mut Vec<Link>) -> Result<(), NoMemory>
+        requires point { point < length self.now.points.now.points }
+        requires links { AreLinksBelow self.now.points.now self.now.labels.now (flow_of self.now.origins.now) point links.old.items }
+        ensures { OnOk result (AreLinksBelow self.now.points.now self.now.labels.now (flow_of self.now.origins.now) (point + 1) links.new.items) }
+    {
+        if let Some(link) = self.link(point) {
+            links.push(link)?;
+        }
+        Ok(())
+    }
+
     /// The links of all points.
     pub(crate) fn links(&self, alloc: Global) -> Result<Vec<Link>, NoMemory>
         ensures { IfOk result (λ links. AreLinksBelow self.now.points.now self.now.labels.now (flow_of self.now.origins.now) (length self.now.points.now.points) links.items) }
     {
         let mut links = Vec::new(alloc);
         for point in 0..self.points.count() {
-            if let Some(link) = self.link(point) {
-                links.push(link)?;
-            }
+            self.push_link(point, &mut links)?;
         }
         Ok(links)
     }

@@ -126,12 +126,7 @@ pub fn rises_as(origins: &Origins, site: Site, x: u32) -> Option<u32>
 }
 
 /// Puts all labels that x inside may be outside behind the numbers.
-pub fn push_over(
-    origins: &Origins,
-    site: Site,
-    x: u32,
-    ids: &mut Vec<u32>,
-) -> Result<(), NoMemory>
+pub fn push_over(origins: &Origins, site: Site, x: u32, ids: &mut Vec<u32>) -> Result<(), NoMemory>
     requires { x < origins.now.all.size }
     ensures { OnOk result (ids.new.items ≡ ids.old.items ++ over_list origins.now site x) }
 {

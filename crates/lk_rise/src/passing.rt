@@ -1,5 +1,6 @@
 //! How items rise.
-ghost use Rattle.std.specs.Prelude.{◌≡◌, ◌<◌, ◌↔◌, ◌||◌, ℕ, true, length, All, IfOk, OnOk};
+ghost use Rattle.std.specs.Prelude.{◌≡◌, ◌<◌, ◌↔◌, ◌||◌, ◌⊎◌, ℕ, true, false, length, All, IfOk, OnOk};
+ghost use Rattle.lk_facts.specs.LockSets.{keep_of};
 ghost use Rattle.lk_facts.specs.Origins.{flow_of, IsSetBelow};
 ghost use Rattle.lk_facts.specs.declared.way.Way.TheVariants.{Through};
 ghost use Rattle.lk_rise.specs.Links.{IsLink, AreLinksBelow};
@@ -47,6 +48,21 @@ impl Rising<'_> {
         }
     }
 
+    /// Puts the locks that a point keeps while it runs a function behind the numbers, where the item above is no child
+    /// item.
+    fn push_kept(&self, link: &Link, child: bool, ids: &mut Vec<u32>) -> Result<(), NoMemory>
+        requires { link.now.point < length self.now.points.now.points }
+        ensures members { OnOk result ((y : ℕ) → (has_id ids.new.items y ≡ true)
+            ↔ ((has_id ids.old.items y ≡ true) ⊎ (((child || link.now.starts) ≡ false) × (has_id (keep_of self.now.held.now link.now.point) y ≡ true)))) }
+        ensures in_range { OnOk result (All (λ y. y < length self.now.labels.now.entries) ids.old.items → All (λ y. y < length self.now.labels.now.entries) ids.new.items) }
+    {
+        if child || link.starts {
+            return Ok(());
+        }
+        ids.extend_from_slice(self.held.keep(link.point))?;
+        Ok(())
+    }
+
     /// The locks with which an item with these locks rises by a link.
     fn risen(
         &self,
@@ -57,15 +73,12 @@ impl Rising<'_> {
     ) -> Result<IdSet, NoMemory>
         requires point { link.now.point < length self.now.points.now.points }
         requires locks { IsSetBelow (length self.now.labels.now.entries) locks.now }
-        ensures members { IfOk result (λ set. (y : ℕ) → (has_id set y ≡ true)
-            ↔ HasLockAbove (setting self.now) link.now child locks.now y) }
+        ensures members { IfOk result (λ set. (y : ℕ) → (has_id set y ≡ true) ↔ HasLockAbove (setting self.now) link.now child locks.now y) }
         ensures in_range { IfOk result (IsSetBelow (length self.now.labels.now.entries)) }
     {
         prove!(self.origins.labels() == self.labels.count());
         let mut ids = risen(alloc, self.origins, link.site, locks)?;
-        if !(child || link.starts) {
-            ids.extend_from_slice(self.held.keep(link.point))?;
-        }
+        self.push_kept(link, child, &mut ids)?;
         let set = IdSet::from_list(alloc, &ids)?;
         Ok(set)
     }
@@ -85,8 +98,9 @@ impl Rising<'_> {
             (AreAboveWithin (setting self.now) link.now item.now set.now)
             table.old table.new) }
     {
+        let subjects = self.carried(alloc, link.site, item.subject)?;
         let mut changed = false;
-        for subject in self.carried(alloc, link.site, item.subject)?.iter() {
+        for subject in &subjects {
             changed |= table.offer(alloc, above(*link, *item, *subject), set)?;
         }
         Ok(changed)
@@ -108,6 +122,7 @@ impl Rising<'_> {
             (HasMet (setting self.now) link.now k)
             table.old table.new) }
     {
+        prove!(k < table.count());
         let item = table.item(k);
         if item.function != link.below {
             return Ok(false);
