@@ -68,11 +68,3 @@ frees_no_run program labels flow p (unlock a does at) (call g operands i runs si
 -- nor does one that takes a mutex
 pub takes_no_run : (program : Program) (labels : LabelTable) (flow : Flow) (p : ℕ) {f x h g : ℕ} {way : Way} → Takes program labels p f x → Runs program labels flow p h way g → ⊥
 takes_no_run program labels flow p (lock a does at) (call g operands i runs site) = let same : Some (Lock a) ≡ Some (Calls g operands) = sym does.is ∙ runs.is in cc
-
--- only points are live
-pub live_within : (program : Program) (p : ℕ) → live_at program p ≡ true → p < length program.points
-live_within program p live =
-    elim (slice_get_cases program.points p).1 [
-      | inl found ↦ found.1
-      | inr past ↦ absurd (false≢true (subst (λ point. option_map_or (λ (x : Point). x.live) point false ≡ true) past.1 live))
-    ]

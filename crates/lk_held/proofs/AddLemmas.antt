@@ -22,7 +22,7 @@ use Rattle.lk_held.specs.declared.states.States.{States}
 use Rattle.lk_held.specs.States.{set_of}
 use Rattle.lk_held.specs.Holding.{AreStates, Omits, AreAdded, AreAfter, IsKept}
 use Rattle.lk_held.proofs.ActLemmas.{takes_no_run}
-use Rattle.lk_held.proofs.SetLemmas.{All-from_has_id, has_id-one}
+use Rattle.lk_rise.proofs.SetLemmas.{All-from_has_id, has_id-one}
 
 -- only labels name mutexes
 pub lock_within : (labels : LabelTable) (x : ℕ) → is_lock_at labels x ≡ true → x < length labels.entries
@@ -35,27 +35,6 @@ lock_within labels x lock =
 -- so the locks at a point are labels
 pub states_within : (program : Program) (labels : LabelTable) (states : States) (p : ℕ) → AreStates program labels states → All (λ x. x < length labels.entries) (set_of states p)
 states_within program labels states p are = All-from_has_id (λ x. x < length labels.entries) (set_of states p) (λ x there. lock_within labels x (are.inside p x there))
-
--- a relation from the numbers of a list, one number more
-pub related_more : (R : ℕ → ℕ → Type 0) (xs : List ℕ) (i d : ℕ) (old new : List ℕ) → i < length xs →
-    ((y : ℕ) → (has_id new y ≡ true) ↔ ((has_id old y ≡ true) ⊎ R (get_or xs i d) y)) →
-    ((y : ℕ) → (has_id old y ≡ true) ↔ ((x : ℕ) × (has_id (take i xs) x ≡ true) × R x y)) →
-    (y : ℕ) → (has_id new y ≡ true) ↔ ((x : ℕ) × (has_id (take (i + 1) xs) x ≡ true) × R x y)
-related_more R xs i d old new within more before y =
-    let z = get_or xs i d in
-    let parts : (x : ℕ) → has_id (take (i + 1) xs) x ≡ (has_id (take i xs) x || has_id (z ∷ []) x) = λ x. ap (λ s. has_id s x) (take_more xs i d within) ∙ has_id-append (take i xs) (z ∷ []) x in (
-      λ there.
-          ⊎_elim
-          (λ earlier. let found = (before y).0 earlier in (found.0, parts found.0 ∙ or_left _ _ found.1, found.2))
-          (λ now. (z, parts z ∙ or_right (has_id (take i xs) z) _ ((has_id-one z z).1 refl), now))
-          ((more y).0 there),
-      λ found.
-          (more y).1
-          (elim (or_cases (has_id (take i xs) found.0) (has_id (z ∷ []) found.0) (sym (parts found.0) ∙ found.1)) [
-            | inl earlier ↦ inl ((before y).1 (found.0, earlier, found.2))
-            | inr now ↦ inr (subst (λ x. R x y) ((has_id-one z found.0).0 now) found.2)
-          ]),
-    )
 
 module _ (program : Program) (labels : LabelTable) (flow : Flow) (at : ℕ → ℕ → Bool) (p : ℕ) where
   -- a point that takes a mutex adds what lock sets hold for it

@@ -17,8 +17,8 @@ use Rattle.lk_held.specs.Holding.{Omits, AreAfter, AreStates, Sheds, AreWithin, 
 use Rattle.lk_held.specs.Progress.{Progress}
 use Rattle.lk_held.specs.States.{set_of, holds, weight}
 use Rattle.lk_sets.proofs.Rising.{has_id-append}
-use Rattle.lk_held.proofs.ActLemmas.{live_within}
-use Rattle.lk_held.proofs.SetLemmas.{has_id-one}
+use Rattle.lk_rise.proofs.LinkLemmas.{live_within}
+use Rattle.lk_rise.proofs.SetLemmas.{has_id-one}
 
 module _ (program : Program) (labels : LabelTable) (flow : Flow) where
   -- what a table omits isn't added, where what it lacks isn't held

@@ -17,7 +17,7 @@ use Rattle.lk_sets.proofs.Members.{has_id-filter}
 use Rattle.lk_sets.proofs.Reading.{has_id-row}
 use Rattle.lk_held.specs.Holding.{clash_at, apart_from, IsKept}
 use Rattle.lk_held.specs.Releasing.{Releases, AreReleased}
-use Rattle.lk_held.proofs.SetLemmas.{passing, passes_at}
+use Rattle.lk_rise.proofs.SetLemmas.{passing, passes_at}
 
 -- the test says whether two labels clash
 pub clash_is : (origins : OriginTable) (x y : ℕ) → (clash_at origins x y ≡ true) ↔ Clash (flow_of origins) x y

@@ -1,8 +1,6 @@
 pub mod ActLemmas
-pub mod OverLemmas
 pub mod ProgressLemmas
 pub mod ReleasingLemmas
-pub mod SetLemmas
 pub mod StateLemmas
 pub mod KeepLemmas
 pub mod AddLemmas

@@ -24,7 +24,7 @@ use Rattle.lk_held.specs.Releasing.{AreReleased}
 use Rattle.lk_held.specs.States.{set_of, holds}
 use Rattle.lk_held.proofs.AddLemmas.{lock_within, states_within}
 use Rattle.lk_held.proofs.HoldLemmas.{held_table}
-use Rattle.lk_held.proofs.SetLemmas.{All-from_has_id}
+use Rattle.lk_rise.proofs.SetLemmas.{All-from_has_id}
 
 -- the locks at a point are a set of labels
 pub set_below : (program : Program) (labels : LabelTable) (states : States) (p : ℕ) (ids : List ℕ) → AreStates program labels states → ids ≡ set_of states p → IsStrictlyIncreasing ids → IsSetBelow (length labels.entries) ids

@@ -20,8 +20,9 @@ use Rattle.lk_held.specs.declared.facts.Call.{Call}
 use Rattle.lk_held.specs.Acts.{IsFreed, IsCall}
 use Rattle.lk_held.specs.Progress.{Progress}
 use Rattle.lk_held.specs.Releasing.{has_in, Releases, room, Puts, Joins, AreSets, AreSound, Gains, HasReleased, AreReleased}
-use Rattle.lk_held.proofs.ActLemmas.{frees_no_run, live_within}
-use Rattle.lk_held.proofs.SetLemmas.{All-from_has_id, All-has_id, all_pass, at_most, has_id-one, one_fails, shorter}
+use Rattle.lk_held.proofs.ActLemmas.{frees_no_run}
+use Rattle.lk_rise.proofs.LinkLemmas.{live_within}
+use Rattle.lk_rise.proofs.SetLemmas.{All-from_has_id, All-has_id, all_pass, at_most, has_id-one, one_fails, shorter}
 
 module _ (program : Program) (labels : LabelTable) (flow : Flow) (releases : ℕ → ℕ → Type 0) (p : ℕ) where
   -- a point that frees a mutex releases that alone

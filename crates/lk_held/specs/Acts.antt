@@ -8,7 +8,7 @@ use Rattle.lk_facts.specs.Program.{Program}
 use Rattle.lk_facts.specs.declared.way.Way.{Way}
 use Rattle.lk_facts.specs.declared.way.Way.TheVariants.{Through}
 use Rattle.lk_held.specs.declared.facts.Call.{Call}
-use Rattle.lk_held.specs.Only.{IsTheOne}
+use Rattle.lk_rise.specs.Only.{IsTheOne}
 
 -- the point takes the mutex of this label, or takes none
 abbrev pub IsTaken : Program → LabelTable → ℕ → Option ℕ → Type 0

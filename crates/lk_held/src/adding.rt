@@ -11,23 +11,12 @@ ghost use Rattle.lk_held.specs.States.{holds};
 ghost use Rattle.lk_sets.specs.Ids.{has_id, IsSetOf};
 
 use crate::facts::Facts;
-use crate::over::{held_as, rises_as};
+use lk_rise::{held_as, risen};
 use crate::states::States;
 use lk_base::NoMemory;
 use lk_facts::{Label, Origins, Site};
 use lk_sets::IdSet;
 use std::alloc::Global;
-
-/// Puts what a lock set outside holds for the lock x inside behind the numbers, where that is one label.
-fn push_risen(origins: &Origins, site: Site, x: u32, ids: &mut Vec<u32>) -> Result<(), NoMemory>
-    requires { x < origins.now.all.size }
-    ensures { OnOk result ((y : ℕ) → (has_id ids.new.items y ≡ true) ↔ ((has_id ids.old.items y ≡ true) ⊎ RisesAs (flow_of origins.now) (Through site) x y)) }
-{
-    if let Some(y) = rises_as(origins, site, x) {
-        ids.push(y)?;
-    }
-    Ok(())
-}
 
 impl Facts<'_> {
     /// All labels that name a mutex.
@@ -44,19 +33,6 @@ impl Facts<'_> {
         Ok(locks)
     }
 
-    /// What lock sets outside hold for the locks inside, through the site of a call.
-    fn risen(&self, alloc: Global, site: Site, locks: &[u32]) -> Result<Vec<u32>, NoMemory>
-        requires { All (λ x. x < length self.now.labels.now.entries) locks.now }
-        ensures { IfOk result (λ ids. (y : ℕ) → (has_id ids.items y ≡ true)
-            ↔ ((x : ℕ) × (has_id locks.now x ≡ true) × RisesAs (flow_of self.now.origins.now) (Through site) x y)) }
-    {
-        let mut ids = Vec::new(alloc);
-        for x in locks {
-            push_risen(self.origins, site, *x, &mut ids)?;
-        }
-        Ok(ids)
-    }
-
     /// The labels that a point adds to the locks that are held.
     fn adds(&self, alloc: Global, point: u32, states: &States) -> Result<Vec<u32>, NoMemory>
         requires point { point < length self.now.points.now.points }
@@ -70,7 +46,7 @@ impl Facts<'_> {
         }
         if let Some(call) = self.runs(point) {
             let exit = self.points.exit(call.function);
-            return self.risen(alloc, call.site, states.at(exit));
+            return risen(alloc, self.origins, call.site, states.at(exit));
         }
         Ok(Vec::new(alloc))
     }

@@ -11,7 +11,7 @@ ghost use Rattle.lk_held.specs.States.{weight};
 ghost use Rattle.lk_sets.specs.Ids.{has_id};
 
 use crate::facts::Facts;
-use crate::sets::empty_set;
+use lk_rise::empty_set;
 use crate::states::States;
 use lk_base::NoMemory;
 use lk_sets::IdSet;

@@ -6,7 +6,7 @@ ghost use Rattle.lk_held.specs.Holding.{clash_at, apart_from, IsKept};
 ghost use Rattle.lk_held.specs.Releasing.{AreReleased};
 
 use crate::facts::Facts;
-use crate::over::clash;
+use lk_rise::clash;
 use lk_base::NoMemory;
 use lk_sets::IdSet;
 use std::alloc::Global;

@@ -6,9 +6,7 @@ mod facts;
 mod holding;
 mod keeping;
 mod lock_sets;
-mod over;
 mod releasing;
-mod sets;
 mod states;
 
 pub use lock_sets::held;

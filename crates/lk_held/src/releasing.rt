@@ -9,8 +9,8 @@ ghost use Rattle.lk_held.specs.Releasing.{AreSets, Joins, Releases, Gains, HasRe
 ghost use Rattle.lk_sets.specs.Ids.{has_id};
 
 use crate::facts::Facts;
-use crate::over::push_over;
-use crate::sets::{empty_set, has_all};
+use lk_rise::push_over;
+use lk_rise::{empty_set, has_all};
 use lk_base::NoMemory;
 use lk_facts::Site;
 use lk_sets::IdSet;

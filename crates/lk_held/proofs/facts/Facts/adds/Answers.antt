@@ -6,8 +6,8 @@ use Rattle.lk_sets.specs.Ids.{has_id}
 use Rattle.lk_held.specs.Holding.{AreAdded}
 use Rattle.lk_held.specs.States.{holds}
 use Rattle.lk_held.proofs.AddLemmas.{added_one, added_risen, added_none, states_within}
-use Rattle.lk_held.proofs.OverLemmas.{risen_within}
-use Rattle.lk_held.proofs.SetLemmas.{All-from_has_id}
+use Rattle.lk_rise.proofs.OverLemmas.{risen_within}
+use Rattle.lk_rise.proofs.SetLemmas.{All-from_has_id}
 use Rattle.lk_held.proofs.facts.Facts.adds.Goals as goal
 
 pub returns-in-Some-clause-added : goal.returns-in-Some-clause-added
@@ -21,7 +21,8 @@ returns-in-Some-clause-added c =
 pub risen-requires : goal.risen-requires
 risen-requires c =
     let self = c.args.self.now in
-    subst (All (λ x. x < length self.labels.now.entries)) (sym c.at.ensures.value) (states_within self.points.now self.labels.now c.args.states.now c.exit-exit.result c.requires.states)
+    subst (λ n. All (λ x. x < n) c.at.result.now) (sym self.same_size)
+    (subst (All (λ x. x < length self.labels.now.entries)) (sym c.at.ensures.value) (states_within self.points.now self.labels.now c.args.states.now c.exit-exit.result c.requires.states))
 
 pub returns-in-Some-runs-clause-added : goal.returns-in-Some-runs-clause-added
 returns-in-Some-runs-clause-added c =
@@ -33,16 +34,11 @@ returns-in-Some-runs-clause-added c =
       λ there. let found = (members y).0 there in (found.0, sym (same found.0) ∙ found.1, found.2),
       λ found. (members y).1 (found.0, same found.0 ∙ found.1, found.2),
     )))
-    c.risen.ensures
+    c.risen.ensures.members
 
 pub returns-in-Some-runs-clause-in_range : goal.returns-in-Some-runs-clause-in_range
 returns-in-Some-runs-clause-in_range c =
-    let self = c.args.self.now in
-    IfOk-weaker c.risen.result _ _ (λ ids members.
-    All-from_has_id (λ x. x < length self.labels.now.entries) ids.items (λ y there.
-    let found = (members y).0 there in
-    subst (λ n. y < n) self.same_size (risen_within self.origins.now c.labels.ensures.in_range c.labels.ensures.all c.labels.ensures.inner c.in-Some-runs.call.site found.0 y found.2)))
-    c.risen.ensures
+    IfOk-weaker c.risen.result _ _ (λ ids below. subst (λ n. All (λ x. x < n) ids.items) c.args.self.now.same_size below) c.risen.ensures.in_range
 
 pub returns-clause-added : goal.returns-clause-added
 returns-clause-added c =

@@ -1,7 +1,7 @@
 use Rattle.std.proofs.Common.{◌≡◌, ◌<◌, ◌∙◌, ap, sym, subst, ℕ, List, length}
 use Rattle.lk_sets.specs.Ids.{has_id}
 use Rattle.lk_held.proofs.KeepLemmas.{kept_is}
-use Rattle.lk_held.proofs.SetLemmas.{All-from_has_id, All-has_id}
+use Rattle.lk_rise.proofs.SetLemmas.{All-from_has_id, All-has_id}
 use Rattle.lk_held.proofs.facts.Facts.keeps.Goals as goal
 
 pub apart-requires-clause-others : goal.apart-requires-clause-others

@@ -1,8 +1,8 @@
 use Rattle.std.proofs.Common.{◌≡◌, ap, ◌∙◌}
 use Rattle.std.specs.List.{flat_map}
 use Rattle.std.proofs.lemmas.List.{take_all}
-use Rattle.lk_held.specs.Only.{over_list}
-use Rattle.lk_held.proofs.OverLemmas.{outside_members, outside_within}
+use Rattle.lk_rise.specs.Only.{over_list}
+use Rattle.lk_rise.proofs.OverLemmas.{outside_members, outside_within}
 use Rattle.lk_held.proofs.facts.Facts.outside.Goals as goal
 
 pub returns-clause-members : goal.returns-clause-members

@@ -1,6 +1,6 @@
 use Rattle.std.proofs.Common.{◌≡◌, take}
 use Rattle.std.specs.List.{flat_map}
-use Rattle.lk_held.specs.Only.{over_list}
+use Rattle.lk_rise.specs.Only.{over_list}
 use Rattle.lk_held.proofs.facts.Facts.outside.Given as goal
 
 abbrev pub invariant-loop-x : goal.invariant-loop-x

@@ -1,0 +1,77 @@
+//! What rises from functions to those that run or start them.
+ghost use Rattle.std.specs.Prelude.{◌≡◌, length, IfOk};
+ghost use Rattle.lk_facts.specs.Analysis.{held_table};
+ghost use Rattle.lk_facts.specs.Origins.{flow_of};
+ghost use Rattle.lk_rise.specs.Correlations.{AreInRange};
+ghost use Rattle.lk_rise.specs.Rising.{Carries, subjects_below, AreRisen};
+
+use crate::correlations::{Correlations, Item};
+use lk_base::NoMemory;
+use lk_facts::{Held, Labels, Origins, Points};
+use lk_sets::IdSet;
+use std::alloc::Global;
+
+/// What the subject of an item is to the function above.
+#[derive(Clone, Copy, Debug, PartialEq, Eq)]
+pub enum Subjects {
+    /// The subject is a label, and above it is each label that this one may be outside.
+    AsOutside,
+    /// The subject is a location, which is the same above.
+    AsTheyAre,
+}
+
+/// What items rise in.
+#[derive(Drop)]
+pub(crate) struct Rising<'a> {
+    /// The points and functions.
+    pub points: &'a Points,
+    /// The labels.
+    pub labels: &'a Labels,
+    /// Which origins may flow to which labels.
+    pub origins: &'a Origins,
+    /// The locks that are held at the points.
+    pub held: &'a Held,
+    /// The items that are given.
+    pub base: &'a [(Item, IdSet)],
+    /// What subjects are above.
+    pub subjects: Subjects,
+    ghost origins_size: { origins.now.all.size ≡ length labels.now.entries },
+    ghost held_points: { length held.now.at ≡ length points.now.points },
+    ghost held_labels: { held.now.labels ≡ length labels.now.entries },
+}
+
+/// The given items, and those that rise from them by calls and creations, with the locks that are held at each.
+///
+/// An item that is given several times has only the locks that are in all of its sets. Lock sets, labels and origins
+/// are those of the points, and the numbers in the given items are in range.
+pub fn rise(
+    alloc: Global,
+    points: &Points,
+    labels: &Labels,
+    origins: &Origins,
+    held: &Held,
+    based: &[(Item, IdSet)],
+    subjects: Subjects,
+) -> Result<Correlations, NoMemory>
+    requires origins { origins.now.all.size ≡ length labels.now.entries }
+    requires held_points { length held.now.at ≡ length points.now.points }
+    requires held_labels { held.now.labels ≡ length labels.now.entries }
+    requires based { AreInRange points.now labels.now (subjects_below points.now labels.now subjects) based.now }
+    ensures risen { IfOk result (AreRisen points.now labels.now (flow_of origins.now) (Carries (flow_of origins.now) subjects) based.now (held_table held.now)) }
+    ensures in_range { IfOk result (AreInRange points.now labels.now (subjects_below points.now labels.now subjects)) }
+{
+    let rising = Rising {
+        points,
+        labels,
+        origins,
+        held,
+        base: based,
+        subjects,
+    };
+    let links = rising.links(alloc)?;
+    let mut table = Correlations::new(alloc);
+    rising.put_base(alloc, &mut table)?;
+    rising.grow(alloc, &links, &mut table)?;
+    while rising.pass_each(alloc, &links, &mut table)? {}
+    Ok(table)
+}
