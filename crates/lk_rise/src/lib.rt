@@ -13,3 +13,6 @@ pub use correlations::{Correlations, Item};
 pub use over::{clash, held_as, push_over, risen, rises_as};
 pub use rising::{Subjects, fits, rise};
 pub use sets::{empty_set, has_all};
+
+#[cfg(test)]
+mod tests;
