@@ -1,20 +1,21 @@
 -- What tables of items have, and lists that are joined from others.
-use Rattle.std.proofs.Common.{◌≡◌, ◌<◌, ◌+◌, ◌&&◌, ◌||◌, ◌++◌, ◌⊎◌, ◌↔◌, ℕ, Bool, true, false, eqb, cond, List, [], ◌∷◌, length, get_or, take, All, Some, None, refl, sym, ap, ◌∙◌, subst, ⊎_elim, inl, inr}
+use Rattle.std.proofs.Common.{◌≡◌, ◌<◌, ◌+◌, ◌&&◌, ◌||◌, ◌++◌, ◌⊎◌, ◌↔◌, ℕ, Bool, true, false, eqb, cond, List, [], ◌∷◌, length, get_or, take, All, Contains, Option, Some, None, refl, sym, ap, ◌∙◌, subst, ⊎_elim, inl, inr}
 use Rattle.std.specs.List.{flat_map, slice_get}
-use Rattle.std.specs.Option.{option_map}
+use Rattle.std.specs.Option.{is_some, option_map}
 use Rattle.std.proofs.lemmas.Bool.{and_from, and_parts, cases_Bool, eqb-true, eq-eqb, false≢true, or_cases, or_left, or_right}
 use Rattle.std.proofs.lemmas.List.{append-nil, take_more}
 use Rattle.std.proofs.lemmas.List.Concat.{flat_map-append}
 use Rattle.std.proofs.lemmas.List.Elements.{All-head, All-tail}
-use Rattle.std.proofs.lemmas.Option.{slice_get_cases}
+use Rattle.std.proofs.lemmas.Option.{same_Some, slice_get_cases}
 use Rattle.lk_sets.specs.Ids.{has_id}
 use Rattle.lk_sets.proofs.Rising.{has_id-append}
 use Rattle.lk_rise.specs.declared.correlations.Item.{Item}
-use Rattle.lk_rise.specs.Correlations.{is_same, item_of, has_of, set_of}
-use Rattle.lk_rise.proofs.ItemLemmas.{same_item, same_itself}
+use Rattle.lk_rise.specs.Correlations.{is_same, item_of, has_of, has_item, set_of}
+use Rattle.lk_rise.proofs.ItemLemmas.{same_from_equal, same_item, same_itself}
 use Rattle.lk_rise.proofs.SetLemmas.{has_id-one}
 use Rattle.lk_conflict.specs.Listing.{access_in, accesses_in}
 use Rattle.lk_conflict.specs.Places.{AreLocksBelow}
+use Rattle.lk_conflict.proofs.ListLemmas.{head_or_tail, head_there, none_there, tail_there}
 
 -- a relation from the numbers of a list, one number more
 pub related_more : (R : ℕ → ℕ → Type 0) (xs : List ℕ) (i d : ℕ) (old new : List ℕ) → i < length xs →
@@ -112,3 +113,37 @@ accesses_more f o entries i item at =
           ∙ ap (λ xs. accesses_in f o (take i entries) ++ xs) (append-nil (access_in f o (get_or entries i found.0).0) ∙ ap (λ (e : Item × List ℕ). access_in f o e.0) found.3 ∙ ap (access_in f o) is)
       | inr past ↦ let none : None ≡ Some item = sym (ap (option_map (λ (entry : Item × List ℕ). entry.0)) past.1) ∙ at in absurd (cc)
     ]
+
+-- the set of an item is that of an entry
+pub found_there : (entries : List (Item × List ℕ)) (item : Item) (set : List ℕ) → Some set ≡ set_of entries item → Contains entries (item, set)
+found_there [] item set at = absurd (cc)
+found_there (e ∷ es) item set at =
+    elim (cases_Bool (is_same item e.0)) [
+      | inl same ↦
+          let here : Some set ≡ Some e.1 = at ∙ rw same refl in
+          let is : e ≡ (item, set) = (λ i. (sym (same_item item e.0 same) i, same_Some e.1 set (sym here) i)) in
+          subst (λ f. Contains (e ∷ es) f) is (head_there e es)
+      | inr other ↦ tail_there e es (item, set) (found_there es item set (at ∙ rw other refl))
+    ]
+
+-- and an item with an entry is there
+pub there_found : (entries : List (Item × List ℕ)) (item : Item) (set : List ℕ) → Contains entries (item, set) → has_item entries item ≡ true
+there_found [] item set there = absurd (none_there (item, set) there)
+there_found (e ∷ es) item set there =
+    elim (cases_Bool (is_same item e.0)) [
+      | inl same ↦ rw same refl
+      | inr other ↦
+          rw other
+          (elim (head_or_tail e es (item, set) there) [
+            | inl here ↦ absurd (false≢true (sym other ∙ same_from_equal item e.0 (ap (λ (f : Item × List ℕ). f.0) (sym here))))
+            | inr later ↦ there_found es item set later
+          ])
+    ]
+
+-- an item that is there has an entry
+pub entry_there : (entries : List (Item × List ℕ)) (item : Item) → has_item entries item ≡ true → (set : List ℕ) × Contains entries (item, set)
+entry_there entries item there = by_set (set_of entries item) refl there
+  where
+    by_set : (found : Option (List ℕ)) → found ≡ set_of entries item → is_some found ≡ true → (set : List ℕ) × Contains entries (item, set)
+    by_set None at some = absurd (false≢true some)
+    by_set (Some set) at some = (set, found_there entries item set at)

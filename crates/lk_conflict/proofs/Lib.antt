@@ -1,3 +1,6 @@
+pub mod BasisLemmas
 pub mod EntryLemmas
+pub mod ListLemmas
 pub mod PlaceLemmas
+pub mod PointLemmas
 pub mod VerdictLemmas

@@ -5,8 +5,17 @@ use Rattle.std.specs.List.Sorted.{IsStrictlyIncreasing}
 use Rattle.lk_facts.specs.declared.verdict.Racing.{Racing}
 use Rattle.lk_facts.specs.declared.verdict.VerdictState.{VerdictState}
 use Rattle.lk_facts.specs.declared.verdict.VerdictState.TheVariants.{Guarded, Unshared, Suspect}
+use Rattle.lk_facts.specs.Origins.{OriginTable}
+use Rattle.lk_facts.specs.Program.{Program}
+use Rattle.lk_facts.specs.declared.source.Source.TheVariants.{OwnAccess, ItemBelow}
+use Rattle.lk_facts.specs.declared.way.Way.TheVariants.{Through}
+use Rattle.lk_conflict.specs.Facts.{are_in_conflict}
+use Rattle.lk_conflict.specs.declared.item_at.ItemAt.{ItemAt}
+use Rattle.lk_conflict.specs.declared.links.Link.{Link}
+use Rattle.lk_rise.specs.Only.{over_list}
 use Rattle.lk_rise.specs.declared.correlations.Item.{Item}
 use Rattle.lk_sets.specs.Ids.{has_id, IsSetOf}
+use Rattle.lk_sets.specs.Rows.{has}
 
 -- whether a number is in the lock sets of all accesses
 abbrev pub in_all : List Racing → ℕ → Bool
@@ -30,3 +39,29 @@ access_in f o item = if item.function == f && item.subject == o then item.access
 -- the accesses of the items of a function for a location
 abbrev pub accesses_in : (f o : ℕ) → List (Item × List ℕ) → List ℕ
 accesses_in f o entries = flat_map (λ entry. access_in f o entry.0) entries
+
+-- the item of a point that is its own access
+abbrev pub own_access_of : (point subject : ℕ) → ItemAt
+own_access_of point subject = record { point = point; source = OwnAccess; child = false; subject = subject; access = point }
+
+-- the item of a call or creation from an item below, whose subject is this one above
+abbrev pub risen_item_of : Link → Item → ℕ → ItemAt
+risen_item_of link item subject = record {
+  point = link.point;
+  source = ItemBelow (Through link.site) link.below item.child item.subject;
+  child = item.child || link.starts;
+  subject = subject;
+  access = item.access;
+}
+
+-- the items of a call or creation from an item, where it is one of the function below
+abbrev pub items_through : OriginTable → Link → Item → List ItemAt
+items_through origins link item = if item.function == link.below then map (risen_item_of link item) (over_list origins link.site item.subject) else []
+
+-- the items that may be at a location
+abbrev pub at_location : OriginTable → ℕ → List ItemAt → List ItemAt
+at_location origins o items = filter (λ i. has origins.all i.subject o) items
+
+-- whether the item is in conflict with one of the others
+abbrev pub is_in_conflict : Program → (ℕ → ℕ → Bool) → List ItemAt → ItemAt → Bool
+is_in_conflict program after others i = list_any (λ j. are_in_conflict program after i j) others
