@@ -101,16 +101,17 @@ set_below n (e ∷ es) item locks below at =
       | inr other ↦ set_below n es item locks (All-tail (λ (f : Item × List ℕ). All (λ x. x < n) f.1) e es below) (at ∙ rw other refl)
     ]
 
--- one item more
-pub accesses_more : (f o : ℕ) (entries : List (Item × List ℕ)) (i : ℕ) (item : Item) → option_map (λ entry. entry.0) (slice_get entries i) ≡ Some item → accesses_in f o (take (i + 1) entries) ≡ accesses_in f o (take i entries) ++ access_in f o item
-accesses_more f o entries i item at =
+-- lists that come of the items, for one item more
+pub flat_more : {Y : Type 0} (h : Item → List Y) (entries : List (Item × List ℕ)) (i : ℕ) (item : Item) → option_map (λ entry. entry.0) (slice_get entries i) ≡ Some item →
+    flat_map (λ (entry : Item × List ℕ). h entry.0) (take (i + 1) entries) ≡ flat_map (λ (entry : Item × List ℕ). h entry.0) (take i entries) ++ h item
+flat_more h entries i item at =
     elim (slice_get_cases entries i).1 [
       | inl found ↦
           let same : Some found.0.0 ≡ Some item = sym (ap (option_map (λ (entry : Item × List ℕ). entry.0)) found.2) ∙ at in
           let is : found.0.0 ≡ item = cc in
-          ap (accesses_in f o) (take_more entries i found.0 found.1)
-          ∙ flat_map-append (λ (entry : Item × List ℕ). access_in f o entry.0) (take i entries) (get_or entries i found.0 ∷ [])
-          ∙ ap (λ xs. accesses_in f o (take i entries) ++ xs) (append-nil (access_in f o (get_or entries i found.0).0) ∙ ap (λ (e : Item × List ℕ). access_in f o e.0) found.3 ∙ ap (access_in f o) is)
+          ap (flat_map (λ (entry : Item × List ℕ). h entry.0)) (take_more entries i found.0 found.1)
+          ∙ flat_map-append (λ (entry : Item × List ℕ). h entry.0) (take i entries) (get_or entries i found.0 ∷ [])
+          ∙ ap (λ xs. flat_map (λ (entry : Item × List ℕ). h entry.0) (take i entries) ++ xs) (append-nil (h (get_or entries i found.0).0) ∙ ap (λ (e : Item × List ℕ). h e.0) found.3 ∙ ap h is)
       | inr past ↦ let none : None ≡ Some item = sym (ap (option_map (λ (entry : Item × List ℕ). entry.0)) past.1) ∙ at in absurd (cc)
     ]
 

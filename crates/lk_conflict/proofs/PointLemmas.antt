@@ -1,8 +1,8 @@
 -- What points access and what items they have.
-use Rattle.std.proofs.Common.{◌≡◌, ◌<◌, ◌≤◌, ◌&&◌, ◌||◌, ◌⊎◌, ◌↔◌, ◌++◌, ℕ, Bool, true, false, eqb, cond, List, [], ◌∷◌, length, map, Contains, All, Some, Option, None, refl, sym, ap, ◌∙◌, subst, inl, inr, arith}
-use Rattle.std.specs.List.{flat_map}
+use Rattle.std.proofs.Common.{◌≡◌, ◌<◌, ◌≤◌, ◌&&◌, ◌||◌, ◌⊎◌, ◌↔◌, ◌+◌, ◌++◌, ℕ, Bool, true, false, eqb, cond, List, [], ◌∷◌, length, map, take, Contains, All, Some, Option, None, refl, sym, ap, ◌∙◌, subst, inl, inr, arith}
+use Rattle.std.specs.List.{flat_map, slice_get}
 use Rattle.std.specs.Option.{IfSome, is_some, option_and_then, option_map, option_map_or}
-use Rattle.std.proofs.lemmas.Bool.{false≢true}
+use Rattle.std.proofs.lemmas.Bool.{eq-eqb, eqb-true, false≢true}
 use Rattle.std.proofs.lemmas.List.Elements.{All-contains}
 use Rattle.std.proofs.lemmas.Option.{same_Some, slice_get_cases}
 use Rattle.lk_facts.specs.declared.point.Point.{Point}
@@ -30,7 +30,7 @@ use Rattle.lk_conflict.specs.Links.{IsLink, RisesNowhere}
 use Rattle.lk_conflict.specs.declared.links.Link.{Link}
 use Rattle.lk_conflict.specs.Listing.{own_access_of, risen_item_of, items_through}
 use Rattle.lk_conflict.specs.declared.item_at.ItemAt.{ItemAt}
-use Rattle.lk_conflict.proofs.EntryLemmas.{entry_there, there_found}
+use Rattle.lk_conflict.proofs.EntryLemmas.{entry_there, flat_more, there_found}
 use Rattle.lk_conflict.proofs.ListLemmas.{head_there, in_flat_map, in_map, none_there, one_there}
 use Rattle.lk_rise.specs.Correlations.{AreInRange, IsEntryInRange, has_of, item_of}
 use Rattle.lk_rise.specs.Only.{IsTheOne, over_list}
@@ -228,10 +228,59 @@ module _ (program : Program) (labels : LabelTable) (origins : OriginTable) (entr
       accesses_of : (h z : ℕ) → Accesses program labels p h z → h ≡ f
       accesses_of h z (access action b does through target) = same_Some h f (sym does.of ∙ at)
 
-  -- the items of a point that is linked to a function below
-  pub linked_items : (link : Link) → IsTheOne (λ z. (h : ℕ) × Accesses program labels p h z) None → IsLink program labels (flow_of origins) p link → (i : ItemAt) →
-      Contains (flat_map (λ entry. items_through origins link entry.0) entries) i ↔ ((i.point ≡ p) × IsItemOf program labels (flow_of origins) (has_of entries) f i)
-  linked_items link none is i = ?
+  module _ (link : Link) (is : IsLink program labels (flow_of origins) p link) where
+    -- what rises from an entry is an item of the point
+    from_entry : (e : Item × List ℕ) (m : ℕ) → Contains entries e → e.0.function ≡ link.below → Over (flow_of origins) (Through link.site) e.0.subject m →
+        PointItem program labels (flow_of origins) (has_of entries) p f (ItemBelow (Through link.site) e.0.function e.0.child e.0.subject) (e.0.child || link.starts) m e.0.access
+    from_entry e m there below over =
+        let rises = is.rises e.0.child in
+        let of : link.above ≡ f = same_Some link.above f (sym (rises_of program labels (flow_of origins) p link.above link.below (Through link.site) e.0.child (e.0.child || link.starts) rises) ∙ at) in
+        risen
+        (subst (λ g. Rises program labels (flow_of origins) p g (Through link.site) e.0.function e.0.child (e.0.child || link.starts)) of
+        (subst (λ g. Rises program labels (flow_of origins) p link.above (Through link.site) g e.0.child (e.0.child || link.starts)) (sym below) rises))
+        (there_found entries e.0 e.1 there) over
+
+    -- and each item of the point rises from one
+    to_entry : (x a : ℕ) (source : Source) (child : Bool) → IsTheOne (λ z. (h : ℕ) × Accesses program labels p h z) None → PointItem program labels (flow_of origins) (has_of entries) p f source child x a →
+        Contains (flat_map (λ (entry : Item × List ℕ). items_through origins link entry.0) entries) (record { point = p; source = source; child = child; subject = x; access = a })
+    to_entry x a source child none (accessed accesses) = absurd (none x (f, accesses))
+    to_entry x a source child none (risen {g} {s} {way = way} {child = below} rises there over) =
+        let only = is.only f g way below child rises in
+        let entry = entry_there entries (item_of g below s a) there in
+        let item = item_of g below s a in
+        let over' : Over (flow_of origins) (Through link.site) s x = subst (λ w. Over (flow_of origins) w s x) only.2 over in
+        let listed = Contains-from_has_id (over_list origins link.site s) x ((over_is origins link.site s x).1 over') in
+        let mapped = (in_map (risen_item_of link item) (over_list origins link.site s) (risen_item_of link item x)).1 (x, listed, refl) in
+        let through : Contains (items_through origins link item) (risen_item_of link item x) = rw (eq-eqb g link.below only.1) mapped in
+        let same : risen_item_of link item x ≡ record { point = p; source = ItemBelow way g below s; child = child; subject = x; access = a } =
+        (λ d. record { point = is.point d; source = ItemBelow (sym only.2 d) g below s; child = sym only.3 d; subject = x; access = a }) in
+        subst (λ j. Contains (flat_map (λ (e : Item × List ℕ). items_through origins link e.0) entries) j) same
+        ((in_flat_map (λ (e : Item × List ℕ). items_through origins link e.0) entries (risen_item_of link item x)).1 ((item, entry.0), entry.1, through))
+
+    -- the items of a point that is linked to a function below
+    pub linked_items : IsTheOne (λ z. (h : ℕ) × Accesses program labels p h z) None → (i : ItemAt) →
+        Contains (flat_map (λ (entry : Item × List ℕ). items_through origins link entry.0) entries) i ↔ ((i.point ≡ p) × IsItemOf program labels (flow_of origins) (has_of entries) f i)
+    linked_items none i = (
+      λ there.
+          let found = (in_flat_map (λ (e : Item × List ℕ). items_through origins link e.0) entries i).0 there in
+          by_test found.0 found.1 (eqb found.0.0.function link.below) refl found.2,
+      λ both.
+          let here : PointItem program labels (flow_of origins) (has_of entries) p f i.source i.child i.subject i.access = subst (λ q. PointItem program labels (flow_of origins) (has_of entries) q f i.source i.child i.subject i.access) both.0 both.1 in
+          let whole : record { point = p; source = i.source; child = i.child; subject = i.subject; access = i.access } ≡ i = (λ d. record { point = sym both.0 d; source = i.source; child = i.child; subject = i.subject; access = i.access }) in
+          subst (λ j. Contains (flat_map (λ (e : Item × List ℕ). items_through origins link e.0) entries) j) whole (to_entry i.subject i.access i.source i.child none here),
+    )
+      where
+        by_test : (e : Item × List ℕ) → Contains entries e → (b : Bool) → eqb e.0.function link.below ≡ b → Contains (cond b (map (risen_item_of link e.0) (over_list origins link.site e.0.subject)) []) i → (i.point ≡ p) × IsItemOf program labels (flow_of origins) (has_of entries) f i
+        by_test e there false other here = absurd (none_there i here)
+        by_test e there true same here =
+            let found = (in_map (risen_item_of link e.0) (over_list origins link.site e.0.subject) i).0 here in
+            let over = (over_is origins link.site e.0.subject found.0).0 (has_id-from_Contains (over_list origins link.site e.0.subject) found.0 found.1) in
+            let item = from_entry e found.0 there (eqb-true e.0.function link.below same) over in
+            (
+              ap (λ (j : ItemAt). j.point) (sym found.2) ∙ is.point,
+              subst (IsItemOf program labels (flow_of origins) (has_of entries) f) found.2
+              (subst (λ q. PointItem program labels (flow_of origins) (has_of entries) q f (ItemBelow (Through link.site) e.0.function e.0.child e.0.subject) (e.0.child || link.starts) found.0 e.0.access) (sym is.point) item),
+            )
 
   -- other points have no items
   pub no_items : IsTheOne (λ z. (h : ℕ) × Accesses program labels p h z) None → RisesNowhere program labels (flow_of origins) p → (i : ItemAt) →
@@ -246,3 +295,8 @@ module _ (program : Program) (labels : LabelTable) (origins : OriginTable) (entr
       neither : (x a : ℕ) (source : Source) (child : Bool) → PointItem program labels (flow_of origins) (has_of entries) p f source child x a → ⊥
       neither x a source child (accessed accesses) = none x (f, accesses)
       neither x a source child (risen {g} {way = way} {child = below} rises there over) = nowhere f g way below child rises
+
+-- the items of a call or creation, from one entry more
+pub through_more : (origins : OriginTable) (link : Link) (entries : List (Item × List ℕ)) (i : ℕ) (item : Item) → option_map (λ entry. entry.0) (slice_get entries i) ≡ Some item →
+    flat_map (λ (entry : Item × List ℕ). items_through origins link entry.0) (take (i + 1) entries) ≡ flat_map (λ (entry : Item × List ℕ). items_through origins link entry.0) (take i entries) ++ items_through origins link item
+through_more origins link entries i item at = flat_more (items_through origins link) entries i item at

@@ -7,7 +7,9 @@ use Rattle.lk_facts.specs.declared.verdict.VerdictState.{VerdictState}
 use Rattle.lk_facts.specs.declared.verdict.VerdictState.TheVariants.{Guarded, Unshared, Suspect}
 use Rattle.lk_facts.specs.Origins.{OriginTable}
 use Rattle.lk_facts.specs.Program.{Program}
+use Rattle.lk_facts.specs.declared.source.Source.{Source}
 use Rattle.lk_facts.specs.declared.source.Source.TheVariants.{OwnAccess, ItemBelow}
+use Rattle.lk_facts.specs.declared.way.Way.{Way}
 use Rattle.lk_facts.specs.declared.way.Way.TheVariants.{Through}
 use Rattle.lk_conflict.specs.Facts.{are_in_conflict}
 use Rattle.lk_conflict.specs.declared.item_at.ItemAt.{ItemAt}
@@ -44,15 +46,16 @@ accesses_in f o entries = flat_map (λ entry. access_in f o entry.0) entries
 abbrev pub own_access_of : (point subject : ℕ) → ItemAt
 own_access_of point subject = record { point = point; source = OwnAccess; child = false; subject = subject; access = point }
 
+-- an item below as the source of items of a point
+abbrev pub source_of : Item → Way → Source
+source_of item way = ItemBelow way item.function item.child item.subject
+
 -- the item of a call or creation from an item below, whose subject is this one above
+abbrev pub risen_by : Link → Item → Source → ℕ → ItemAt
+risen_by link item source subject = record { point = link.point; source = source; child = item.child || link.starts; subject = subject; access = item.access }
+
 abbrev pub risen_item_of : Link → Item → ℕ → ItemAt
-risen_item_of link item subject = record {
-  point = link.point;
-  source = ItemBelow (Through link.site) link.below item.child item.subject;
-  child = item.child || link.starts;
-  subject = subject;
-  access = item.access;
-}
+risen_item_of link item = risen_by link item (source_of item (Through link.site))
 
 -- the items of a call or creation from an item, where it is one of the function below
 abbrev pub items_through : OriginTable → Link → Item → List ItemAt

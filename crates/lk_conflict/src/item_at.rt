@@ -3,7 +3,7 @@ ghost use Rattle.std.specs.Prelude.{◌≡◌, ◌<◌, ◌⊎◌, ◌↔◌, �
 ghost use Rattle.std.specs.List.{flat_map};
 ghost use Rattle.lk_conflict.specs.Facts.{IsItemInRange, IsItemOf};
 ghost use Rattle.lk_conflict.specs.Links.{IsLink};
-ghost use Rattle.lk_conflict.specs.Listing.{own_access_of, risen_item_of, items_through};
+ghost use Rattle.lk_conflict.specs.Listing.{own_access_of, source_of, risen_by, risen_item_of, items_through};
 ghost use Rattle.lk_conflict.specs.declared.item_at.ItemAt.{ItemAt};
 ghost use Rattle.lk_facts.specs.Origins.{flow_of};
 ghost use Rattle.lk_facts.specs.Program.{function_at};
@@ -45,6 +45,31 @@ fn own_access(point: u32, subject: u32) -> ItemAt
     }
 }
 
+/// An item below as the source of items of a point that goes into its function by this way.
+fn source_below(item: &Item, way: Way) -> Source
+    ensures { result ≡ source_of item.now way }
+{
+    Source::ItemBelow {
+        way,
+        function: item.function,
+        child: item.child,
+        subject: item.subject,
+    }
+}
+
+/// The item of a call or creation that rises from an item below, whose subject is this one above.
+fn risen_item(link: &Link, item: &Item, source: Source, subject: u32) -> ItemAt
+    ensures { result ≡ risen_by link.now item.now source subject }
+{
+    ItemAt {
+        point: link.point,
+        source,
+        child: item.child || link.starts,
+        subject,
+        access: item.access,
+    }
+}
+
 impl Facts<'_> {
     /// Puts the items of a call or creation that rise from an item of the function below behind those that were found.
     fn push_risen(
@@ -59,21 +84,10 @@ impl Facts<'_> {
     {
         let mut subjects = Vec::new(alloc);
         push_over(self.origins, link.site, item.subject, &mut subjects)?;
-        let child = item.child || link.starts;
-        let source = Source::ItemBelow {
-            way: Way::Through(link.site),
-            function: link.below,
-            child: item.child,
-            subject: item.subject,
-        };
         for subject in &subjects {
-            found.push(ItemAt {
-                point: link.point,
-                source,
-                child,
-                subject: *subject,
-                access: item.access,
-            })?;
+            let way = Way::Through(link.site);
+            let source = source_below(item, way);
+            found.push(risen_item(link, item, source, *subject))?;
         }
         Ok(())
     }

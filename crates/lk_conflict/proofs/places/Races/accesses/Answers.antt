@@ -5,12 +5,12 @@ use Rattle.lk_facts.specs.Verdicts.{IsRacing}
 use Rattle.lk_rise.specs.Correlations.{has_of, locks_of}
 use Rattle.lk_sets.specs.Ids.{has_id, IsSetOf}
 use Rattle.lk_conflict.specs.Listing.{access_in, accesses_in}
-use Rattle.lk_conflict.proofs.EntryLemmas.{accesses_are, accesses_more}
+use Rattle.lk_conflict.proofs.EntryLemmas.{accesses_are, flat_more}
 use Rattle.lk_conflict.proofs.PlaceLemmas.{set_lists}
 use Rattle.lk_conflict.proofs.places.Races.accesses.Goals as goal
 
 pub loop-i-preserved : goal.loop-i-preserved
-loop-i-preserved c = c.in_ok-push_access.ensures ∙ ap (λ xs. xs ++ access_in c.main-main.result c.args.location c.item.result) c.loop-i.invariant ∙ sym (accesses_more c.main-main.result c.args.location c.args.self.now.items.now c.loop-i.i c.item.result c.item.ensures)
+loop-i-preserved c = c.in_ok-push_access.ensures ∙ ap (λ xs. xs ++ access_in c.main-main.result c.args.location c.item.result) c.loop-i.invariant ∙ sym (flat_more (access_in c.main-main.result c.args.location) c.args.self.now.items.now c.loop-i.i c.item.result c.item.ensures)
 
 pub returns : goal.returns
 returns c =
