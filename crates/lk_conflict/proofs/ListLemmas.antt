@@ -1,6 +1,10 @@
 -- What lists have that are filtered, mapped and joined.
-use Rattle.std.proofs.Common.{◌≡◌, ◌<◌, ◌+◌, ◌++◌, ◌⊎◌, ◌↔◌, ℕ, Bool, true, false, cond, List, [], ◌∷◌, length, get_or, take, map, Contains, All, refl, sym, ap, ◌∙◌, subst, ⊎_elim, inl, inr, arith}
+use Rattle.std.proofs.Common.{◌≡◌, ◌<◌, ◌+◌, ◌++◌, ◌||◌, ◌⊎◌, ◌↔◌, ℕ, Bool, true, false, cond, List, [], ◌∷◌, length, get_or, take, map, Contains, All, refl, sym, ap, ◌∙◌, subst, ⊎_elim, inl, inr, arith}
 use Rattle.std.specs.List.{filter, flat_map, list_any}
+use Rattle.lk_facts.specs.Origins.{IsSetBelow}
+use Rattle.lk_sets.specs.Ids.{has_id, IsSetOf}
+use Rattle.lk_sets.proofs.Rising.{has_id-append}
+use Rattle.lk_rise.proofs.SetLemmas.{All-from_has_id, All-has_id}
 use Rattle.std.proofs.lemmas.Bool.{cases_Bool, false≢true, or_cases, or_left, or_right}
 use Rattle.std.proofs.lemmas.List.Elements.{Contains-append_cases, Contains-append_left, Contains-append_right, Contains-push, Contains-push_cases}
 
@@ -94,3 +98,19 @@ passes_there p (y ∷ ys) x there passes =
       | inl same ↦ or_left _ _ (subst (λ z. p z ≡ true) (sym same) passes)
       | inr later ↦ or_right (p y) _ (passes_there p ys x later passes)
     ]
+
+-- a set of two lists' numbers
+pub set_of_both : (P Q : ℕ → Type 0) (first second list set : List ℕ) → ((x : ℕ) → (has_id first x ≡ true) ↔ P x) → ((x : ℕ) → (has_id second x ≡ true) ↔ Q x) → list ≡ first ++ second → IsSetOf (has_id list) set →
+    (x : ℕ) → (has_id set x ≡ true) ↔ (P x ⊎ Q x)
+set_of_both P Q first second list set one other is made x =
+    let same : has_id set x ≡ (has_id first x || has_id second x) = made.members x ∙ ap (λ xs. has_id xs x) is ∙ has_id-append first second x in (
+      λ there. ⊎_elim (λ here. inl ((one x).0 here)) (λ here. inr ((other x).0 here)) (or_cases (has_id first x) (has_id second x) (sym same ∙ there)),
+      λ either. same ∙ ⊎_elim (λ p. or_left _ _ ((one x).1 p)) (λ q. or_right (has_id first x) _ ((other x).1 q)) either,
+    )
+
+-- a set of numbers of a list whose numbers are below n
+pub set_in_range : (n : ℕ) (list set : List ℕ) → All (λ x. x < n) list → IsSetOf (has_id list) set → IsSetBelow n set
+set_in_range n list set below made = record {
+  sorted = made.sorted;
+  below = All-from_has_id (λ x. x < n) set (λ x there. All-has_id (λ y. y < n) list x below (sym (made.members x) ∙ there));
+}

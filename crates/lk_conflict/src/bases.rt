@@ -34,6 +34,18 @@ impl Facts<'_> {
         }
     }
 
+    /// The locks that a point keeps for an own item, and none for a child item.
+    fn kept(&self, point: u32, child: bool) -> &[u32]
+        requires { point < length self.now.points.now.points }
+        ensures members { (x : ℕ) → (has_id result.now x ≡ true) ↔ ((child ≡ false) × (has_id (keep_of self.now.held.now point) x ≡ true)) }
+        ensures in_range { All (λ x. x < length self.now.labels.now.entries) result.now }
+    {
+        if child {
+            return &[];
+        }
+        self.held.keep(point)
+    }
+
     /// The locks with which an item below rises to a call or creation.
     fn risen_locks(
         &self,
@@ -50,9 +62,7 @@ impl Facts<'_> {
         ensures in_range { IfOk result (IsSetBelow (length self.now.labels.now.entries)) }
     {
         let mut ids = risen(alloc, self.origins, site, self.locks_below(below))?;
-        if !child {
-            ids.extend_from_slice(self.held.keep(point))?;
-        }
+        ids.extend_from_slice(self.kept(point, child))?;
         let set = IdSet::from_list(alloc, &ids)?;
         Ok(set)
     }
