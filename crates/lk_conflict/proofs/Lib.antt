@@ -3,4 +3,5 @@ pub mod EntryLemmas
 pub mod ListLemmas
 pub mod PlaceLemmas
 pub mod PointLemmas
+pub mod RaceLemmas
 pub mod VerdictLemmas
