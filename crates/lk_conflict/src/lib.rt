@@ -5,7 +5,6 @@ mod bases;
 mod facts;
 mod item_at;
 mod judging;
-mod links;
 mod pairs;
 mod places;
 mod racing;
