@@ -55,12 +55,11 @@ accesses_are f o (e ∷ es) a =
       λ there.
           elim (or_cases (has_id (access_in f o e.0) a) (has_id (accesses_in f o es) a) (sym parts ∙ there)) [
             | inl here ↦
-                let is = (access_is f o e.0 a).0 here in
-                (
+                let is = (access_is f o e.0 a).0 here in (
                   e.0.child,
                   subst (λ g. has_of (e ∷ es) g e.0.child o a ≡ true) is.0
-                  (subst (λ s. has_of (e ∷ es) e.0.function e.0.child s a ≡ true) is.1
-                  (subst (λ b. has_of (e ∷ es) e.0.function e.0.child e.0.subject b ≡ true) is.2 (first_there e es))),
+                      (subst (λ s. has_of (e ∷ es) e.0.function e.0.child s a ≡ true) is.1
+                      (subst (λ b. has_of (e ∷ es) e.0.function e.0.child e.0.subject b ≡ true) is.2 (first_there e es))),
                 )
             | inr later ↦ let found = rest.0 later in (found.0, later_there e es f found.0 o a found.1)
           ],

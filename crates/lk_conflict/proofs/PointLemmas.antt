@@ -163,11 +163,10 @@ module _ (program : Program) (labels : LabelTable) (origins : OriginTable) (entr
       Contains (own_access_of p x ∷ []) i ↔ ((i.point ≡ p) × IsItemOf program labels (flow_of origins) (has_of entries) f i)
   own_items x is i = (
     λ there.
-        let same : own_access_of p x ≡ i = one_there (own_access_of p x) i there in
-        (
+        let same : own_access_of p x ≡ i = one_there (own_access_of p x) i there in (
           ap (λ (j : ItemAt). j.point) (sym same),
           subst (IsItemOf program labels (flow_of origins) (has_of entries) f) same
-          (accessed (subst (λ g. Accesses program labels p g x) (accesses_of is.holds.0 x is.holds.1) is.holds.1)),
+              (accessed (subst (λ g. Accesses program labels p g x) (accesses_of is.holds.0 x is.holds.1) is.holds.1)),
         ),
     λ both.
         let here : PointItem program labels (flow_of origins) (has_of entries) p f i.source i.child i.subject i.access = subst (λ q. PointItem program labels (flow_of origins) (has_of entries) q f i.source i.child i.subject i.access) both.0 both.1 in
@@ -226,11 +225,10 @@ module _ (program : Program) (labels : LabelTable) (origins : OriginTable) (entr
         by_test e there true same here =
             let found = (in_map (risen_item_of link e.0) (over_list origins link.site e.0.subject) i).0 here in
             let over = (over_is origins link.site e.0.subject found.0).0 (has_id-from_Contains (over_list origins link.site e.0.subject) found.0 found.1) in
-            let item = from_entry e found.0 there (eqb-true e.0.function link.below same) over in
-            (
+            let item = from_entry e found.0 there (eqb-true e.0.function link.below same) over in (
               ap (λ (j : ItemAt). j.point) (sym found.2) ∙ is.point,
               subst (IsItemOf program labels (flow_of origins) (has_of entries) f) found.2
-              (subst (λ q. PointItem program labels (flow_of origins) (has_of entries) q f (ItemBelow (Through link.site) e.0.function e.0.child e.0.subject) (e.0.child || link.starts) found.0 e.0.access) (sym is.point) item),
+                  (subst (λ q. PointItem program labels (flow_of origins) (has_of entries) q f (ItemBelow (Through link.site) e.0.function e.0.child e.0.subject) (e.0.child || link.starts) found.0 e.0.access) (sym is.point) item),
             )
 
   -- other points have no items

@@ -11,7 +11,6 @@ ghost use Rattle.lk_rise.specs.Correlations.{has_of};
 ghost use Rattle.lk_rise.specs.Only.{over_list};
 
 use crate::facts::Facts;
-
 use lk_base::NoMemory;
 use lk_facts::{Source, Way};
 use lk_rise::{Item, Link, link_of, push_over};
@@ -123,12 +122,7 @@ impl Facts<'_> {
     }
 
     /// The items of a point of a function.
-    fn items_at(
-        &self,
-        alloc: Global,
-        point: u32,
-        function: u32,
-    ) -> Result<Vec<ItemAt>, NoMemory>
+    fn items_at(&self, alloc: Global, point: u32, function: u32) -> Result<Vec<ItemAt>, NoMemory>
         requires point { point < length self.now.points.now.points }
         requires function { function_at self.now.points.now point ≡ Some function }
         ensures { IfOk result (λ found. (i : ItemAt) → Contains found.items i

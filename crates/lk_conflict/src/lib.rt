@@ -11,3 +11,6 @@ mod racing;
 
 pub use judging::verdicts;
 pub use racing::conflicts;
+
+#[cfg(test)]
+mod tests;
