@@ -64,8 +64,8 @@ module _ (program : Program) (labels : LabelTable) (flow : Flow) (after : ℕ �
       b,
       subst (λ xs. Contains xs b) (sym pushed) (Contains-push old b),
       subst (λ h. IsBasis program labels flow after items held locks h q j b) (sym holds.0)
-      (subst (λ r. IsBasis program labels flow after items held locks f r j b) (sym holds.1)
-      (subst (λ k. IsBasis program labels flow after items held locks f o k b) (sym holds.2) is)),
+          (subst (λ r. IsBasis program labels flow after items held locks f r j b) (sym holds.1)
+          (subst (λ k. IsBasis program labels flow after items held locks f o k b) (sym holds.2) is)),
     );
   }
 

@@ -17,27 +17,6 @@ use Rattle.lk_conflict.specs.Listing.{access_in, accesses_in}
 use Rattle.lk_conflict.specs.Places.{AreLocksBelow}
 use Rattle.lk_conflict.proofs.ListLemmas.{head_or_tail, head_there, none_there, tail_there}
 
--- a relation from the numbers of a list, one number more
-pub related_more : (R : ℕ → ℕ → Type 0) (xs : List ℕ) (i d : ℕ) (old new : List ℕ) → i < length xs →
-    ((y : ℕ) → (has_id new y ≡ true) ↔ ((has_id old y ≡ true) ⊎ R (get_or xs i d) y)) →
-    ((y : ℕ) → (has_id old y ≡ true) ↔ ((x : ℕ) × (has_id (take i xs) x ≡ true) × R x y)) →
-    (y : ℕ) → (has_id new y ≡ true) ↔ ((x : ℕ) × (has_id (take (i + 1) xs) x ≡ true) × R x y)
-related_more R xs i d old new within more before y =
-    let z = get_or xs i d in
-    let parts : (x : ℕ) → has_id (take (i + 1) xs) x ≡ (has_id (take i xs) x || has_id (z ∷ []) x) = λ x. ap (λ s. has_id s x) (take_more xs i d within) ∙ has_id-append (take i xs) (z ∷ []) x in (
-      λ there.
-          ⊎_elim
-          (λ earlier. let found = (before y).0 earlier in (found.0, parts found.0 ∙ or_left _ _ found.1, found.2))
-          (λ now. (z, parts z ∙ or_right (has_id (take i xs) z) _ ((has_id-one z z).1 refl), now))
-          ((more y).0 there),
-      λ found.
-          (more y).1
-          (elim (or_cases (has_id (take i xs) found.0) (has_id (z ∷ []) found.0) (sym (parts found.0) ∙ found.1)) [
-            | inl earlier ↦ inl ((before y).1 (found.0, earlier, found.2))
-            | inr now ↦ inr (subst (λ x. R x y) ((has_id-one z found.0).0 now) found.2)
-          ]),
-    )
-
 -- the first entry of a table is there
 pub first_there : (e : Item × List ℕ) (es : List (Item × List ℕ)) → has_of (e ∷ es) e.0.function e.0.child e.0.subject e.0.access ≡ true
 first_there e es = rw (same_itself e.0) refl
@@ -76,12 +55,11 @@ accesses_are f o (e ∷ es) a =
       λ there.
           elim (or_cases (has_id (access_in f o e.0) a) (has_id (accesses_in f o es) a) (sym parts ∙ there)) [
             | inl here ↦
-                let is = (access_is f o e.0 a).0 here in
-                (
+                let is = (access_is f o e.0 a).0 here in (
                   e.0.child,
                   subst (λ g. has_of (e ∷ es) g e.0.child o a ≡ true) is.0
-                  (subst (λ s. has_of (e ∷ es) e.0.function e.0.child s a ≡ true) is.1
-                  (subst (λ b. has_of (e ∷ es) e.0.function e.0.child e.0.subject b ≡ true) is.2 (first_there e es))),
+                      (subst (λ s. has_of (e ∷ es) e.0.function e.0.child s a ≡ true) is.1
+                      (subst (λ b. has_of (e ∷ es) e.0.function e.0.child e.0.subject b ≡ true) is.2 (first_there e es))),
                 )
             | inr later ↦ let found = rest.0 later in (found.0, later_there e es f found.0 o a found.1)
           ],

@@ -26,8 +26,8 @@ use Rattle.lk_facts.specs.Program.{Program, action_at, live_at, function_at, sit
 use Rattle.lk_facts.specs.declared.way.Way.{Way}
 use Rattle.lk_facts.specs.declared.way.Way.TheVariants.{Through}
 use Rattle.lk_conflict.specs.Facts.{IsItemInRange, IsItemOf}
-use Rattle.lk_conflict.specs.Links.{IsLink, RisesNowhere}
-use Rattle.lk_conflict.specs.declared.links.Link.{Link}
+use Rattle.lk_rise.specs.Links.{IsLink, RisesNowhere}
+use Rattle.lk_rise.specs.declared.links.Link.{Link}
 use Rattle.lk_conflict.specs.Listing.{own_access_of, risen_item_of, items_through}
 use Rattle.lk_conflict.specs.declared.item_at.ItemAt.{ItemAt}
 use Rattle.lk_conflict.proofs.EntryLemmas.{entry_there, flat_more, there_found}
@@ -35,6 +35,7 @@ use Rattle.lk_conflict.proofs.ListLemmas.{head_there, in_flat_map, in_map, none_
 use Rattle.lk_rise.specs.Correlations.{AreInRange, IsEntryInRange, has_of, item_of}
 use Rattle.lk_rise.specs.Only.{IsTheOne, over_list}
 use Rattle.lk_rise.specs.declared.correlations.Item.{Item}
+use Rattle.lk_rise.proofs.LinkLemmas.{live_within}
 use Rattle.lk_rise.proofs.OverLemmas.{over_is, over_within}
 use Rattle.lk_sets.specs.Ids.{has_id}
 use Rattle.lk_sets.specs.Rows.{IsSquare}
@@ -70,57 +71,7 @@ module _ (program : Program) (labels : LabelTable) (p : ℕ) where
         sym (same_Some x y two);
   }
 
-or_false : (b : Bool) → b ≡ (b || false)
-or_false true = refl
-or_false false = refl
-
-or_true : (b : Bool) → true ≡ (b || true)
-or_true true = refl
-or_true false = refl
-
--- the one way in which items rise at a call, and at a creation
-module _ (program : Program) (labels : LabelTable) (flow : Flow) (p f g i : ℕ) (at : function_at program p ≡ Some f) (site : site_at program p ≡ Some i) where
-  call_only : (operands : List ℕ) → action_at program p ≡ Some (Calls g operands) → (h k : ℕ) (way : Way) (child above : Bool) → Rises program labels flow p h way k child above → (h ≡ f) × (k ≡ g) × (way ≡ Through i) × (above ≡ (child || false))
-  call_only operands is h k way child above (run (call _ others j does site')) =
-      let first : h ≡ f = cc (does.of) in
-      let second : k ≡ g = cc (does.is) in
-      let third : Through j ≡ Through i = cc in
-      (first, second, third, or_false child)
-  call_only operands is h k way child above (start (create _ a j does site')) = let two : Some (Creates k a) ≡ Some (Calls g operands) = sym does.is ∙ is in absurd (cc)
-
-  pub linked_call : (operands : List ℕ) → live_at program p ≡ true → action_at program p ≡ Some (Calls g operands) → f < length program.functions → IsLink program labels flow p (record { point = p; above = f; below = g; site = i; starts = false })
-  linked_call operands live is within = record {
-    point = refl;
-    above = within;
-    rises = λ child. subst (Rises program labels flow p f (Through i) g child) (or_false child) (run (call g operands i (record { live = live; of = at; is = is }) site));
-    only = call_only operands is;
-  }
-
-  create_only : (a : ℕ) → action_at program p ≡ Some (Creates g a) → (h k : ℕ) (way : Way) (child above : Bool) → Rises program labels flow p h way k child above → (h ≡ f) × (k ≡ g) × (way ≡ Through i) × (above ≡ (child || true))
-  create_only a is h k way child above (run (call _ others j does site')) = let two : Some (Calls k others) ≡ Some (Creates g a) = sym does.is ∙ is in absurd (cc)
-  create_only a is h k way child above (start (create _ b j does site')) =
-      let first : h ≡ f = cc (does.of) in
-      let second : k ≡ g = cc (does.is) in
-      let third : Through j ≡ Through i = cc in
-      (first, second, third, or_true child)
-
-  pub linked_create : (a : ℕ) → live_at program p ≡ true → action_at program p ≡ Some (Creates g a) → f < length program.functions → IsLink program labels flow p (record { point = p; above = f; below = g; site = i; starts = true })
-  linked_create a live is within = record {
-    point = refl;
-    above = within;
-    rises = λ child. subst (Rises program labels flow p f (Through i) g child) (or_true child) (start (create g a i (record { live = live; of = at; is = is }) site));
-    only = create_only a is;
-  }
-
--- only points are live
-pub live_within : (program : Program) (p : ℕ) → live_at program p ≡ true → p < length program.points
-live_within program p live =
-    elim (slice_get_cases program.points p).1 [
-      | inl found ↦ found.1
-      | inr past ↦ absurd (false≢true (subst (λ point. option_map_or (λ (x : Point). x.live) point false ≡ true) past.1 live))
-    ]
-
--- and they are points of functions
+-- live points are points of functions
 pub function_within : (program : Program) (p f : ℕ) → IsInRange program → live_at program p ≡ true → function_at program p ≡ Some f → f < length program.functions
 function_within program p f ranged live at =
     elim (slice_get_cases program.points p).1 [
@@ -212,11 +163,10 @@ module _ (program : Program) (labels : LabelTable) (origins : OriginTable) (entr
       Contains (own_access_of p x ∷ []) i ↔ ((i.point ≡ p) × IsItemOf program labels (flow_of origins) (has_of entries) f i)
   own_items x is i = (
     λ there.
-        let same : own_access_of p x ≡ i = one_there (own_access_of p x) i there in
-        (
+        let same : own_access_of p x ≡ i = one_there (own_access_of p x) i there in (
           ap (λ (j : ItemAt). j.point) (sym same),
           subst (IsItemOf program labels (flow_of origins) (has_of entries) f) same
-          (accessed (subst (λ g. Accesses program labels p g x) (accesses_of is.holds.0 x is.holds.1) is.holds.1)),
+              (accessed (subst (λ g. Accesses program labels p g x) (accesses_of is.holds.0 x is.holds.1) is.holds.1)),
         ),
     λ both.
         let here : PointItem program labels (flow_of origins) (has_of entries) p f i.source i.child i.subject i.access = subst (λ q. PointItem program labels (flow_of origins) (has_of entries) q f i.source i.child i.subject i.access) both.0 both.1 in
@@ -275,11 +225,10 @@ module _ (program : Program) (labels : LabelTable) (origins : OriginTable) (entr
         by_test e there true same here =
             let found = (in_map (risen_item_of link e.0) (over_list origins link.site e.0.subject) i).0 here in
             let over = (over_is origins link.site e.0.subject found.0).0 (has_id-from_Contains (over_list origins link.site e.0.subject) found.0 found.1) in
-            let item = from_entry e found.0 there (eqb-true e.0.function link.below same) over in
-            (
+            let item = from_entry e found.0 there (eqb-true e.0.function link.below same) over in (
               ap (λ (j : ItemAt). j.point) (sym found.2) ∙ is.point,
               subst (IsItemOf program labels (flow_of origins) (has_of entries) f) found.2
-              (subst (λ q. PointItem program labels (flow_of origins) (has_of entries) q f (ItemBelow (Through link.site) e.0.function e.0.child e.0.subject) (e.0.child || link.starts) found.0 e.0.access) (sym is.point) item),
+                  (subst (λ q. PointItem program labels (flow_of origins) (has_of entries) q f (ItemBelow (Through link.site) e.0.function e.0.child e.0.subject) (e.0.child || link.starts) found.0 e.0.access) (sym is.point) item),
             )
 
   -- other points have no items

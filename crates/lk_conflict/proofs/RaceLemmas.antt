@@ -50,21 +50,27 @@ module _ (program : Program) (labels : LabelTable) (flow : Flow) (after : ℕ �
   wrote a b either = ⊎_elim (λ one. or_left _ _ one) (λ other. or_right (writes_at program a) _ other) either
 
   from_conflicts : (f o p a : ℕ) (source : Source) (child : Bool) → Conflicts program labels flow after has f o p source child a → (s : ℕ) × IsInConflict program labels flow after has f o (record { point = p; source = source; child = child; subject = s; access = a })
-  from_conflicts f o p a source child (first {s = s} {q = q} {t = t} {b = b} {source' = other} {child = whose} is) = (s, record {
-    location = is.location;
-    here = record { item = is.first; may = is.first_may };
-    other = record { point = q; source = other; child = whose; subject = t; access = b };
-    there = record { item = is.second; may = is.second_may };
-    conflict = or_left _ _ (and_from _ _ refl (and_from _ _ is.later (wrote a b is.write)));
-  })
-  from_conflicts f o q b source child (second {p = p} {s = s} {a = a} {t = t} {source = other} is) = (t, record {
-    location = is.location;
-    here = record { item = is.second; may = is.second_may };
-    other = record { point = p; source = other; child = true; subject = s; access = a };
-    there = record { item = is.first; may = is.first_may };
-    conflict = or_right (may_meet program after (record { point = q; source = source; child = child; subject = t; access = b }) (record { point = p; source = other; child = true; subject = s; access = a })) _
-        (and_from _ _ refl (and_from _ _ is.later (wrote a b is.write)));
-  })
+  from_conflicts f o p a source child (first {s = s} {q = q} {t = t} {b = b} {source' = other} {child = whose} is) = (
+    s,
+    record {
+      location = is.location;
+      here = record { item = is.first; may = is.first_may };
+      other = record { point = q; source = other; child = whose; subject = t; access = b };
+      there = record { item = is.second; may = is.second_may };
+      conflict = or_left _ _ (and_from _ _ refl (and_from _ _ is.later (wrote a b is.write)));
+    },
+  )
+  from_conflicts f o q b source child (second {p = p} {s = s} {a = a} {t = t} {source = other} is) = (
+    t,
+    record {
+      location = is.location;
+      here = record { item = is.second; may = is.second_may };
+      other = record { point = p; source = other; child = true; subject = s; access = a };
+      there = record { item = is.first; may = is.first_may };
+      conflict = or_right (may_meet program after (record { point = q; source = source; child = child; subject = t; access = b }) (record { point = p; source = other; child = true; subject = s; access = a })) _
+          (and_from _ _ refl (and_from _ _ is.later (wrote a b is.write)));
+    },
+  )
 
   -- what rises from the bases of all items that are in conflict
   module _ (held : HeldTable) (locks : LockTest) (based entries : List (Item × List ℕ)) (adds : Adds program labels flow after has held locks (λ f o i. IsInConflict program labels flow after has f o i) [] based) where

@@ -13,7 +13,7 @@ use Rattle.lk_facts.specs.declared.way.Way.{Way}
 use Rattle.lk_facts.specs.declared.way.Way.TheVariants.{Through}
 use Rattle.lk_conflict.specs.Facts.{are_in_conflict}
 use Rattle.lk_conflict.specs.declared.item_at.ItemAt.{ItemAt}
-use Rattle.lk_conflict.specs.declared.links.Link.{Link}
+use Rattle.lk_rise.specs.declared.links.Link.{Link}
 use Rattle.lk_rise.specs.Only.{over_list}
 use Rattle.lk_rise.specs.declared.correlations.Item.{Item}
 use Rattle.lk_sets.specs.Ids.{has_id, IsSetOf}

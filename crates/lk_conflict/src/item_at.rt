@@ -2,7 +2,7 @@
 ghost use Rattle.std.specs.Prelude.{◌≡◌, ◌<◌, ◌⊎◌, ◌↔◌, ◌++◌, ℕ, Some, Contains, length, map, All, IfOk, OnOk};
 ghost use Rattle.std.specs.List.{flat_map};
 ghost use Rattle.lk_conflict.specs.Facts.{IsItemInRange, IsItemOf};
-ghost use Rattle.lk_conflict.specs.Links.{IsLink};
+ghost use Rattle.lk_rise.specs.Links.{IsLink};
 ghost use Rattle.lk_conflict.specs.Listing.{own_access_of, source_of, risen_by, risen_item_of, items_through};
 ghost use Rattle.lk_conflict.specs.declared.item_at.ItemAt.{ItemAt};
 ghost use Rattle.lk_facts.specs.Origins.{flow_of};
@@ -11,10 +11,9 @@ ghost use Rattle.lk_rise.specs.Correlations.{has_of};
 ghost use Rattle.lk_rise.specs.Only.{over_list};
 
 use crate::facts::Facts;
-use crate::links::{Link, link_of};
 use lk_base::NoMemory;
 use lk_facts::{Source, Way};
-use lk_rise::{Item, push_over};
+use lk_rise::{Item, Link, link_of, push_over};
 use std::alloc::Global;
 
 /// An item of a point: what it accesses, itself or in what it runs or starts.
@@ -123,12 +122,7 @@ impl Facts<'_> {
     }
 
     /// The items of a point of a function.
-    fn items_at(
-        &self,
-        alloc: Global,
-        point: u32,
-        function: u32,
-    ) -> Result<Vec<ItemAt>, NoMemory>
+    fn items_at(&self, alloc: Global, point: u32, function: u32) -> Result<Vec<ItemAt>, NoMemory>
         requires point { point < length self.now.points.now.points }
         requires function { function_at self.now.points.now point ≡ Some function }
         ensures { IfOk result (λ found. (i : ItemAt) → Contains found.items i

@@ -5,10 +5,12 @@ mod bases;
 mod facts;
 mod item_at;
 mod judging;
-mod links;
 mod pairs;
 mod places;
 mod racing;
 
 pub use judging::verdicts;
 pub use racing::conflicts;
+
+#[cfg(test)]
+mod tests;

@@ -1,7 +1,7 @@
 //! Accesses, with the locks that are held at them.
 ghost use Rattle.std.specs.Prelude.{◌≡◌, ◌<◌, ◌^◌, [], Some, length, slice_get, IfOk, MatchOption};
 ghost use Rattle.std.specs.List.Sorted.{IsStrictlyIncreasing};
-ghost use Rattle.std.specs.Option.{option_map};
+ghost use Rattle.std.specs.Option.{option_copied, option_map};
 ghost use Rattle.lk_rise.specs.Correlations.{AreCorrelations, set_of};
 ghost use Rattle.lk_rise.specs.Tables.{IsLeft, IsWithin, Offered, item_at};
 
@@ -84,6 +84,16 @@ impl Correlations {
         ensures sorted { IsStrictlyIncreasing result.now }
     {
         self.entry(i).1.ids()
+    }
+
+    /// The locks that are held at an item, in ascending order, or nothing where it isn't there.
+    pub fn find(&self, item: Item) -> Option<&[u32]>
+        ensures { option_copied result ≡ set_of self.now item }
+    {
+        match self.entries.get(&item) {
+            Some(set) => Some(set.ids()),
+            None => None,
+        }
     }
 
     /// What is left of the locks of an item once they have met a set, or nothing where all are left. Of a new item

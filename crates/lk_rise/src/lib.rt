@@ -10,7 +10,8 @@ mod rising;
 mod sets;
 
 pub use correlations::{Correlations, Item};
-pub use over::{clash, held_as, push_over, risen, rises_as};
+pub use links::{Link, link_of};
+pub use over::{clash, held_as, only_in_row, push_over, risen, rises_as};
 pub use rising::{Subjects, fits, rise};
 pub use sets::{empty_set, has_all};
 

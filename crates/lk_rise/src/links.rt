@@ -1,16 +1,18 @@
 //! Calls and creations.
 ghost use Rattle.std.specs.Prelude.{◌≡◌, ◌<◌, ◌+◌, length, IfOk, OnOk};
+ghost use Rattle.lk_facts.specs.Flow.{Flow};
+ghost use Rattle.lk_facts.specs.Labels.{LabelTable};
 ghost use Rattle.lk_facts.specs.Origins.{flow_of};
 ghost use Rattle.lk_rise.specs.Links.{IsLinkOf, AreLinksBelow};
 
 use crate::rising::Rising;
 use lk_base::NoMemory;
-use lk_facts::{Action, Site};
+use lk_facts::{Action, Points, Site};
 use std::alloc::Global;
 
 /// A call or creation: it links the function that it is a step of to the one that it goes into.
 #[derive(Clone, Copy, Debug, PartialEq, Eq)]
-pub(crate) struct Link {
+pub struct Link {
     /// The point.
     pub point: u32,
     /// The function that it is a step of.
@@ -23,40 +25,40 @@ pub(crate) struct Link {
     pub starts: bool,
 }
 
-impl Rising<'_> {
-    /// The link of a point, where it is live and a call or creation.
-    fn link(&self, point: u32) -> Option<Link>
-        requires { point < length self.now.points.now.points }
-        ensures { IsLinkOf self.now.points.now self.now.labels.now (flow_of self.now.origins.now) point result }
-    {
-        let site = self.points.site(point)?;
-        let above = self.points.function(point);
-        match self.points.action(point) {
-            Action::Call(below, _) => Some(Link {
-                point,
-                above,
-                below: *below,
-                site,
-                starts: false,
-            }),
-            Action::Create(below, _) => Some(Link {
-                point,
-                above,
-                below: *below,
-                site,
-                starts: true,
-            }),
-            _ => None,
-        }
+/// The link of a point, where it is live and a call or creation.
+pub fn link_of(points: &Points, point: u32) -> Option<Link>
+    requires { point < length points.now.points }
+    ensures { (labels : LabelTable) (flow : Flow) → IsLinkOf points.now labels flow point result }
+{
+    let site = points.site(point)?;
+    let above = points.function(point);
+    match points.action(point) {
+        Action::Call(below, _) => Some(Link {
+            point,
+            above,
+            below: *below,
+            site,
+            starts: false,
+        }),
+        Action::Create(below, _) => Some(Link {
+            point,
+            above,
+            below: *below,
+            site,
+            starts: true,
+        }),
+        _ => None,
     }
+}
 
+impl Rising<'_> {
     /// Puts the link of a point behind those of the points before it, where it has one.
     fn push_link(&self, point: u32, links: &mut Vec<Link>) -> Result<(), NoMemory>
         requires point { point < length self.now.points.now.points }
         requires links { AreLinksBelow self.now.points.now self.now.labels.now (flow_of self.now.origins.now) point links.old.items }
         ensures { OnOk result (AreLinksBelow self.now.points.now self.now.labels.now (flow_of self.now.origins.now) (point + 1) links.new.items) }
     {
-        if let Some(link) = self.link(point) {
+        if let Some(link) = link_of(self.points, point) {
             links.push(link)?;
         }
         Ok(())

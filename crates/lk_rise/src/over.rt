@@ -43,7 +43,7 @@ fn has_no_other(rows: &BitRows, a: u32, b: u32) -> bool
 }
 
 /// The only number of row a, where there is just one.
-fn only_in_row(rows: &BitRows, a: u32) -> Option<u32>
+pub fn only_in_row(rows: &BitRows, a: u32) -> Option<u32>
     requires { a < rows.now.size }
     ensures value { IsOneIfOnly (λ b. has rows.now a b ≡ true) result }
     ensures in_range { IfSome result (λ b. b < rows.now.size) }

@@ -7,7 +7,8 @@ use Rattle.lk_sets.specs.Rows.{Rows, IsSquare}
 use Rattle.lk_conflict.specs.Facts.{IsItemInRange, IsItemOf}
 use Rattle.lk_conflict.specs.declared.item_at.ItemAt.{ItemAt}
 use Rattle.lk_conflict.proofs.ListLemmas.{none_there}
-use Rattle.lk_conflict.proofs.PointLemmas.{item_live, item_within, live_within}
+use Rattle.lk_conflict.proofs.PointLemmas.{item_live, item_within}
+use Rattle.lk_rise.proofs.LinkLemmas.{live_within}
 use Rattle.lk_conflict.proofs.facts.Facts.items_in.Goals as goal
 
 pub loop-point-init : goal.loop-point-init

@@ -40,4 +40,3 @@ returns-in_ok-both-in-Some-Some c =
     sym (ap option_copied c.in-Some-Some.is-1) ∙ c.find-child.ensures ∙ ap (λ f. set_of self.items.now (item_of f true c.args.location c.args.access)) c.main.ensures.value in
     both_held self.points.now (flow_of self.origins.now) (has_id self.linear.now) self.items.now c.args.location c.args.access c.in-Some-Some.own.now c.in-Some-Some.child.now
     c.in_ok-places-in-Some-Some.places c.in_ok-others-in-Some-Some.others c.in_ok-both-in-Some-Some.both own child c.in_ok-places-in-Some-Some.ensures c.in_ok-others-in-Some-Some.ensures c.in_ok-both-in-Some-Some.ensures
-

@@ -3,7 +3,7 @@ use Rattle.std.proofs.lemmas.List.{take_all}
 use Rattle.lk_facts.specs.Origins.{flow_of}
 use Rattle.lk_sets.specs.Ids.{has_id, IsSetOf}
 use Rattle.lk_conflict.specs.Places.{IsPlaceBy, IsPlaceOf}
-use Rattle.lk_conflict.proofs.EntryLemmas.{related_more}
+use Rattle.lk_rise.proofs.SetLemmas.{related_more}
 use Rattle.lk_conflict.proofs.PlaceLemmas.{set_lists}
 use Rattle.lk_conflict.proofs.places.Races.places.Goals as goal
 
