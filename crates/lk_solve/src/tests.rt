@@ -6,8 +6,8 @@ use crate::solve;
 use lk_base::{Items, Name, Spot};
 use lk_conflict::conflicts;
 use lk_facts::{
-    Action, Function, Held, Label, LabelEntry, Labels, Origins, Point, Points, Racing, Site, Verdict,
-    VerdictState,
+    Action, Function, Held, Label, LabelEntry, Labels, Origins, Point, Points, Racing, Site,
+    Verdict, VerdictState,
 };
 use lk_graph::after;
 use lk_held::held;
@@ -49,6 +49,7 @@ type Entry<'a> = (Item, &'a [u32]);
 type Finding<'a> = (VerdictState, &'a [u32], &'a [Set<'a>]);
 
 /// A program, and what the rules say of it. Where no set is listed for a point or function, it is empty.
+#[derive(Clone, Copy)]
 struct Row<'a> {
     /// The points of each function, its entry first and its exit last; main is the last function.
     functions: &'a [&'a [Line<'a>]],
@@ -147,15 +148,7 @@ fn points(rt: &impl Abort, alloc: Global, row: &Row<'_>) -> Result<Points, Fail>
     assert!(rt; 0 < count && count < 100);
     let main = count as u32 - 1;
     assert!(rt; Points::fits(&all, &list, &roots, main, place, row.locations, row.locks));
-    Ok(Points::new(
-        all,
-        list,
-        roots,
-        main,
-        place,
-        row.locations,
-        row.locks,
-    ))
+    Ok(Points::new(all, list, roots, main, place, row.locations, row.locks))
 }
 
 /// A label for each location and lock place.
@@ -290,7 +283,14 @@ fn a_lock_that_both_sides_hold_guards(rt: HostRuntime) -> Result<(), Fail> {
         functions: &[thread, main],
         locations: 2,
         locks: 1,
-        at: &[(2, &[2]), (3, &[2]), (4, &[2]), (10, &[2]), (11, &[2]), (12, &[2])],
+        at: &[
+            (2, &[2]),
+            (3, &[2]),
+            (4, &[2]),
+            (10, &[2]),
+            (11, &[2]),
+            (12, &[2]),
+        ],
         keep: &[(2, &[2]), (3, &[2]), (10, &[2]), (11, &[2])],
         out: &[],
         items: &[
@@ -406,13 +406,7 @@ fn a_callee_that_releases_takes_the_lock_away(rt: HostRuntime) -> Result<(), Fai
         functions: &[callee, thread, main],
         locations: 2,
         locks: 1,
-        at: &[
-            (4, &[2]),
-            (7, &[2]),
-            (8, &[2]),
-            (14, &[2]),
-            (15, &[2]),
-        ],
+        at: &[(4, &[2]), (7, &[2]), (8, &[2]), (14, &[2]), (15, &[2])],
         keep: &[(4, &[2]), (14, &[2])],
         out: &[(0, &[2])],
         items: &[
