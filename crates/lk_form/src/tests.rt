@@ -1,5 +1,7 @@
-use crate::{Program, Statement, VariableKind, read_program};
-use lk_base::{NoMemory, Spot};
+use crate::{
+    Expression, FunctionKind, Operand, Operator, Program, Statement, VariableKind, read_program,
+};
+use lk_base::{Items, NoMemory, Spot};
 use std::alloc::{AllocError, Global};
 use std::process::Abort;
 use std::test::Fail;
@@ -41,22 +43,120 @@ fn spot(line: u32, col: u32) -> Spot {
     }
 }
 
-/// The statement's kind, its variable, its place and its other number.
-fn shown(statement: &Statement) -> (char, u32, Option<Spot>, u32) {
+fn show_spot(text: &mut String, spot: Spot) -> Result<(), Fail> {
+    write!(text, "@{}:{}", spot.line, spot.col)?;
+    Ok(())
+}
+
+fn show_operand(text: &mut String, operand: Operand) -> Result<(), Fail> {
+    match operand {
+        Operand::Variable { variable, spot } => {
+            write!(text, "v{variable}")?;
+            show_spot(text, spot)
+        }
+        Operand::Number { value, spot } => {
+            write!(text, "{value}")?;
+            show_spot(text, spot)
+        }
+    }
+}
+
+fn show_expression(text: &mut String, expression: Expression) -> Result<(), Fail> {
+    match expression {
+        Expression::Operand(only) => show_operand(text, only),
+        Expression::Binary {
+            operator,
+            left,
+            right,
+        } => {
+            show_operand(text, left)?;
+            text.push_str(match operator {
+                Operator::Plus => " + ",
+                Operator::Minus => " - ",
+                Operator::Less => " < ",
+                Operator::Equal => " == ",
+            })?;
+            show_operand(text, right)
+        }
+    }
+}
+
+fn show_statement(text: &mut String, statement: &Statement) -> Result<(), Fail> {
     match statement {
         Statement::Assign {
             variable,
             spot,
             value,
-        } => ('=', *variable, Some(*spot), *value),
-        Statement::Lock { variable } => ('l', *variable, None, 0),
-        Statement::Unlock { variable } => ('u', *variable, None, 0),
+        } => {
+            write!(text, "v{variable}")?;
+            show_spot(text, *spot)?;
+            text.push_str(" = ")?;
+            show_expression(text, *value)?;
+        }
+        Statement::Lock { variable, spot } => {
+            write!(text, "lock v{variable}")?;
+            show_spot(text, *spot)?;
+        }
+        Statement::Unlock { variable, spot } => {
+            write!(text, "unlock v{variable}")?;
+            show_spot(text, *spot)?;
+        }
         Statement::Create {
             variable,
             spot,
             function,
-        } => ('c', *variable, Some(*spot), *function),
+        } => {
+            write!(text, "create v{variable} f{function}")?;
+            show_spot(text, *spot)?;
+        }
+        Statement::Call { function, spot } => {
+            write!(text, "call f{function}")?;
+            show_spot(text, *spot)?;
+        }
+        Statement::If {
+            condition,
+            spot,
+            then,
+            otherwise,
+        } => {
+            text.push_str("if")?;
+            show_spot(text, *spot)?;
+            text.push(' ')?;
+            show_expression(text, *condition)?;
+            show(text, then.list())?;
+            show(text, otherwise.list())?;
+        }
+        Statement::While {
+            condition,
+            spot,
+            body,
+        } => {
+            text.push_str("while")?;
+            show_spot(text, *spot)?;
+            text.push(' ')?;
+            show_expression(text, *condition)?;
+            show(text, body.list())?;
+        }
     }
+    Ok(())
+}
+
+/// Statements as text: in braces, each with its place.
+fn show(text: &mut String, statements: &[Statement]) -> Result<(), Fail> {
+    text.push_str(" {")?;
+    for statement in statements {
+        text.push(' ')?;
+        show_statement(text, statement)?;
+        text.push(';')?;
+    }
+    text.push_str(" }")?;
+    Ok(())
+}
+
+fn shown(rt: &(impl Abort + AllocGlobal), statements: &Items<Statement>) -> Result<String, Fail> {
+    let mut text = String::new(rt.alloc());
+    show(&mut text, statements.list())?;
+    Ok(text)
 }
 
 #[test]
@@ -79,31 +179,135 @@ fn the_first_run_is_read(rt: HostRuntime) -> Result<(), Fail> {
     let w = &functions[0];
     assert_eq!(rt; w.name.bytes(), b"w".as_slice());
     assert_eq!(rt; w.spot, spot(5, 7));
-    assert_eq!(rt; w.parameter.bytes(), b"a".as_slice());
-    assert_eq!(rt; w.body.len(), 4);
-    for (statement, want) in w.body.list().iter().zip([
-        ('l', 2, None, 0),
-        ('=', 0, Some(spot(7, 3)), 1),
-        ('u', 2, None, 0),
-        ('=', 1, Some(spot(9, 3)), 1),
-    ]) {
-        assert_eq!(rt; shown(statement), want);
+    let FunctionKind::Thread { parameter } = &w.kind else {
+        return Err(Fail::from("a thread function is read as a plain one"));
+    };
+    assert_eq!(rt; parameter.bytes(), b"a".as_slice());
+    assert_eq!(rt;
+        shown(&rt, &w.body)?.as_str(),
+        " { lock v2@6:3; v0@7:3 = 1@7:7; unlock v2@8:3; v1@9:3 = 1@9:7; }"
+    );
+    assert_eq!(rt; program.main_spot, spot(12, 5));
+    assert_eq!(rt;
+        shown(&rt, &program.main)?.as_str(),
+        " { create v3 f0@13:18; lock v2@14:3; v0@15:3 = 2@15:7; unlock v2@16:3; v1@17:3 = 2@17:7; }"
+    );
+    Ok(())
+}
+
+const BRANCHES: &str = "int n;
+pthread_mutex_t m;
+pthread_t t;
+void *w(void *q) {
+  pthread_mutex_lock(&m);
+  n = n + 1;
+  pthread_mutex_unlock(&m);
+  return 0;
+}
+void start(void) { pthread_create(&t, 0, w, 0); }
+int main(void) {
+  start();
+  if (n == 0) { pthread_mutex_lock(&m); }
+  n = 2;
+  return 0;
+}
+";
+
+#[test]
+fn branches_and_calls_are_read(rt: HostRuntime) -> Result<(), Fail> {
+    let program = read(&rt, BRANCHES)?.ok_or("not of the form")?;
+    let functions = program.functions.list();
+    assert_eq!(rt; functions.len(), 2);
+    assert_eq!(rt;
+        shown(&rt, &functions[0].body)?.as_str(),
+        " { lock v1@5:3; v0@6:3 = v0@6:7 + 1@6:11; unlock v1@7:3; }"
+    );
+    assert!(rt; matches!(functions[1].kind, FunctionKind::Plain));
+    assert_eq!(rt; functions[1].spot, spot(10, 6));
+    assert_eq!(rt;
+        shown(&rt, &functions[1].body)?.as_str(),
+        " { create v2 f0@10:35; }"
+    );
+    assert_eq!(rt; program.main_spot, spot(11, 5));
+    assert_eq!(rt;
+        shown(&rt, &program.main)?.as_str(),
+        " { call f1@12:3; if@13:3 v0@13:7 == 0@13:12 { lock v1@13:17; } { }; v0@14:3 = 2@14:7; }"
+    );
+    Ok(())
+}
+
+/// Statements of `main` on line 2, where `int a; int b; void f(void) { }` stands before it, and what they are
+/// read as.
+const STATEMENTS: [(&str, &str); 8] = [
+    ("a = b;", " { v0@2:1 = v1@2:5; }"),
+    ("a=7-b;", " { v0@2:1 = 7@2:3 - v1@2:5; }"),
+    ("a = a < 2;", " { v0@2:1 = v0@2:5 < 2@2:9; }"),
+    ("a=b==b;", " { v0@2:1 = v1@2:3 == v1@2:6; }"),
+    ("f ( ) ;", " { call f0@2:1; }"),
+    ("while(a){f();}", " { while@2:1 v0@2:7 { call f0@2:10; }; }"),
+    (
+        "if(a){}else{b=1;}",
+        " { if@2:1 v0@2:4 { } { v1@2:13 = 1@2:15; }; }",
+    ),
+    (
+        "if(a){while(0<a){if(b){}}}else{}",
+        " { if@2:1 v0@2:4 { while@2:7 0@2:13 < v0@2:15 { if@2:18 v1@2:21 { } { }; }; } { }; }",
+    ),
+];
+
+#[test]
+fn each_statement_is_read(rt: HostRuntime) -> Result<(), Fail> {
+    let alloc = rt.alloc();
+    for (statement, want) in STATEMENTS {
+        let source = format!(in alloc;
+            "int a; int b; void f(void) {{ }} int main(void) {{\n{statement}\nreturn 0; }}"
+        )?;
+        let program = read(&rt, &source)?.ok_or("not of the form")?;
+        let shown = shown(&rt, &program.main)?;
+        assert_eq!(rt; shown.as_str(), want, "{statement}");
     }
-    assert_eq!(rt; program.main.len(), 5);
-    for (statement, want) in program.main.list().iter().zip([
-        ('c', 3, Some(spot(13, 18)), 0),
-        ('l', 2, None, 0),
-        ('=', 0, Some(spot(15, 3)), 2),
-        ('u', 2, None, 0),
-        ('=', 1, Some(spot(17, 3)), 2),
-    ]) {
-        assert_eq!(rt; shown(statement), want);
+    Ok(())
+}
+
+/// `main` with so many blocks inside one another, or a plain function with them.
+fn nested(rt: &(impl Abort + AllocGlobal), blocks: u32, in_main: bool) -> Result<String, Fail> {
+    let mut source = String::from_str(rt.alloc(), "int n; ")?;
+    source.push_str(if in_main {
+        "int main(void) {"
+    } else {
+        "void f(void) {"
+    })?;
+    for block in 0..blocks {
+        source.push_str(if block & 1 == 0 {
+            "while (n) {"
+        } else {
+            "if (n) { } else {"
+        })?;
+    }
+    for _ in 0..blocks {
+        source.push('}')?;
+    }
+    source.push_str(if in_main {
+        "return 0; }"
+    } else {
+        "} int main(void) { return 0; }"
+    })?;
+    Ok(source)
+}
+
+#[test]
+fn at_most_50_blocks_inside_one_another(rt: HostRuntime) -> Result<(), Fail> {
+    for (blocks, accepted) in [(0, true), (50, true), (51, false), (5000, false)] {
+        for in_main in [false, true] {
+            let source = nested(&rt, blocks, in_main)?;
+            assert_eq!(rt; read(&rt, &source)?.is_some(), accepted, "{blocks} blocks");
+        }
     }
     Ok(())
 }
 
 /// Sources, and whether each is of the form.
-const SOURCES: [(&str, bool); 28] = [
+const SOURCES: [(&str, bool); 53] = [
     // The least program, with blanks of each kind and with none where none is wanted.
     ("int main(void) { return 0; }", true),
     (
@@ -174,6 +378,71 @@ const SOURCES: [(&str, bool); 28] = [
     ),
     (
         "pthread_t t; void *w(void *a) { pthread_create(&t, 0, w, 0); return 0; } int main(void) { return 0; }",
+        false,
+    ),
+    // Functions of both kinds stand in any order. A call is of a plain function above, a thread starts in a
+    // thread function.
+    (
+        "void f(void) { } void *w(void *a) { f(); return 0; } void g(void) { f(); } int main(void) { g(); return 0; }",
+        true,
+    ),
+    (
+        "void *w(void *a) { return 0; } int main(void) { w(); return 0; }",
+        false,
+    ),
+    (
+        "pthread_t t; void f(void) { } int main(void) { pthread_create(&t, 0, f, 0); return 0; }",
+        false,
+    ),
+    (
+        "void f(void) { g(); } void g(void) { } int main(void) { return 0; }",
+        false,
+    ),
+    ("void f(void) { f(); } int main(void) { return 0; }", false),
+    (
+        "void f(void) { return 0; } int main(void) { return 0; }",
+        false,
+    ),
+    (
+        "void f(void) { } void f(void) { } int main(void) { return 0; }",
+        false,
+    ),
+    (
+        "int f; void f(void) { } int main(void) { return 0; }",
+        false,
+    ),
+    ("int n; int main(void) { n(); return 0; }", false),
+    // Expressions.
+    ("int n; int main(void) { n = n + n + n; return 0; }", false),
+    ("int n; int main(void) { n = n -- n; return 0; }", false),
+    ("int n; int main(void) { n = -1; return 0; }", false),
+    ("int n; int main(void) { n = n === n; return 0; }", false),
+    ("int n; int main(void) { n = n = n; return 0; }", false),
+    (
+        "pthread_mutex_t m; int n; int main(void) { n = m; return 0; }",
+        false,
+    ),
+    (
+        "void f(void) { } int n; int main(void) { n = n; return 0; }",
+        false,
+    ),
+    (
+        "int n; int main(void) { n = 1 + 2147483648; return 0; }",
+        false,
+    ),
+    // Blocks.
+    ("int main(void) { else { } return 0; }", false),
+    ("int main(void) { while (1) { } else { } return 0; }", false),
+    (
+        "int main(void) { if (1) { } else { } else { } return 0; }",
+        false,
+    ),
+    ("int n; int main(void) { if (n) n = 1; return 0; }", false),
+    ("int n; int main(void) { if n { } return 0; }", false),
+    ("int main(void) { { } return 0; }", false),
+    ("int main(void) { if (1) { return 0; } return 0; }", false),
+    (
+        "pthread_mutex_t m; int main(void) { if (m) { } return 0; }",
         false,
     ),
 ];
@@ -258,6 +527,7 @@ fn at_most_4000_names_and_4000_statements(rt: HostRuntime) -> Result<(), Fail> {
             write!(&mut source, "int n{number};\n")?;
         }
         source.push_str("void *w(void *a) { return 0; }\nint main(void) {\n")?;
+        // All but the first stand in a branch, half of them in its second part.
         for number in 0..statements {
             write!(&mut source, "n1 = {number};\n")?;
         }

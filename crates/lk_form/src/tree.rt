@@ -1,5 +1,6 @@
 //! What a source of the form says: variables, functions, and the statements of each body.
 
+use crate::role::Role;
 use lk_base::{Items, Name, Spot};
 
 /// A program of the form. A variable and a function go by their numbers, the places in these lists.
@@ -56,6 +57,21 @@ pub enum FunctionKind {
     },
     /// `void NAME(void)`: a statement may call it.
     Plain,
+}
+
+impl FunctionKind {
+    ghost use Rattle.std.specs.Prelude.{◌≡◌};
+    ghost use Rattle.lk_form.specs.Grammar.{role_of};
+
+    /// What a function of this kind is for.
+    pub(crate) fn role(&self) -> Role
+        ensures { result ≡ role_of self.now }
+    {
+        match self {
+            FunctionKind::Thread { .. } => Role::Thread,
+            FunctionKind::Plain => Role::Plain,
+        }
+    }
 }
 
 /// What an expression is made of.
