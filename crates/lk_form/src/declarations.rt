@@ -153,6 +153,7 @@ impl Declarations {
 }
 
 /// What is left of this many statements behind one, and those in it.
+#[cycle(counting)]
 fn left_after(statement: &Statement, left: u32) -> Option<u32>
     ensures { MatchOption result (left < count statement.now) (λ rest. rest + count statement.now ≡ left) }
 {
@@ -169,6 +170,7 @@ fn left_after(statement: &Statement, left: u32) -> Option<u32>
 }
 
 /// What is left of this many statements behind these, and those in them.
+#[cycle(counting)]
 fn left_after_all(statements: &[Statement], left: u32) -> Option<u32>
     ensures { MatchOption result (left < sum_by count statements.now) (λ rest. rest + sum_by count statements.now ≡ left) }
 {

@@ -116,6 +116,7 @@ fn simple(declared: &Declarations, cursor: &mut Cursor<'_, '_>) -> Result<Statem
 }
 
 /// Reads `if (CONDITION) {..}`, with `else {..}` where it is there.
+#[cycle(blocks)]
 #[tactic(auto, unfolding(crate::specs::Reading::branch, crate::specs::Reading::otherwise))]
 fn branch(
     alloc: Global,
@@ -140,6 +141,7 @@ fn branch(
 }
 
 /// Reads `else {..}`, or nothing where no `else` comes next.
+#[cycle(blocks)]
 #[tactic(auto, unfolding(crate::specs::Reading::otherwise))]
 fn otherwise(
     alloc: Global,
@@ -158,6 +160,7 @@ fn otherwise(
 }
 
 /// Reads `while (CONDITION) {..}`.
+#[cycle(blocks)]
 #[tactic(auto, unfolding(crate::specs::Reading::repetition))]
 fn repetition(
     alloc: Global,
@@ -180,6 +183,7 @@ fn repetition(
 }
 
 /// Reads a statement, in which so many blocks may stand inside one another.
+#[cycle(blocks)]
 #[tactic(auto, unfolding(crate::specs::Reading::statement))]
 fn statement(
     alloc: Global,
@@ -208,6 +212,7 @@ fn ends_statements(cursor: &Cursor<'_, '_>) -> bool
 }
 
 /// Reads the statements before a `return` or a closing brace.
+#[cycle(blocks)]
 fn statements(
     alloc: Global,
     declared: &Declarations,
@@ -226,6 +231,7 @@ fn statements(
 }
 
 /// Reads a block, of which so many may stand inside one another, this one counted.
+#[cycle(blocks)]
 #[tactic(auto, unfolding(crate::specs::Reading::block))]
 pub fn block(
     alloc: Global,
