@@ -2,6 +2,7 @@
 use Rattle.std.proofs.Common.{◌≡◌, ℕ, ◌+◌, Bool, ◌&&◌, List, [], ◌∷◌, map, refl, sym, ap, ◌∙◌}
 use Rattle.std.specs.Prelude.{sum, sum_by}
 use Rattle.std.specs.List.{list_all}
+use Rattle.std.proofs.lemmas.List.Sums.{sum-map}
 use Rattle.lk_base.specs.declared.spot.Spot.{Spot}
 use Rattle.lk_form.specs.declared.role.Role.TheVariants as role
 use Rattle.lk_form.specs.declared.tree.Variable.{Variable}
@@ -34,9 +35,11 @@ count-Call function spot = ap count (sym (made.rolls-Call function spot)) ∙ fo
 pub count-If : (condition : Expression) (spot : Spot) (first second : List Statement) → count (made.If condition spot first second) ≡ 1 + (sum_by count first + sum_by count second)
 count-If condition spot first second =
     ap count (sym (made.rolls-If condition spot first second)) ∙ fold-roll-Statement ℕ count_step (Statement-F.If condition spot first second)
+    ∙ rw (sum-map count first, sum-map count second) refl
 
 pub count-While : (condition : Expression) (spot : Spot) (body : List Statement) → count (made.While condition spot body) ≡ 1 + sum_by count body
-count-While condition spot body = ap count (sym (made.rolls-While condition spot body)) ∙ fold-roll-Statement ℕ count_step (Statement-F.While condition spot body)
+count-While condition spot body =
+    ap count (sym (made.rolls-While condition spot body)) ∙ fold-roll-Statement ℕ count_step (Statement-F.While condition spot body) ∙ ap (λ n. 1 + n) (sum-map count body)
 
 -- ---- is_resolved
 

@@ -32,9 +32,13 @@ pub struct Declarations {
 impl Model for Declarations {
     ghost use Rattle.std.specs.Prelude.{◌≡◌, ◌≤◌, length};
     ghost use Rattle.lk_form.specs.Grammar.{Scope};
+    ghost use Rattle.std.specs.Coded.{codes};
     ghost use Rattle.lk_form.specs.Reading.{names_of};
+    ghost use Rattle.lk_form.specs.contracts.tree.Statement as statement;
 
     ghost Value = { Scope };
+
+    ghost coded = { Prim.hlevel (codes, statement.the_row.coded) };
 
     ghost view = { λ d. record { variables = d.variables.items; functions = d.functions.items } };
 
