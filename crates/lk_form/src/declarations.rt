@@ -178,11 +178,11 @@ fn left_after(statement: &Statement, left: u32) -> Option<u32>
 fn left_after_all(statements: &[Statement], left: u32) -> Option<u32>
     ensures { MatchOption result (left < sum_by count statements.now) (λ rest. rest + sum_by count statements.now ≡ left) }
 {
-    let mut left = left;
+    let mut rest = left;
     for statement in statements {
-        left = left_after(statement, left)?;
+        rest = left_after(statement, rest)?;
     }
-    Some(left)
+    Some(rest)
 }
 
 /// Whether a program has at most 4,000 statements, the returns apart.
