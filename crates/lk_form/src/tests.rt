@@ -81,6 +81,7 @@ fn show_expression(text: &mut String, expression: Expression) -> Result<(), Fail
     }
 }
 
+#[cycle(shown)]
 fn show_statement(text: &mut String, statement: &Statement) -> Result<(), Fail> {
     match statement {
         Statement::Assign {
@@ -142,6 +143,7 @@ fn show_statement(text: &mut String, statement: &Statement) -> Result<(), Fail> 
 }
 
 /// Statements as text: in braces, each with its place.
+#[cycle(shown)]
 fn show(text: &mut String, statements: &[Statement]) -> Result<(), Fail> {
     text.push_str(" {")?;
     for statement in statements {
@@ -265,6 +267,36 @@ fn each_statement_is_read(rt: HostRuntime) -> Result<(), Fail> {
         let program = read(&rt, &source)?.ok_or("not of the form")?;
         let shown = shown(&rt, &program.main)?;
         assert_eq!(rt; shown.as_str(), want, "{statement}");
+    }
+    Ok(())
+}
+
+#[test]
+fn statements_in_blocks_are_counted(rt: HostRuntime) -> Result<(), Fail> {
+    for (first, second, body, accepted) in [
+        (1999, 1000, 999, true),
+        (2000, 1000, 999, false),
+        (1999, 1001, 999, false),
+        (1999, 1000, 1000, false),
+    ] {
+        let mut source = String::from_str(rt.alloc(), "int n; void f(void) { if (n) {")?;
+        for _ in 0..first {
+            source.push_str("n=1;")?;
+        }
+        source.push_str("} else {")?;
+        for _ in 0..second {
+            source.push_str("n=1;")?;
+        }
+        source.push_str("} } int main(void) { while (n) {")?;
+        for _ in 0..body {
+            source.push_str("n=1;")?;
+        }
+        source.push_str("} return 0; }")?;
+        assert_eq!(rt;
+            read(&rt, &source)?.is_some(),
+            accepted,
+            "{first}, {second}, {body}"
+        );
     }
     Ok(())
 }
@@ -527,7 +559,6 @@ fn at_most_4000_names_and_4000_statements(rt: HostRuntime) -> Result<(), Fail> {
             write!(&mut source, "int n{number};\n")?;
         }
         source.push_str("void *w(void *a) { return 0; }\nint main(void) {\n")?;
-        // All but the first stand in a branch, half of them in its second part.
         for number in 0..statements {
             write!(&mut source, "n1 = {number};\n")?;
         }

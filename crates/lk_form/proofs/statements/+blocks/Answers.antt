@@ -22,7 +22,7 @@ statements-loop-alloc-preserved t c =
     let shorter = c.in_ok-next.ensures.shorter in (
       rw c.in_ok-push.ensures.items
           (Going-on c.loop-alloc.invariant.0 (sym c.ends_statements.ensures ∙ c.loop-alloc-test.true)
-              (one_more-Some (statement (block c.args.declared.now c.args.blocks) c.args.declared.now) c.loop-alloc.list.items c.in_ok-next.next c.loop-alloc.cursor c.statement.new.cursor c.in_ok-next.ensures.value) c.in_ok-next.ensures.shorter),
+          (one_more-Some (statement (block c.args.declared.now c.args.blocks) c.args.declared.now) c.loop-alloc.list.items c.in_ok-next.next c.loop-alloc.cursor c.statement.new.cursor c.in_ok-next.ensures.value) c.in_ok-next.ensures.shorter),
       omega arith,
     )
 
