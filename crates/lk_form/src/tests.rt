@@ -43,122 +43,120 @@ fn spot(line: u32, col: u32) -> Spot {
     }
 }
 
-fn show_spot(text: &mut String, spot: Spot) -> Result<(), Fail> {
-    write!(text, "@{}:{}", spot.line, spot.col)?;
-    Ok(())
+/// What is written, in a character, with its number and its place: of statements `=` an assignment, `l` a lock,
+/// `u` an unlock, `c` a creation with the place of its argument, `>` the function it starts in, `f` a call, `i` an
+/// `if`, `w` a `while`; of expressions `v` a variable, `n` a number, `+`, `-`, `<`, and `e` for `==`; braces
+/// around statements.
+type Piece = (char, u32, u32, u32);
+
+fn piece(kind: char, number: u32, spot: Spot) -> Piece {
+    (kind, number, spot.line, spot.col)
 }
 
-fn show_operand(text: &mut String, operand: Operand) -> Result<(), Fail> {
+fn sign(kind: char) -> Piece {
+    (kind, 0, 0, 0)
+}
+
+fn operand_piece(operand: Operand) -> Piece {
     match operand {
-        Operand::Variable { variable, spot } => {
-            write!(text, "v{variable}")?;
-            show_spot(text, spot)
-        }
-        Operand::Number { value, spot } => {
-            write!(text, "{value}")?;
-            show_spot(text, spot)
-        }
+        Operand::Variable { variable, spot } => piece('v', variable, spot),
+        Operand::Number { value, spot } => piece('n', value, spot),
     }
 }
 
-fn show_expression(text: &mut String, expression: Expression) -> Result<(), Fail> {
+fn operator_piece(operator: Operator) -> Piece {
+    match operator {
+        Operator::Plus => sign('+'),
+        Operator::Minus => sign('-'),
+        Operator::Less => sign('<'),
+        Operator::Equal => sign('e'),
+    }
+}
+
+fn take_expression(pieces: &mut Vec<Piece>, expression: Expression) -> Result<(), Fail> {
     match expression {
-        Expression::Operand(only) => show_operand(text, only),
+        Expression::Operand(only) => pieces.push(operand_piece(only))?,
         Expression::Binary {
             operator,
             left,
             right,
         } => {
-            show_operand(text, left)?;
-            text.push_str(match operator {
-                Operator::Plus => " + ",
-                Operator::Minus => " - ",
-                Operator::Less => " < ",
-                Operator::Equal => " == ",
-            })?;
-            show_operand(text, right)
+            pieces.push(operand_piece(left))?;
+            pieces.push(operator_piece(operator))?;
+            pieces.push(operand_piece(right))?;
         }
     }
+    Ok(())
 }
 
-#[cycle(shown)]
-fn show_statement(text: &mut String, statement: &Statement) -> Result<(), Fail> {
+#[cycle(taken)]
+fn take_branch(
+    pieces: &mut Vec<Piece>,
+    condition: Expression,
+    then: &[Statement],
+    otherwise: &[Statement],
+) -> Result<(), Fail> {
+    take_expression(pieces, condition)?;
+    take(pieces, then)?;
+    take(pieces, otherwise)
+}
+
+#[cycle(taken)]
+fn take_statement(pieces: &mut Vec<Piece>, statement: &Statement) -> Result<(), Fail> {
+    pieces.push(first_piece(statement))?;
     match statement {
-        Statement::Assign {
-            variable,
-            spot,
-            value,
-        } => {
-            write!(text, "v{variable}")?;
-            show_spot(text, *spot)?;
-            text.push_str(" = ")?;
-            show_expression(text, *value)?;
-        }
-        Statement::Lock { variable, spot } => {
-            write!(text, "lock v{variable}")?;
-            show_spot(text, *spot)?;
-        }
-        Statement::Unlock { variable, spot } => {
-            write!(text, "unlock v{variable}")?;
-            show_spot(text, *spot)?;
-        }
-        Statement::Create {
-            variable,
-            spot,
-            function,
-        } => {
-            write!(text, "create v{variable} f{function}")?;
-            show_spot(text, *spot)?;
-        }
-        Statement::Call { function, spot } => {
-            write!(text, "call f{function}")?;
-            show_spot(text, *spot)?;
+        Statement::Assign { value, .. } => take_expression(pieces, *value),
+        Statement::Create { function, .. } => {
+            pieces.push(('>', *function, 0, 0))?;
+            Ok(())
         }
         Statement::If {
             condition,
-            spot,
             then,
             otherwise,
-        } => {
-            text.push_str("if")?;
-            show_spot(text, *spot)?;
-            text.push(' ')?;
-            show_expression(text, *condition)?;
-            show(text, then.list())?;
-            show(text, otherwise.list())?;
-        }
+            ..
+        } => take_branch(pieces, *condition, then.list(), otherwise.list()),
         Statement::While {
             condition,
-            spot,
             body,
+            ..
         } => {
-            text.push_str("while")?;
-            show_spot(text, *spot)?;
-            text.push(' ')?;
-            show_expression(text, *condition)?;
-            show(text, body.list())?;
+            take_expression(pieces, *condition)?;
+            take(pieces, body.list())
         }
+        _ => Ok(()),
     }
-    Ok(())
 }
 
-/// Statements as text: in braces, each with its place.
-#[cycle(shown)]
-fn show(text: &mut String, statements: &[Statement]) -> Result<(), Fail> {
-    text.push_str(" {")?;
+fn first_piece(statement: &Statement) -> Piece {
+    match statement {
+        Statement::Assign { variable, spot, .. } => piece('=', *variable, *spot),
+        Statement::Lock { variable, spot } => piece('l', *variable, *spot),
+        Statement::Unlock { variable, spot } => piece('u', *variable, *spot),
+        Statement::Create { variable, spot, .. } => piece('c', *variable, *spot),
+        Statement::Call { function, spot } => piece('f', *function, *spot),
+        Statement::If { spot, .. } => piece('i', 0, *spot),
+        Statement::While { spot, .. } => piece('w', 0, *spot),
+    }
+}
+
+#[cycle(taken)]
+fn take(pieces: &mut Vec<Piece>, statements: &[Statement]) -> Result<(), Fail> {
+    pieces.push(sign('{'))?;
     for statement in statements {
-        text.push(' ')?;
-        show_statement(text, statement)?;
-        text.push(';')?;
+        take_statement(pieces, statement)?;
     }
-    text.push_str(" }")?;
+    pieces.push(sign('}'))?;
     Ok(())
 }
 
-fn shown(rt: &(impl Abort + AllocGlobal), statements: &Items<Statement>) -> Result<String, Fail> {
-    let mut text = String::new(rt.alloc());
-    show(&mut text, statements.list())?;
-    Ok(text)
+fn pieces(
+    rt: &(impl Abort + AllocGlobal),
+    statements: &Items<Statement>,
+) -> Result<Vec<Piece>, Fail> {
+    let mut pieces = Vec::new(rt.alloc());
+    take(&mut pieces, statements.list())?;
+    Ok(pieces)
 }
 
 #[test]
@@ -186,13 +184,35 @@ fn the_first_run_is_read(rt: HostRuntime) -> Result<(), Fail> {
     };
     assert_eq!(rt; parameter.bytes(), b"a".as_slice());
     assert_eq!(rt;
-        shown(&rt, &w.body)?.as_str(),
-        " { lock v2@6:3; v0@7:3 = 1@7:7; unlock v2@8:3; v1@9:3 = 1@9:7; }"
+        pieces(&rt, &w.body)?.as_slice(),
+        [
+            ('{', 0, 0, 0),
+            ('l', 2, 6, 3),
+            ('=', 0, 7, 3),
+            ('n', 1, 7, 7),
+            ('u', 2, 8, 3),
+            ('=', 1, 9, 3),
+            ('n', 1, 9, 7),
+            ('}', 0, 0, 0)
+        ]
+        .as_slice()
     );
     assert_eq!(rt; program.main_spot, spot(12, 5));
     assert_eq!(rt;
-        shown(&rt, &program.main)?.as_str(),
-        " { create v3 f0@13:18; lock v2@14:3; v0@15:3 = 2@15:7; unlock v2@16:3; v1@17:3 = 2@17:7; }"
+        pieces(&rt, &program.main)?.as_slice(),
+        [
+            ('{', 0, 0, 0),
+            ('c', 3, 13, 18),
+            ('>', 0, 0, 0),
+            ('l', 2, 14, 3),
+            ('=', 0, 15, 3),
+            ('n', 2, 15, 7),
+            ('u', 2, 16, 3),
+            ('=', 1, 17, 3),
+            ('n', 2, 17, 7),
+            ('}', 0, 0, 0)
+        ]
+        .as_slice()
     );
     Ok(())
 }
@@ -221,39 +241,152 @@ fn branches_and_calls_are_read(rt: HostRuntime) -> Result<(), Fail> {
     let functions = program.functions.list();
     assert_eq!(rt; functions.len(), 2);
     assert_eq!(rt;
-        shown(&rt, &functions[0].body)?.as_str(),
-        " { lock v1@5:3; v0@6:3 = v0@6:7 + 1@6:11; unlock v1@7:3; }"
+        pieces(&rt, &functions[0].body)?.as_slice(),
+        [
+            ('{', 0, 0, 0),
+            ('l', 1, 5, 3),
+            ('=', 0, 6, 3),
+            ('v', 0, 6, 7),
+            ('+', 0, 0, 0),
+            ('n', 1, 6, 11),
+            ('u', 1, 7, 3),
+            ('}', 0, 0, 0)
+        ]
+        .as_slice()
     );
     assert!(rt; matches!(functions[1].kind, FunctionKind::Plain));
     assert_eq!(rt; functions[1].spot, spot(10, 6));
     assert_eq!(rt;
-        shown(&rt, &functions[1].body)?.as_str(),
-        " { create v2 f0@10:35; }"
+        pieces(&rt, &functions[1].body)?.as_slice(),
+        [
+            ('{', 0, 0, 0),
+            ('c', 2, 10, 35),
+            ('>', 0, 0, 0),
+            ('}', 0, 0, 0)
+        ]
+        .as_slice()
     );
     assert_eq!(rt; program.main_spot, spot(11, 5));
     assert_eq!(rt;
-        shown(&rt, &program.main)?.as_str(),
-        " { call f1@12:3; if@13:3 v0@13:7 == 0@13:12 { lock v1@13:17; } { }; v0@14:3 = 2@14:7; }"
+        pieces(&rt, &program.main)?.as_slice(),
+        [
+            ('{', 0, 0, 0),
+            ('f', 1, 12, 3),
+            ('i', 0, 13, 3),
+            ('v', 0, 13, 7),
+            ('e', 0, 0, 0),
+            ('n', 0, 13, 12),
+            ('{', 0, 0, 0),
+            ('l', 1, 13, 17),
+            ('}', 0, 0, 0),
+            ('{', 0, 0, 0),
+            ('}', 0, 0, 0),
+            ('=', 0, 14, 3),
+            ('n', 2, 14, 7),
+            ('}', 0, 0, 0)
+        ]
+        .as_slice()
     );
     Ok(())
 }
 
 /// Statements of `main` on line 2, where `int a; int b; void f(void) { }` stands before it, and what they are
 /// read as.
-const STATEMENTS: [(&str, &str); 8] = [
-    ("a = b;", " { v0@2:1 = v1@2:5; }"),
-    ("a=7-b;", " { v0@2:1 = 7@2:3 - v1@2:5; }"),
-    ("a = a < 2;", " { v0@2:1 = v0@2:5 < 2@2:9; }"),
-    ("a=b==b;", " { v0@2:1 = v1@2:3 == v1@2:6; }"),
-    ("f ( ) ;", " { call f0@2:1; }"),
-    ("while(a){f();}", " { while@2:1 v0@2:7 { call f0@2:10; }; }"),
+const STATEMENTS: [(&str, &[Piece]); 8] = [
+    (
+        "a = b;",
+        &[
+            ('{', 0, 0, 0),
+            ('=', 0, 2, 1),
+            ('v', 1, 2, 5),
+            ('}', 0, 0, 0),
+        ],
+    ),
+    (
+        "a=7-b;",
+        &[
+            ('{', 0, 0, 0),
+            ('=', 0, 2, 1),
+            ('n', 7, 2, 3),
+            ('-', 0, 0, 0),
+            ('v', 1, 2, 5),
+            ('}', 0, 0, 0),
+        ],
+    ),
+    (
+        "a = a < 2;",
+        &[
+            ('{', 0, 0, 0),
+            ('=', 0, 2, 1),
+            ('v', 0, 2, 5),
+            ('<', 0, 0, 0),
+            ('n', 2, 2, 9),
+            ('}', 0, 0, 0),
+        ],
+    ),
+    (
+        "a=b==b;",
+        &[
+            ('{', 0, 0, 0),
+            ('=', 0, 2, 1),
+            ('v', 1, 2, 3),
+            ('e', 0, 0, 0),
+            ('v', 1, 2, 6),
+            ('}', 0, 0, 0),
+        ],
+    ),
+    ("f ( ) ;", &[('{', 0, 0, 0), ('f', 0, 2, 1), ('}', 0, 0, 0)]),
+    (
+        "while(a){f();}",
+        &[
+            ('{', 0, 0, 0),
+            ('w', 0, 2, 1),
+            ('v', 0, 2, 7),
+            ('{', 0, 0, 0),
+            ('f', 0, 2, 10),
+            ('}', 0, 0, 0),
+            ('}', 0, 0, 0),
+        ],
+    ),
     (
         "if(a){}else{b=1;}",
-        " { if@2:1 v0@2:4 { } { v1@2:13 = 1@2:15; }; }",
+        &[
+            ('{', 0, 0, 0),
+            ('i', 0, 2, 1),
+            ('v', 0, 2, 4),
+            ('{', 0, 0, 0),
+            ('}', 0, 0, 0),
+            ('{', 0, 0, 0),
+            ('=', 1, 2, 13),
+            ('n', 1, 2, 15),
+            ('}', 0, 0, 0),
+            ('}', 0, 0, 0),
+        ],
     ),
     (
         "if(a){while(0<a){if(b){}}}else{}",
-        " { if@2:1 v0@2:4 { while@2:7 0@2:13 < v0@2:15 { if@2:18 v1@2:21 { } { }; }; } { }; }",
+        &[
+            ('{', 0, 0, 0),
+            ('i', 0, 2, 1),
+            ('v', 0, 2, 4),
+            ('{', 0, 0, 0),
+            ('w', 0, 2, 7),
+            ('n', 0, 2, 13),
+            ('<', 0, 0, 0),
+            ('v', 0, 2, 15),
+            ('{', 0, 0, 0),
+            ('i', 0, 2, 18),
+            ('v', 1, 2, 21),
+            ('{', 0, 0, 0),
+            ('}', 0, 0, 0),
+            ('{', 0, 0, 0),
+            ('}', 0, 0, 0),
+            ('}', 0, 0, 0),
+            ('}', 0, 0, 0),
+            ('{', 0, 0, 0),
+            ('}', 0, 0, 0),
+            ('}', 0, 0, 0),
+        ],
     ),
 ];
 
@@ -265,8 +398,8 @@ fn each_statement_is_read(rt: HostRuntime) -> Result<(), Fail> {
             "int a; int b; void f(void) {{ }} int main(void) {{\n{statement}\nreturn 0; }}"
         )?;
         let program = read(&rt, &source)?.ok_or("not of the form")?;
-        let shown = shown(&rt, &program.main)?;
-        assert_eq!(rt; shown.as_str(), want, "{statement}");
+        let found = pieces(&rt, &program.main)?;
+        assert_eq!(rt; found.as_slice(), want, "{statement}");
     }
     Ok(())
 }
