@@ -90,18 +90,6 @@ fn take_expression(pieces: &mut Vec<Piece>, expression: Expression) -> Result<()
 }
 
 #[cycle(taken)]
-fn take_branch(
-    pieces: &mut Vec<Piece>,
-    condition: Expression,
-    then: &[Statement],
-    otherwise: &[Statement],
-) -> Result<(), Fail> {
-    take_expression(pieces, condition)?;
-    take(pieces, then)?;
-    take(pieces, otherwise)
-}
-
-#[cycle(taken)]
 fn take_statement(pieces: &mut Vec<Piece>, statement: &Statement) -> Result<(), Fail> {
     pieces.push(first_piece(statement))?;
     match statement {
@@ -115,7 +103,11 @@ fn take_statement(pieces: &mut Vec<Piece>, statement: &Statement) -> Result<(), 
             then,
             otherwise,
             ..
-        } => take_branch(pieces, *condition, then.list(), otherwise.list()),
+        } => {
+            take_expression(pieces, *condition)?;
+            take(pieces, then.list())?;
+            take(pieces, otherwise.list())
+        }
         Statement::While {
             condition,
             body,
