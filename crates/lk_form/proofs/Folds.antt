@@ -1,6 +1,6 @@
 -- What a fold gives at each statement: how many statements there are, and whether its numbers are resolved.
 use Rattle.std.proofs.Common.{◌≡◌, ℕ, ◌+◌, Bool, ◌&&◌, List, [], ◌∷◌, map, refl, sym, ap, ◌∙◌}
-use Rattle.std.specs.Prelude.{sum, sum_by}
+use Rattle.std.specs.Prelude.{sum_by}
 use Rattle.std.specs.List.{list_all}
 use Rattle.std.proofs.lemmas.List.Sums.{sum-map}
 use Rattle.lk_base.specs.declared.spot.Spot.{Spot}
@@ -12,7 +12,7 @@ use Rattle.lk_form.specs.declared.tree.Expression.{Expression}
 use Rattle.lk_form.specs.declared.tree.Statement.{Statement}
 use Rattle.lk_form.specs.declared.tree.Statement.TheVariants as made
 use Rattle.lk_form.specs.declared.tree.Statement.TheOpen.{Statement-F}
-use Rattle.lk_form.specs.declared.tree.Statement.TheFolds.{fold-Statement, fold-roll-Statement}
+use Rattle.lk_form.specs.declared.tree.Statement.TheFolds.{fold-roll-Statement}
 use Rattle.lk_form.specs.Form.{count_step, count, is_of_kind, is_for, is_expression_resolved, resolved_step, is_resolved, are_resolved}
 
 -- ---- count

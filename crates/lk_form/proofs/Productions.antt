@@ -1,5 +1,5 @@
 -- The readers of expressions, and of statements without blocks, are exact.
-use Rattle.std.proofs.Common.{◌≡◌, ℕ, Bool, true, false, if◌then◌else◌, List, [], ◌∷◌, ⊎_elim, Option, Some, None, is_some, refl, sym, ap, subst, ◌∙◌}
+use Rattle.std.proofs.Common.{◌≡◌, ℕ, Bool, true, false, if◌then◌else◌, List, [], ◌∷◌, ⊎_elim, Option, Some, None, is_some, refl, ap, subst, ◌∙◌}
 use Rattle.std.specs.Option.{option_map}
 use Rattle.std.specs.Str.{bytes_eq}
 use Rattle.std.proofs.lemmas.Option.{same_Some}
@@ -18,7 +18,7 @@ use Rattle.lk_form.specs.declared.tree.Expression.{Expression}
 use Rattle.lk_form.specs.declared.tree.Expression.TheVariants as expressions
 use Rattle.lk_form.specs.declared.tree.Statement.{Statement}
 use Rattle.lk_form.specs.declared.tree.Statement.TheVariants as made
-use Rattle.lk_form.specs.Words.{spelling, IsNumber}
+use Rattle.lk_form.specs.Words.{spelling}
 use Rattle.lk_form.specs.Tokens.{Token}
 use Rattle.lk_form.specs.Grammar.{Scope, Begins, nothing, word, IsVariable, IsFunction, IsOperand, name, number, operator_word, ReadsExpression, alone, binary, ReadsCondition, condition, ReadsStatement, assign, lock, unlock, create, call}
 use Rattle.lk_form.specs.Reading as reading

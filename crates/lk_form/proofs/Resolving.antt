@@ -1,21 +1,18 @@
 -- What a program's numbers name.
-use Rattle.std.proofs.Common.{◌≡◌, ℕ, zero, suc, ◌+◌, Bool, true, List, [], ◌∷◌, ◌++◌, length, map, slice_get, take, Option, Some, refl, sym, ap, subst, ◌∙◌, arith}
+use Rattle.std.proofs.Common.{◌≡◌, ℕ, zero, suc, true, List, [], ◌∷◌, ◌++◌, map, slice_get, take, Some, refl, sym, ap, subst, ◌∙◌, arith}
 use Rattle.std.proofs.lemmas.Bool.{and_from, le-leb}
 use Rattle.std.proofs.lemmas.List.{length-append, length-map, append_assoc, append-nil}
 use Rattle.std.proofs.lemmas.Option.{same_Some}
-use Rattle.lk_base.specs.declared.spot.Spot.{Spot}
 use Rattle.lk_form.specs.declared.role.Role.{Role}
-use Rattle.lk_form.specs.declared.role.Role.TheVariants as role
 use Rattle.lk_form.specs.declared.tree.Program.{Program}
 use Rattle.lk_form.specs.declared.tree.Variable.{Variable}
 use Rattle.lk_form.specs.declared.tree.VariableKind.{VariableKind}
-use Rattle.lk_form.specs.declared.tree.VariableKind.TheVariants as kind
 use Rattle.lk_form.specs.declared.tree.Function.{Function}
 use Rattle.lk_form.specs.declared.tree.Operand.{Operand}
 use Rattle.lk_form.specs.declared.tree.Expression.{Expression}
 use Rattle.lk_form.specs.declared.tree.Statement.{Statement}
 use Rattle.lk_form.specs.Tokens.{Token}
-use Rattle.lk_form.specs.Grammar.{Scope, IsVariable, role_of, IsFunction, IsOperand, name, number, ReadsExpression, alone, binary, ReadsCondition, condition, ReadsStatement, assign, lock, unlock, create, call, branch, repetition, ReadsStatements, none, more, ReadsBlock, block, ReadsElse, missing, otherwise, ReadsFunction, thread, plain, ReadsFunctions}
+use Rattle.lk_form.specs.Grammar.{Scope, IsVariable, IsFunction, IsOperand, name, number, ReadsExpression, alone, binary, ReadsCondition, condition, ReadsStatement, assign, lock, unlock, create, call, branch, repetition, ReadsStatements, none, more, ReadsBlock, block, ReadsElse, missing, otherwise, ReadsFunction, thread, plain, ReadsFunctions}
 use Rattle.lk_form.specs.Form.{IsOfForm, AreResolved, found_of_kind, is_of_kind, found_for, is_for, is_operand_resolved, is_expression_resolved, is_resolved, are_resolved}
 use Rattle.lk_form.proofs.Scopes.{same_kind-refl, same_role-refl}
 use Rattle.lk_form.proofs.Folds.{resolved-Assign, resolved-Lock, resolved-Unlock, resolved-Create, resolved-Call, resolved-If, resolved-While}
