@@ -1,18 +1,20 @@
 -- The readers of variables and functions are exact.
-use Rattle.std.proofs.Common.{◌≡◌, ℕ, ◌<◌, ◌≤◌, Bool, true, false, not, if◌then◌else◌, List, [], ◌∷◌, ◌++◌, length, map, ⊎_elim, Some, None, is_some, refl, sym, ap, subst, ◌∙◌, arith}
+use Rattle.std.proofs.Common.{◌≡◌, ℕ, suc, ◌<◌, ◌≤◌, Bool, true, false, not, if◌then◌else◌, List, [], ◌∷◌, ◌++◌, length, map, ⊎_elim, Some, None, is_some, refl, sym, ap, subst, ◌∙◌, arith}
 use Rattle.std.specs.Str.{bytes_eq}
 use Rattle.std.proofs.lemmas.Bool.{or_from}
 use Rattle.std.proofs.lemmas.List.{append-nil, append_assoc}
 use Rattle.std.proofs.lemmas.Option.{cond_some}
 use Rattle.lk_base.specs.Files.{AreDifferent}
+use Rattle.lk_form.specs.declared.terminal.Terminal.{Terminal}
 use Rattle.lk_form.specs.declared.terminal.Terminal.TheVariants as t
 use Rattle.lk_form.specs.declared.tree.Variable.{Variable}
 use Rattle.lk_form.specs.declared.tree.VariableKind.{VariableKind}
 use Rattle.lk_form.specs.declared.tree.VariableKind.TheVariants as kind
 use Rattle.lk_form.specs.declared.tree.Function.{Function}
+use Rattle.lk_form.specs.declared.tree.FunctionKind.TheVariants as kinds
 use Rattle.lk_form.specs.Words.{spelling, is_name}
 use Rattle.lk_form.specs.Tokens.{Token}
-use Rattle.lk_form.specs.Grammar.{Scope, Begins, nothing, word, ReadsBody, type_word, ReadsVariable, variable, ReadsVariables, none, more, ReadsFunction, thread, ReadsFunctions}
+use Rattle.lk_form.specs.Grammar.{Scope, Begins, nothing, word, most_blocks, ReadsBlock, ReadsBody, type_word, ReadsVariable, variable, ReadsVariables, none, more, ReadsFunction, thread, plain, ReadsFunctions}
 use Rattle.lk_form.specs.Reading as reading
 use Rattle.lk_form.specs.Reading.{Parser, ◌>>◌, begins, takes, pure, given, names_of, may_declare}
 use Rattle.lk_form.proofs.Naming.{not_spelled, reserved}
@@ -20,7 +22,8 @@ use Rattle.lk_form.proofs.Scopes.{IsFit, fit_more, names-with_variable, names-wi
 use Rattle.lk_form.proofs.Exact.{Relation, Exact, Then, chosen, in_row, as_said, Stays, stays, pure_exact, Found, found, given_exact, Next, next, any_token_exact, Takes, takes_exact}
 use Rattle.lk_form.proofs.Repetition.{Repeats, done, again, repeat_sound, repeat_complete}
 use Rattle.lk_form.proofs.Productions.{begins_front}
-use Rattle.lk_form.proofs.Bodies.{Begins-length, body_exact, body_shorter}
+use Rattle.lk_form.proofs.Blocks.{Begins-length, block_shorter, block_exact}
+use Rattle.lk_form.proofs.Bodies.{body_exact, body_shorter}
 
 -- ---- types
 
@@ -134,19 +137,25 @@ type_is_not_void kind.Int = refl
 type_is_not_void kind.Mutex = refl
 type_is_not_void kind.Thread = refl
 
--- a type and a NAME are not `int main`
-no_main : (kind : VariableKind) {name : Token} {from last : List Token} → Begins (type_word kind ∷ []) from (name ∷ last) → is_name name.text ≡ true → begins (t.Int ∷ t.Main ∷ []) from ≡ false
+-- a NAME behind the first word is no word of the grammar
+name_second : {first : Terminal} {name : Token} {from last : List Token} → Begins (first ∷ []) from (name ∷ last) → is_name name.text ≡ true
+    → (v w : Terminal) → begins (v ∷ w ∷ []) from ≡ false
 unfolding begins takes
-no_main kind {name = name} {last = last} (word {token = token} e nothing) named =
-    by (bytes_eq token.text (spelling t.Int)) (bytes_eq name.text (spelling t.Main)) (not_spelled name.text t.Main named (reserved t.Main))
+name_second {name = name} {last = last} (word {token = token} e nothing) named v w =
+    by (bytes_eq token.text (spelling v)) (bytes_eq name.text (spelling w)) (not_spelled name.text w named (reserved w))
   where
     by : (a b : Bool) → b ≡ false → is_some {T = Unit {0} × List Token} (if a then (if b then Some (tt, last) else None) else None) ≡ false
     by false b e = refl
     by true b e = ap (λ b. is_some {T = Unit {0} × List Token} (if b then Some (tt, last) else None)) e
 
+-- the words in front are found
+all_in_front : {words : List Terminal} {from rest : List Token} → Begins words from rest → begins words from ≡ true
+unfolding begins
+all_in_front {words} {from} {rest} b = ap is_some ((takes_exact words).complete tt from rest b)
+
 no_function : {v : Variable} {from rest : List Token} → ReadsVariable v from rest → reading.begins_function from ≡ false
 unfolding reading.begins_function
-no_function (variable kind typed is closed) = or_from _ _ (begins_front typed t.Void ∙ type_is_not_void kind) (no_main kind typed is)
+no_function (variable kind typed is closed) = or_from _ _ (begins_front typed t.Void ∙ type_is_not_void kind) (name_second typed is t.Int t.Main)
 
 one_variable_exact : (scope : Scope) → IsBefore scope → Exact (reading.one_more_variable scope) (VariableStep scope)
 unfolding reading.one_more_variable
@@ -200,31 +209,63 @@ variables_complete before r =
 
 -- ---- functions
 
-abbrev function_parts : Scope → Relation Function
-function_parts scope =
+abbrev thread_parts : Scope → Relation Function
+thread_parts scope =
     Then (Takes (t.Void ∷ t.Star ∷ [])) (λ _.
     Then NameAt (λ name.
     Then (Takes (t.Open ∷ t.Void ∷ t.Star ∷ [])) (λ _.
     Then NameAt (λ parameter.
     Then (Takes (t.Close ∷ [])) (λ _.
-    Then (ReadsBody scope) (λ statements. Stays (record { name = name.text; spot = name.spot; parameter = parameter.text; body = statements })))))))
+    Then (ReadsBody scope) (λ statements. Stays (record { name = name.text; spot = name.spot; kind = kinds.Thread parameter.text; body = statements })))))))
 
-function_definition_exact : (scope : Scope) → IsFit scope → Exact (reading.function_definition scope) (ReadsFunction scope)
-unfolding reading.function_definition
-function_definition_exact scope fit = as_said
-    (in_row (takes_exact (t.Void ∷ t.Star ∷ [])) (λ _.
-    in_row new_name_exact (λ name.
-    in_row (takes_exact (t.Open ∷ t.Void ∷ t.Star ∷ [])) (λ _.
-    in_row new_name_exact (λ parameter.
-    in_row (takes_exact (t.Close ∷ [])) (λ _.
-    in_row (body_exact scope fit) (λ statements. pure_exact (record { name = name.text; spot = name.spot; parameter = parameter.text; body = statements }))))))))
-    (λ a from rest r. to r) (λ a from rest r. back r)
-  where
-    to : {f : Function} {from rest : List Token} → function_parts scope f from rest → ReadsFunction scope f from rest
-    to (_, _, result, (_, _, name_at is, (_, _, opened, (_, _, name_at is_parameter, (_, _, closed, (_, _, body, stays)))))) = thread result is opened is_parameter closed body
+abbrev plain_parts : Scope → Relation Function
+plain_parts scope =
+    Then (Takes (t.Void ∷ [])) (λ _.
+    Then NameAt (λ name.
+    Then (Takes (t.Open ∷ t.Void ∷ t.Close ∷ [])) (λ _.
+    Then (ReadsBlock scope (suc most_blocks)) (λ statements. Stays (record { name = name.text; spot = name.spot; kind = kinds.Plain; body = statements })))))
 
-    back : {f : Function} {from rest : List Token} → ReadsFunction scope f from rest → function_parts scope f from rest
-    back (thread result is opened is_parameter closed body) = (tt, _, result, (_, _, name_at is, (tt, _, opened, (_, _, name_at is_parameter, (tt, _, closed, (_, _, body, stays))))))
+module _ (scope : Scope) (fit : IsFit scope) where
+  thread_exact : Exact (reading.thread_function scope) (thread_parts scope)
+  unfolding reading.thread_function
+  thread_exact =
+      in_row (takes_exact (t.Void ∷ t.Star ∷ [])) (λ _.
+      in_row new_name_exact (λ name.
+      in_row (takes_exact (t.Open ∷ t.Void ∷ t.Star ∷ [])) (λ _.
+      in_row new_name_exact (λ parameter.
+      in_row (takes_exact (t.Close ∷ [])) (λ _.
+      in_row (body_exact scope fit) (λ statements. pure_exact (record { name = name.text; spot = name.spot; kind = kinds.Thread parameter.text; body = statements })))))))
+
+  plain_exact : Exact (reading.plain_function scope) (plain_parts scope)
+  unfolding reading.plain_function
+  plain_exact =
+      in_row (takes_exact (t.Void ∷ [])) (λ _.
+      in_row new_name_exact (λ name.
+      in_row (takes_exact (t.Open ∷ t.Void ∷ t.Close ∷ [])) (λ _.
+      in_row (block_exact scope fit (suc most_blocks)) (λ statements. pure_exact (record { name = name.text; spot = name.spot; kind = kinds.Plain; body = statements })))))
+
+  thread_read : {f : Function} {from rest : List Token} → thread_parts scope f from rest → ReadsFunction scope f from rest
+  thread_read (_, _, result, (_, _, name_at is, (_, _, opened, (_, _, name_at is_parameter, (_, _, closed, (_, _, body, stays)))))) = thread result is opened is_parameter closed body
+
+  plain_read : {f : Function} {from rest : List Token} → plain_parts scope f from rest → ReadsFunction scope f from rest
+  plain_read (_, _, result, (_, _, name_at is, (_, _, parameters, (_, _, body, stays)))) = plain result is parameters body
+
+  definition_sound : (f : Function) (from rest : List Token) → reading.function_definition scope from ≡ Some (f, rest) → ReadsFunction scope f from rest
+  unfolding reading.function_definition
+  definition_sound f from rest e = ⊎_elim
+      (λ h. thread_read (thread_exact.sound f from rest h.1))
+      (λ h. plain_read (plain_exact.sound f from rest h.1))
+      (chosen (begins (t.Void ∷ t.Star ∷ []) from) _ _ _ e)
+
+  definition_complete : {f : Function} {from rest : List Token} → ReadsFunction scope f from rest → reading.function_definition scope from ≡ Some (f, rest)
+  unfolding reading.function_definition
+  definition_complete {f} {from} {rest} (thread result is opened is_parameter closed body) =
+      rw (all_in_front result) (thread_exact.complete f from rest (tt, _, result, (_, _, name_at is, (tt, _, opened, (_, _, name_at is_parameter, (tt, _, closed, (_, _, body, stays)))))))
+  definition_complete {f} {from} {rest} (plain result is parameters body) =
+      rw (name_second result is t.Void t.Star) (plain_exact.complete f from rest (tt, _, result, (_, _, name_at is, (tt, _, parameters, (_, _, body, stays)))))
+
+  function_definition_exact : Exact (reading.function_definition scope) (ReadsFunction scope)
+  function_definition_exact = record { sound = definition_sound; complete = λ f from rest r. definition_complete r }
 
 abbrev pub FunctionStep : Scope → Relation Scope
 FunctionStep scope = Then (ReadsFunction scope) (λ f. Found (reading.with_function scope f))
@@ -242,6 +283,7 @@ with_function-from scope f may = ap (λ b. if b then Some (with_functions scope 
 
 allowed-function : {scope : Scope} {f : Function} {from rest : List Token} → ReadsFunction scope f from rest → is_name f.name ≡ true
 allowed-function (thread result is opened is_parameter closed body) = is
+allowed-function (plain result is parameters body) = is
 
 fit_function : (scope : Scope) (f : Function) {from rest : List Token} → IsFit scope → ReadsFunction scope f from rest → may_declare (names_of scope) f.name ≡ true → IsFit (with_functions scope (f ∷ []))
 fit_function scope f fit r may = fit_more scope (with_functions scope (f ∷ [])) f.name (names-with_function scope f) fit may (allowed-function r)
@@ -252,6 +294,7 @@ functions_more scope now from mid fit (f, behind, r, found e) =
 
 function_shorter : {scope : Scope} {f : Function} {from rest : List Token} → ReadsFunction scope f from rest → length rest < length from
 function_shorter (thread result is opened is_parameter closed body) = omega (arith, Begins-length result, Begins-length opened, Begins-length closed, body_shorter body)
+function_shorter (plain result is parameters body) = omega (arith, Begins-length result, Begins-length parameters, block_shorter body)
 
 function_step_shorter : (scope now : Scope) (from mid : List Token) → FunctionStep scope now from mid → length mid < length from
 function_step_shorter scope now from mid (f, behind, r, found e) = function_shorter r
@@ -263,6 +306,7 @@ one_function_exact scope fit = in_row (function_definition_exact scope fit) (λ 
 a_function_next : {scope : Scope} {f : Function} {from rest : List Token} → ReadsFunction scope f from rest → reading.ends_functions from ≡ false
 unfolding reading.ends_functions
 a_function_next (thread result is opened is_parameter closed body) = ap not (begins_front result t.Void)
+a_function_next (plain result is parameters body) = ap not (begins_front result t.Void)
 
 abbrev pub FunctionsFrom : Scope → Relation Scope
 FunctionsFrom = Repeats FunctionStep reading.ends_functions

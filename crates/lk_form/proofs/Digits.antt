@@ -1,17 +1,17 @@
 -- A NUMBER is the text of its value, and its value is what its digits write.
-use Rattle.std.proofs.Common.{◌≡◌, ℕ, ◌<◌, ◌^◌, Bool, true, false, ◌==◌, if◌then◌else◌, ◌⊎◌, inl, inr, ⊎_elim, zero, suc, List, [], ◌∷◌, length, get_or, Some, Result, Ok, Err, decimal, refl, sym, ap, ◌∙◌, arith, rules}
+use Rattle.std.proofs.Common.{◌≡◌, ℕ, ◌<◌, ◌^◌, Bool, true, false, not, ◌==◌, if◌then◌else◌, ◌⊎◌, inl, inr, ⊎_elim, zero, suc, List, [], ◌∷◌, length, get_or, Some, None, Result, Ok, Err, decimal, refl, sym, ap, ◌∙◌, arith, rules}
 use Rattle.std.specs.Char.{is_ascii_digit}
 use Rattle.std.specs.List.{list_all}
 use Rattle.std.specs.Option.{SomeIff}
 use Rattle.std.specs.Result.{OkIff, result_ok}
 use Rattle.std.specs.Str.{IsUtf8}
 use Rattle.std.specs.Str.Parse.{digits_value, ParsesUnsigned}
-use Rattle.std.proofs.lemmas.Bool.{and_parts, leb-true, le-leb, eqb-true, eqb-false, eq-eqb}
+use Rattle.std.proofs.lemmas.Bool.{and_parts, leb-true, le-leb, eqb-true, eqb-false, eq-eqb, not-true, true≢false}
 use Rattle.std.proofs.lemmas.Str.{IsUtf8-from_ascii}
 use Rattle.std.proofs.lemmas.Str.Parse.{IsNumeralModel, IsDigitsTest, numerals_by_value, parse_digits}
 use Rattle.std.proofs.lemmas.Fmt.{decimal-digits_value, decimal_is_IsNumeral, decimal_digit, decimal_nonempty, first_decimal, IsAscii-from_digits}
 use Rattle.std.proofs.lemmas.Option.{cond_some}
-use Rattle.lk_form.specs.Words.{IsNumber}
+use Rattle.lk_form.specs.Words.{is_identifier, is_name, IsNumber}
 use Rattle.lk_form.specs.Reading.{is_decimal, number_of}
 
 are_digits : IsDigitsTest (λ ds. list_all is_ascii_digit ds ≡ true)
@@ -74,6 +74,19 @@ number_of-from text value is =
     let same : digits_value 10 text ≡ value = ap (digits_value 10) is.digits ∙ (decimal_is_IsNumeral value low).1 in
     let shaped : is_decimal text ≡ true = is_decimal-from text (rw is.digits (decimal_is_decimal value low)) in
     rw (shaped, same, le-leb value 2147483647 small) refl
+
+not_decimal : (text : List ℕ) → is_identifier text ≡ true → is_decimal text ≡ false
+not_decimal [] e = refl
+not_decimal (b ∷ bs) e = let no_digit = not-true (is_ascii_digit b) (and_parts (not (is_ascii_digit b)) _ e).0 in by (b == 48) refl no_digit
+  where
+    by : (zero_first : Bool) → (b == 48) ≡ zero_first → is_ascii_digit b ≡ false → (if zero_first then (length bs == 0) else list_all is_ascii_digit (b ∷ bs)) ≡ false
+    by true z no_digit = absurd (true≢false (sym (ap is_ascii_digit (eqb-true b 48 z)) ∙ no_digit))
+    by false z no_digit = rw no_digit refl
+
+-- a NAME is no NUMBER
+pub number_of-name : (text : List ℕ) → is_name text ≡ true → number_of text ≡ None
+unfolding number_of is_name
+number_of-name text named = rw (not_decimal text (and_parts _ _ (and_parts _ _ (and_parts _ _ named).0).0).0) refl
 
 -- digits are text
 pub IsUtf8-from_decimal : (text : List ℕ) → is_decimal text ≡ true → IsUtf8 text

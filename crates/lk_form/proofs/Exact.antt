@@ -56,10 +56,20 @@ as_said x to back = record {
   complete = λ a from rest s. x.complete a from rest (back a from rest s);
 }
 
+-- what a reader reads is a relation of its own
+abbrev pub Read : {A : Type 0} → Parser A → Relation A
+Read p a from rest = p from ≡ Some (a, rest)
+
+pub read_exact : {A : Type 0} (p : Parser A) → Exact p (Read p)
+read_exact p = record { sound = λ a from rest e. e; complete = λ a from rest e. e }
+
 -- ---- the least readers
 
 pub data Stays {A : Type 0} (a : A) : A → List Token → List Token → Type 0 where
   stays : {from : List Token} → Stays a a from from
+
+pub stays_to : {A : Type 0} {a b : A} {from mid rest : List Token} (R : Relation A) → R a from mid → Stays a b mid rest → R b from rest
+stays_to R r stays = r
 
 pub pure_exact : {A : Type 0} (a : A) → Exact (pure a) (Stays a)
 pure_exact {A} a = record { sound = λ b from rest e. by (some_pair_parts a b from rest e); complete = λ b from rest s. back s }

@@ -6,7 +6,9 @@ pub mod Exact
 pub mod Scopes
 pub mod Productions
 pub mod Repetition
+pub mod Blocks
 pub mod Bodies
 pub mod Declaring
 pub mod Whole
+pub mod Folds
 pub mod Resolving

@@ -21,6 +21,9 @@ unfolding is_name is_reserved_word begins_refused
 reserved t.Int = refl
 reserved t.Void = refl
 reserved t.Return = refl
+reserved t.If = refl
+reserved t.Else = refl
+reserved t.While = refl
 reserved t.Main = refl
 reserved t.MutexType = refl
 reserved t.ThreadType = refl
@@ -37,3 +40,7 @@ reserved t.CloseBrace = refl
 reserved t.Equals = refl
 reserved t.Ampersand = refl
 reserved t.Comma = refl
+reserved t.Plus = refl
+reserved t.Minus = refl
+reserved t.Less = refl
+reserved t.EqualTo = refl

@@ -7,7 +7,7 @@ use Rattle.lk_form.specs.declared.fault.Fault.{Fault}
 use Rattle.lk_form.specs.declared.fault.Fault.TheVariants.{Form, NoMemory}
 use Rattle.lk_form.specs.declared.terminal.Terminal.{Terminal}
 use Rattle.lk_form.specs.Tokens.{Token}
-use Rattle.lk_form.specs.Reading.{GivesBy, Moves, fault_of, takes, begins, any_token, Parser, and_then, pure, one_more, repeat, repeat_from}
+use Rattle.lk_form.specs.Reading.{GivesBy, Moves, fault_of, takes, begins, second_is, any_token, Parser, and_then, pure, one_more, repeat, repeat_from}
 
 -- a call that passes on why a reader read nothing
 pub failed : {X Y A B : Type 0} (view : X → A) (other : Y → B) (read : Option (A × List Token)) (whole : Option (B × List Token)) (r : Result Y Fault) (e : Fault)
@@ -46,6 +46,13 @@ takes_past words tokens i more e = ap (takes (drop i words)) (no_token tokens e)
 pub begins_past : (words : List Terminal) (tokens : List Token) (i : ℕ) → i < length words → length tokens ≤ i → begins (drop i words) (drop i tokens) ≡ false
 unfolding begins
 begins_past words tokens i more past = rw (drop_all i tokens past, takes-nil words i more) refl
+
+-- behind the last token no word stands
+pub second_past : (word : Terminal) (tokens : List Token) → length tokens ≤ 1 → second_is word tokens ≡ false
+unfolding second_is begins takes
+second_past word [] short = refl
+second_past word (token ∷ []) short = refl
+second_past word (first ∷ second ∷ tokens) short = absurd (omega arith)
 
 pub one_more-Some : {A : Type 0} (item : Parser A) (found : List A) (next : A) (tokens behind : List Token) → item tokens ≡ Some (next, behind)
     → one_more item found tokens ≡ Some (found ++ next ∷ [], behind)

@@ -11,14 +11,17 @@ use Rattle.std.proofs.lemmas.Map.Keys.{apart_from_distinct, IsDistinct-push}
 use Rattle.std.proofs.lemmas.Option.{slice_get_within, slice_get-get_or, get_or_from_slice_get, slice_get-map, option_and_then_some, same_Some, cond_some}
 use Rattle.std.proofs.lemmas.Slice.Eq.{bytes_eq-Decides}
 use Rattle.lk_base.specs.Files.{has_name, AreDifferent}
+use Rattle.lk_form.specs.declared.role.Role.{Role}
+use Rattle.lk_form.specs.declared.role.Role.TheVariants as role
 use Rattle.lk_form.specs.declared.tree.Variable.{Variable}
 use Rattle.lk_form.specs.declared.tree.VariableKind.{VariableKind}
 use Rattle.lk_form.specs.declared.tree.VariableKind.TheVariants as kind
 use Rattle.lk_form.specs.declared.tree.Function.{Function}
 use Rattle.lk_form.specs.Words.{is_name}
-use Rattle.lk_form.specs.Grammar.{Scope, IsVariable, IsFunction}
+use Rattle.lk_form.specs.Grammar.{Scope, IsVariable, role_of, IsFunction}
+use Rattle.lk_form.specs.Form.{same_kind, same_role}
 use Rattle.lk_form.proofs.Naming.{is_name-short}
-use Rattle.lk_form.specs.Reading.{names_of, place_of, same_kind, if_of_kind, variable_in, function_in, may_declare}
+use Rattle.lk_form.specs.Reading.{names_of, place_of, if_of_kind, variable_in, if_for, function_at, function_in, may_declare}
 
 -- ---- texts
 
@@ -84,7 +87,7 @@ found-place_of scope i text e = at_position (names_of scope) i text (guarded _ _
 
 -- ---- variables and functions
 
-same_kind-refl : (k : VariableKind) → same_kind k k ≡ true
+pub same_kind-refl : (k : VariableKind) → same_kind k k ≡ true
 same_kind-refl kind.Int = refl
 same_kind-refl kind.Mutex = refl
 same_kind-refl kind.Thread = refl
@@ -99,6 +102,16 @@ kinds_from kind.Mutex kind.Thread e = absurd (false≢true e)
 kinds_from kind.Thread kind.Int e = absurd (false≢true e)
 kinds_from kind.Thread kind.Mutex e = absurd (false≢true e)
 kinds_from kind.Thread kind.Thread e = refl
+
+pub same_role-refl : (r : Role) → same_role r r ≡ true
+same_role-refl role.Thread = refl
+same_role-refl role.Plain = refl
+
+roles_from : (a b : Role) → same_role a b ≡ true → a ≡ b
+roles_from role.Thread role.Thread e = refl
+roles_from role.Thread role.Plain e = absurd (false≢true e)
+roles_from role.Plain role.Thread e = absurd (false≢true e)
+roles_from role.Plain role.Plain e = refl
 
 -- the name of a variable is at the variable's place
 named_variable : (scope : Scope) (i : ℕ) (v : Variable) → slice_get scope.variables i ≡ Some v → slice_get (names_of scope) i ≡ Some v.name
@@ -139,38 +152,41 @@ pub allowed_variable : {scope : Scope} {kind : VariableKind} {number : ℕ} {tex
 allowed_variable {scope} {kind} {number} {text} fit is =
     at_place (λ n. is_name n ≡ true) (names_of scope) number text fit.allowed (named_variable scope number is.variable is.numbered ∙ ap Some is.named)
 
-pub function_in-from : {scope : Scope} {number : ℕ} {text : List ℕ} → IsFit scope → IsFunction scope number text → function_in scope text ≡ Some number
+-- and so may that of a function
+pub allowed_function : {scope : Scope} {role : Role} {number : ℕ} {text : List ℕ} → IsFit scope → IsFunction scope role number text → is_name text ≡ true
+allowed_function {scope} {role} {number} {text} fit is =
+    at_place (λ n. is_name n ≡ true) (names_of scope) (length scope.variables + number) text fit.allowed (named_function scope number is.function is.numbered ∙ ap Some is.named)
+
+pub function_in-from : {scope : Scope} {role : Role} {number : ℕ} {text : List ℕ} → IsFit scope → IsFunction scope role number text → function_in scope role text ≡ Some number
 unfolding function_in
-function_in-from {scope} {number} {text} fit is =
+function_in-from {scope} {role} {number} {text} fit is =
     let place = length scope.variables + number in
     let there : slice_get (names_of scope) place ≡ Some text = named_function scope number is.function is.numbered ∙ ap Some is.named in
     let behind : length scope.variables ≤ place = omega arith in
     let back : place - length scope.variables ≡ number = omega arith in
-    rw (place_of-found scope place text fit there, le-leb (length scope.variables) place behind, back) refl
+    rw (place_of-found scope place text fit there, le-leb (length scope.variables) place behind, back, is.numbered, is.same_role, same_role-refl role) refl
 
--- what is named behind the variables is a function
-function_at : (scope : Scope) (number : ℕ) (text : List ℕ) → slice_get (names_of scope) (length scope.variables + number) ≡ Some text → IsFunction scope number text
-function_at scope number text there = by (slice_get scope.functions number) refl named
-  where
-    named : option_map (λ (f : Function). f.name) (slice_get scope.functions number) ≡ Some text
-    named =
-        let front = map (λ (v : Variable). v.name) scope.variables in
-        let behind = map (λ (f : Function). f.name) scope.functions in
-        let at : length front ≡ length scope.variables = length-map scope.variables (λ v. v.name) in
-        sym (slice_get-map (λ (f : Function). f.name) scope.functions number) ∙ sym (slice_get-append_right front behind number) ∙ rw at there
-
-    by : (o : Option Function) → slice_get scope.functions number ≡ o → option_map (λ (f : Function). f.name) o ≡ Some text → IsFunction scope number text
-    by None at e = absurd cc
-    by (Some f) at e = record { function = f; numbered = at; named = same_Some f.name text e }
-
-pub IsFunction-from : {scope : Scope} {number : ℕ} {text : List ℕ} → function_in scope text ≡ Some number → IsFunction scope number text
+pub IsFunction-from : {scope : Scope} {role : Role} {number : ℕ} {text : List ℕ} → function_in scope role text ≡ Some number → IsFunction scope role number text
 unfolding function_in
-IsFunction-from {scope} {number} {text} e = option_and_then_some _ (place_of scope text) number e
+IsFunction-from {scope} {role} {number} {text} e = option_and_then_some (function_at scope role) (place_of scope text) number e
     (λ place at found.
-    let p = cond_some (nat_le (length scope.variables) place) (place - length scope.variables) number found in
+    let k = place - length scope.variables in
+    let p = guarded (nat_le (length scope.variables) place) (if_for role k (slice_get scope.functions k)) number found in
     let behind = leb-true (length scope.variables) place p.0 in
-    let same : place ≡ length scope.variables + number = omega (arith, p.1) in
-    function_at scope number text (rw (← same) (found-place_of scope place text at)))
+    let same : place ≡ length scope.variables + k = omega arith in
+    by k (slice_get scope.functions k) refl p.1 (rw (← same) (found-place_of scope place text at)))
+  where
+    by : (k : ℕ) (o : Option Function) → slice_get scope.functions k ≡ o → if_for role k o ≡ Some number → slice_get (names_of scope) (length scope.variables + k) ≡ Some text
+        → IsFunction scope role number text
+    by k None there found named = absurd cc
+    by k (Some f) there found named =
+        let p = cond_some (same_role (role_of f.kind) role) k number found in
+        record {
+          function = f;
+          numbered = rw (← p.1) there;
+          named = same_Some f.name text (sym (named_function scope k f there) ∙ named);
+          same_role = roles_from (role_of f.kind) role p.0;
+        }
 
 -- ---- declarations
 

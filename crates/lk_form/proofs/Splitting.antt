@@ -1,13 +1,13 @@
 -- A source has at most one split, and what the lexer finds in front is the longest token.
-use Rattle.std.proofs.Common.{◌≡◌, ℕ, zero, suc, ◌+◌, ◌<◌, ◌≤◌, Bool, true, false, ◌==◌, cond, if◌then◌else◌, List, [], ◌∷◌, ◌++◌, length, take, drop, ◌⊎◌, Some, None, refl, sym, ap, subst, ◌∙◌, inl, inr, ⊎_elim, one-add, arith}
-use Rattle.std.specs.List.{list_all, prefix_len, slice_get}
+use Rattle.std.proofs.Common.{◌≡◌, ℕ, zero, suc, ◌+◌, ◌<◌, ◌≤◌, Bool, true, false, ◌==◌, cond, if◌then◌else◌, List, [], ◌∷◌, ◌++◌, length, take, drop, ◌⊎◌, Some, None, refl, sym, ap, subst, ◌∙◌, inl, inr, ⊎_elim, one-add, arith, codes, nat_eq}
+use Rattle.std.specs.List.{list_all, prefix_len, slice_get, starts_with}
 use Rattle.std.proofs.lemmas.List.{append-nil, append_assoc, take-append-drop, length-take-le, length-drop}
-use Rattle.std.proofs.lemmas.Bool.{true≢false, false≢true, and_parts, or_cases, and_from, or_left, or_right}
+use Rattle.std.proofs.lemmas.Bool.{true≢false, false≢true, and_parts, or_cases, and_from, or_left, or_right, eqb-true}
 use Rattle.std.proofs.lemmas.Bool.Decides.{nat_tests}
 use Rattle.lk_base.specs.declared.spot.Spot.{Spot}
 use Rattle.lk_form.specs.Words.{is_word_byte}
 use Rattle.lk_form.specs.Tokens.{Token, Splits, ends, blank, token, start_of, IsLongest, is_token, is_word, is_punctuator, is_blank, after_blank, after_text}
-use Rattle.lk_form.specs.Reading.{front_len}
+use Rattle.lk_form.specs.Reading.{short_len, front_len}
 
 -- of two fronts of one list, one begins the other
 comparable : {A : Type 0} (a b c d : List A) → a ++ b ≡ c ++ d → ((m : List A) × (c ≡ a ++ m) × (b ≡ m ++ d)) ⊎ ((m : List A) × (a ≡ c ++ m) × (d ≡ m ++ b))
@@ -35,32 +35,64 @@ word_high b h = grind (arith, nat_tests)
 mark_high : (b : ℕ) → is_punctuator (b ∷ []) ≡ true → 32 < b
 mark_high b h = grind (arith, nat_tests)
 
-not_both : (b : ℕ) → is_punctuator (b ∷ []) ≡ true → is_word_byte b ≡ true → ⊥
-not_both b m w = grind (arith, nat_tests)
+-- `==` in front
+equal_in_front : (b c : ℕ) (rest : List ℕ) → b ≡ 61 → c ≡ 61 → starts_with nat_eq (b ∷ c ∷ rest) (codes "==") ≡ true
+equal_in_front b c rest first second = rw (first, second) refl
+
+in_front_equal : (bytes : List ℕ) → starts_with nat_eq bytes (codes "==") ≡ true → (rest : List ℕ) × (bytes ≡ 61 ∷ 61 ∷ rest)
+in_front_equal [] e = absurd (false≢true e)
+in_front_equal (b ∷ []) e = absurd (false≢true (and_parts _ _ e).1)
+in_front_equal (b ∷ c ∷ rest) e =
+    let p = and_parts (nat_eq 61 b) _ e in
+    let q = and_parts (nat_eq 61 c) _ p.1 in
+    (rest, rw (← eqb-true 61 b p.0, ← eqb-true 61 c q.0) refl)
+
+-- a byte of a word begins no punctuator
+not_both : (b : ℕ) (bs : List ℕ) → is_word_byte b ≡ true → is_punctuator (b ∷ bs) ≡ true → ⊥
+not_both b [] w m = grind (arith, nat_tests)
+not_both b (c ∷ []) w m = grind (arith, nat_tests)
+not_both b (c ∷ d ∷ bs) w m = false≢true m
+
+-- a punctuator of two bytes is `==`
+two_equal : (b c : ℕ) → is_punctuator (b ∷ c ∷ []) ≡ true → (b ≡ 61) × (c ≡ 61)
+two_equal b c m = let p = and_parts (b == 61) (c == 61) m in (eqb-true b 61 p.0, eqb-true c 61 p.1)
 
 -- a token of one byte or more begins with a byte of a word or is a punctuator
 begins_high : (b : ℕ) (bs : List ℕ) → is_token (b ∷ bs) ≡ true → 32 < b
 unfolding is_token
-begins_high b [] t = ⊎_elim (λ w. word_high b (and_parts _ _ w).0) (mark_high b) (or_cases _ _ t)
-begins_high b (c ∷ bs) t = ⊎_elim (λ w. word_high b (and_parts _ _ w).0) (λ m. absurd (false≢true m)) (or_cases _ _ t)
+begins_high b bs t = ⊎_elim (λ w. word_high b (and_parts _ _ w).0) (by bs) (or_cases _ _ t)
+  where
+    by : (bs : List ℕ) → is_punctuator (b ∷ bs) ≡ true → 32 < b
+    by [] m = mark_high b m
+    by (c ∷ []) m = omega (arith, (two_equal b c m).0)
+    by (c ∷ d ∷ bs) m = absurd (false≢true m)
 
 not_empty : is_token [] ≡ true → ⊥
 unfolding is_token
 not_empty e = false≢true e
 
--- a punctuator is the longest token, whatever follows
-mark_longest : (b : ℕ) (rest : List ℕ) → is_punctuator (b ∷ []) ≡ true → IsLongest (b ∷ []) rest
+-- a punctuator of one byte is the longest token, where `==` is not in front
+mark_longest : (b : ℕ) (rest : List ℕ) → is_punctuator (b ∷ []) ≡ true → starts_with nat_eq (b ∷ rest) (codes "==") ≡ false → IsLongest (b ∷ []) rest
 unfolding is_token
-mark_longest b rest mark = record { token = or_right _ _ mark; longest = longest }
+mark_longest b rest mark other = record { token = or_right _ _ mark; longest = longest }
   where
     longest : (more others : List ℕ) → rest ≡ more ++ others → is_token (b ∷ more) ≡ true → more ≡ []
     longest [] others e t = refl
-    longest (m ∷ ms) others e t =
-        ⊎_elim (λ w. absurd (not_both b mark (and_parts _ _ w).0)) (λ no. absurd (false≢true no)) (or_cases _ _ t)
+    longest (m ∷ ms) others e t = ⊎_elim (λ w. absurd (not_both b [] (and_parts _ _ w).0 mark)) (λ two. absurd (by ms e two)) (or_cases _ _ t)
+      where
+        by : (ms : List ℕ) → rest ≡ m ∷ (ms ++ others) → is_punctuator (b ∷ m ∷ ms) ≡ true → ⊥
+        by [] e two = let p = two_equal b m two in
+            true≢false (sym (equal_in_front b m others p.0 p.1) ∙ sym (ap (λ rest. starts_with nat_eq (b ∷ rest) (codes "==")) e) ∙ other)
+        by (k ∷ ms) e two = false≢true two
 
-no_long_mark : (b m : ℕ) (bs ms : List ℕ) → is_punctuator (b ∷ (bs ++ m ∷ ms)) ≡ false
-no_long_mark b m [] ms = refl
-no_long_mark b m (c ∷ bs) ms = refl
+-- `==` is the longest token
+equals_longest : (rest : List ℕ) → IsLongest (61 ∷ 61 ∷ []) rest
+unfolding is_token
+equals_longest rest = record { token = refl; longest = longest }
+  where
+    longest : (more others : List ℕ) → rest ≡ more ++ others → is_token (61 ∷ 61 ∷ more) ≡ true → more ≡ []
+    longest [] others e t = refl
+    longest (m ∷ ms) others e t = absurd (⊎_elim (λ w. false≢true w) (λ mark. false≢true mark) (or_cases _ _ t))
 
 all_parts : (p : ℕ → Bool) (xs ys : List ℕ) → list_all p (xs ++ ys) ≡ true → list_all p ys ≡ true
 all_parts p [] ys h = h
@@ -76,7 +108,7 @@ word_longest (b ∷ bs) rest word stops = record { token = or_left _ _ word; lon
     longest [] others e t = refl
     longest (m ∷ ms) others e t = ⊎_elim
         (λ w. absurd (true≢false (sym (and_parts _ _ (all_parts is_word_byte (b ∷ bs) (m ∷ ms) w)).0 ∙ stops m (ms ++ others) e)))
-        (λ mark. absurd (true≢false (sym mark ∙ no_long_mark b m bs ms)))
+        (λ mark. absurd (not_both b (bs ++ m ∷ ms) (and_parts _ _ word).0 mark))
         (or_cases _ _ t)
 
 -- what stands before the first byte that does not pass
@@ -104,26 +136,36 @@ is_word-take (suc n) b bs some all = all
 -- the front that the lexer takes is the longest token
 pub front_longest : (bytes : List ℕ) → 0 < front_len bytes → IsLongest (take (front_len bytes) bytes) (drop (front_len bytes) bytes)
 unfolding front_len
-front_longest [] some = absurd (omega arith)
-front_longest (b ∷ bs) some = by (is_punctuator (b ∷ [])) refl some
+front_longest bytes some = by (starts_with nat_eq bytes (codes "==")) refl some
   where
-    by : (c : Bool) → is_punctuator (b ∷ []) ≡ c → let n = (if c then 1 else prefix_len is_word_byte (b ∷ bs)) in 0 < n → IsLongest (take n (b ∷ bs)) (drop n (b ∷ bs))
-    by true mark some = mark_longest b bs mark
-    by false mark some = word_longest _ _ (is_word-take _ b bs some (fronts_pass is_word_byte (b ∷ bs))) (front_stops is_word_byte (b ∷ bs))
+    short : (bytes : List ℕ) → starts_with nat_eq bytes (codes "==") ≡ false → 0 < short_len bytes → IsLongest (take (short_len bytes) bytes) (drop (short_len bytes) bytes)
+    short [] other some = absurd (omega arith)
+    short (b ∷ bs) other some = one (is_punctuator (b ∷ [])) refl some
+      where
+        one : (c : Bool) → is_punctuator (b ∷ []) ≡ c → let n = (if c then 1 else prefix_len is_word_byte (b ∷ bs)) in 0 < n → IsLongest (take n (b ∷ bs)) (drop n (b ∷ bs))
+        one true mark some = mark_longest b bs mark other
+        one false mark some = word_longest _ _ (is_word-take _ b bs some (fronts_pass is_word_byte (b ∷ bs))) (front_stops is_word_byte (b ∷ bs))
+
+    by : (c : Bool) → starts_with nat_eq bytes (codes "==") ≡ c → let n = (if c then 2 else short_len bytes) in 0 < n → IsLongest (take n bytes) (drop n bytes)
+    by true two some = let p = in_front_equal bytes two in subst (λ bytes. IsLongest (take 2 bytes) (drop 2 bytes)) (sym p.1) (equals_longest p.0)
+    by false other some = short bytes other some
 
 -- a byte with which the lexer takes nothing begins no token
 begins_none : (b : ℕ) (bs text : List ℕ) → front_len (b ∷ bs) ≡ 0 → is_token (b ∷ text) ≡ true → ⊥
 unfolding front_len is_token
-begins_none b bs text none t = by (is_punctuator (b ∷ [])) (is_word_byte b) refl refl none
+begins_none b bs text none t = by (starts_with nat_eq (b ∷ bs) (codes "==")) (is_punctuator (b ∷ [])) (is_word_byte b) refl refl none
   where
-    by : (mark word : Bool) → is_punctuator (b ∷ []) ≡ mark → is_word_byte b ≡ word → (if mark then 1 else (cond word (1 + prefix_len is_word_byte bs) 0)) ≡ 0 → ⊥
-    by true word m w e = omega arith
-    by false true m w e = omega arith
-    by false false m w e = ⊎_elim (λ all. true≢false (sym (and_parts _ _ all).0 ∙ w)) (marked text m) (or_cases _ _ t)
+    by : (two mark word : Bool) → is_punctuator (b ∷ []) ≡ mark → is_word_byte b ≡ word
+        → (if two then 2 else (if mark then 1 else (cond word (1 + prefix_len is_word_byte bs) 0))) ≡ 0 → ⊥
+    by true mark word m w e = omega arith
+    by false true word m w e = omega arith
+    by false false true m w e = omega arith
+    by false false false m w e = ⊎_elim (λ all. true≢false (sym (and_parts _ _ all).0 ∙ w)) (marked text m) (or_cases _ _ t)
       where
         marked : (text : List ℕ) → is_punctuator (b ∷ []) ≡ false → is_punctuator (b ∷ text) ≡ true → ⊥
         marked [] m mark = true≢false (sym mark ∙ m)
-        marked (c ∷ cs) m mark = false≢true mark
+        marked (c ∷ []) m mark = true≢false (sym (ap (λ b. is_punctuator (b ∷ [])) (two_equal b c mark).0) ∙ m)
+        marked (c ∷ d ∷ cs) m mark = false≢true mark
 
 -- where it takes none, none begins
 pub front_none : (bytes text rest : List ℕ) → front_len bytes ≡ 0 → bytes ≡ text ++ rest → is_token text ≡ true → ⊥

@@ -1,5 +1,5 @@
 -- The tokens of a source, with blanks between them (C99 5.1.1.2, 6.4).
-use Rattle.std.specs.Prelude.{◌≡◌, ◌+◌, ℕ, Bool, true, false, ◌||◌, ◌==◌, nat_eq, if◌then◌else◌, List, [], ◌∷◌, ◌++◌, length, codes}
+use Rattle.std.specs.Prelude.{◌≡◌, ◌+◌, ℕ, Bool, true, false, ◌&&◌, ◌||◌, ◌==◌, nat_eq, if◌then◌else◌, List, [], ◌∷◌, ◌++◌, length, codes}
 use Rattle.std.specs.Int.{is_in_range}
 use Rattle.std.specs.List.{list_any, list_all}
 use Rattle.lk_base.specs.declared.spot.Spot.{Spot}
@@ -18,11 +18,12 @@ abbrev pub is_word : List ℕ → Bool
 is_word [] = false
 is_word (b ∷ bs) = list_all is_word_byte (b ∷ bs)
 
--- C99 6.4.6: those of the form, each of one byte
+-- C99 6.4.6: those of the form, each of one byte but for `==`
 abbrev pub is_punctuator : List ℕ → Bool
 is_punctuator [] = false
-is_punctuator (b ∷ []) = list_any (nat_eq b) (codes ";*(){}=&,")
-is_punctuator (b ∷ c ∷ bs) = false
+is_punctuator (b ∷ []) = list_any (nat_eq b) (codes ";*(){}=&,+-<")
+is_punctuator (b ∷ c ∷ []) = (b == 61) && (c == 61)
+is_punctuator (b ∷ c ∷ d ∷ bs) = false
 
 unfoldable pub is_token : List ℕ → Bool
 is_token text = is_word text || is_punctuator text

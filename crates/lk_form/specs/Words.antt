@@ -10,6 +10,9 @@ abbrev pub spelling : Terminal → List ℕ
 spelling t.Int = codes "int"
 spelling t.Void = codes "void"
 spelling t.Return = codes "return"
+spelling t.If = codes "if"
+spelling t.Else = codes "else"
+spelling t.While = codes "while"
 spelling t.Main = codes "main"
 spelling t.MutexType = codes "pthread_mutex_t"
 spelling t.ThreadType = codes "pthread_t"
@@ -26,6 +29,10 @@ spelling t.CloseBrace = codes "}"
 spelling t.Equals = codes "="
 spelling t.Ampersand = codes "&"
 spelling t.Comma = codes ","
+spelling t.Plus = codes "+"
+spelling t.Minus = codes "-"
+spelling t.Less = codes "<"
+spelling t.EqualTo = codes "=="
 
 -- a letter, a digit or `_`
 abbrev pub is_word_byte : ℕ → Bool

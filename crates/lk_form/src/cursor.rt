@@ -76,6 +76,17 @@ impl<'t, 's> Cursor<'t, 's> {
         true
     }
 
+    /// Whether this word or punctuator stands behind the next token.
+    #[tactic(auto, unfolding(crate::specs::Reading::second_is, crate::specs::Reading::begins, crate::specs::Reading::takes))]
+    pub fn second_is(&self, word: Terminal) -> bool
+        ensures { result ≡ spec.second_is word self.now }
+    {
+        match self.lexemes.get(self.taken + 1) {
+            Some(lexeme) => word.spells(lexeme.text()),
+            None => false,
+        }
+    }
+
     #[tactic(auto, unfolding(crate::specs::Reading::any_token, crate::specs::Reading::takes))]
     /// Takes these words and punctuators.
     pub fn take(&mut self, words: &[Terminal]) -> Result<(), Fault>

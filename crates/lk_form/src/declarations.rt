@@ -1,13 +1,14 @@
 //! The names at file scope so far, and what they name.
-ghost use Rattle.std.specs.Prelude.{◌≡◌, ◌<◌, [], ◌∷◌, ◌++◌, true, false, length, nat_le, IfOk, OnOk, OnErr};
+ghost use Rattle.std.specs.Prelude.{◌≡◌, ◌<◌, ◌+◌, [], ◌∷◌, ◌++◌, true, false, length, nat_le, sum_by, IfOk, OnOk, OnErr, MatchOption};
 ghost use Rattle.lk_form.specs.Reading as spec;
-ghost use Rattle.lk_form.specs.Form.{statement_count};
+ghost use Rattle.lk_form.specs.Form.{count, hides, statement_count};
 ghost use Rattle.lk_form.specs.Reading.{Tells, Leaves};
 
 use crate::fault::Fault;
-use crate::tree::{Function, Program, Statement, Variable, VariableKind};
+use crate::role::Role;
+use crate::tree::{Function, FunctionKind, Program, Statement, Variable, VariableKind};
 use indexmap::IndexSet;
-use lk_base::{Items, Name};
+use lk_base::{Items, Name, Spot};
 use std::alloc::Global;
 use std::marker::Model;
 
@@ -15,7 +16,7 @@ use std::marker::Model;
 const MOST_NAMES: usize = 4000;
 
 /// The most statements of a program.
-const MOST_STATEMENTS: usize = 4000;
+const MOST_STATEMENTS: u32 = 4000;
 
 /// The variables and the functions that were read, with an index of their names. A contract sees it as
 /// the two lists.
@@ -31,9 +32,13 @@ pub struct Declarations {
 impl Model for Declarations {
     ghost use Rattle.std.specs.Prelude.{◌≡◌, ◌≤◌, length};
     ghost use Rattle.lk_form.specs.Grammar.{Scope};
+    ghost use Rattle.std.specs.Coded.{codes};
     ghost use Rattle.lk_form.specs.Reading.{names_of};
+    ghost use Rattle.lk_form.specs.contracts.tree.Statement as statement;
 
     ghost Value = { Scope };
+
+    ghost coded = { Prim.hlevel (codes, statement.the_row.coded) };
 
     ghost view = { λ d. record { variables = d.variables.items; functions = d.functions.items } };
 
@@ -75,15 +80,18 @@ impl Declarations {
         }
     }
 
-    /// The number of the function of this name.
+    /// The number of the function of this name, where it is for this.
     #[tactic(auto, unfolding(crate::specs::Reading::function_in))]
-    pub fn function(&self, text: &[u8]) -> Result<u32, Fault>
-        ensures { Tells (spec.function_in self.now text.now) result }
+    pub fn function(&self, role: Role, text: &[u8]) -> Result<u32, Fault>
+        ensures { Tells (spec.function_in self.now role text.now) result }
     {
         let place = self.place(text)?;
-        match place.checked_sub(self.variables.len()) {
-            Some(number) => Ok(number as u32),
-            None => Err(Fault::Form),
+        let Some(number) = place.checked_sub(self.variables.len()) else {
+            return Err(Fault::Form);
+        };
+        match self.functions.get(number) {
+            Some(function) if function.kind.role() == role => Ok(number as u32),
+            _ => Err(Fault::Form),
         }
     }
 
@@ -117,14 +125,14 @@ impl Declarations {
     {
         self.functions
             .iter()
-            .all(|function| !self.names.contains(&function.parameter))
+            .all(|function| !hides(&self.names, &function.kind))
     }
 
     /// The program of these declarations and the statements of `main`, where its parameters are no names at
     /// file scope and there are at most 4,000 statements.
     #[tactic(auto, unfolding(crate::specs::Reading::finished))]
-    pub fn into_program(self, main: Items<Statement>) -> Result<Program, Fault>
-        ensures { Tells (spec.finished self main) result }
+    pub fn into_program(self, main_spot: Spot, main: Items<Statement>) -> Result<Program, Fault>
+        ensures { Tells (spec.finished self main_spot main) result }
     {
         if !self.parameters_differ() {
             return Err(Fault::Form);
@@ -138,6 +146,7 @@ impl Declarations {
         let program = Program {
             variables: Items::new(variables),
             functions: Items::new(functions),
+            main_spot,
             main,
         };
         if !has_few_statements(&program) {
@@ -147,19 +156,57 @@ impl Declarations {
     }
 }
 
+/// What is left of this many statements behind one, and those in it.
+#[cycle(counting)]
+fn left_after(statement: &Statement, left: u32) -> Option<u32>
+    ensures { MatchOption result (left < count statement.now) (λ rest. rest + count statement.now ≡ left) }
+{
+    let left = left.checked_sub(1)?;
+    match statement {
+        Statement::If {
+            then,
+            otherwise,
+            ..
+        } => left_after_all(otherwise.list(), left_after_all(then.list(), left)?),
+        Statement::While { body, .. } => left_after_all(body.list(), left),
+        _ => Some(left),
+    }
+}
+
+/// What is left of this many statements behind these, and those in them.
+#[cycle(counting)]
+fn left_after_all(statements: &[Statement], left: u32) -> Option<u32>
+    ensures { MatchOption result (left < sum_by count statements.now) (λ rest. rest + sum_by count statements.now ≡ left) }
+{
+    let mut rest = left;
+    for statement in statements {
+        rest = left_after(statement, rest)?;
+    }
+    Some(rest)
+}
+
 /// Whether a program has at most 4,000 statements, the returns apart.
 fn has_few_statements(program: &Program) -> bool
     ensures { result ≡ nat_le (statement_count program.now) 4000 }
 {
     let mut left = MOST_STATEMENTS;
     for function in program.functions.list() {
-        let count = function.body.len();
-        if count > left {
-            return false;
+        match left_after_all(function.body.list(), left) {
+            Some(rest) => left = rest,
+            None => return false,
         }
-        left -= count;
     }
-    program.main.len() <= left
+    left_after_all(program.main.list(), left).is_some()
+}
+
+/// Whether the parameter of a function of this kind is one of the names.
+fn hides(names: &IndexSet<Name>, kind: &FunctionKind) -> bool
+    ensures { result ≡ hides names.now.keys kind.now }
+{
+    match kind {
+        FunctionKind::Thread { parameter } => names.contains(parameter),
+        FunctionKind::Plain => false,
+    }
 }
 
 /// Puts a name behind the others, where it is new and there are fewer than 4,000.

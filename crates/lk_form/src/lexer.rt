@@ -45,13 +45,13 @@ fn after_blank(spot: Spot, byte: u8) -> Spot
     }
 }
 
-/// Whether a byte is a punctuator.
+/// Whether a byte alone is a punctuator.
 fn is_punctuator(byte: u8) -> bool
     ensures { result ≡ spec.is_punctuator (byte ∷ []) }
 {
     matches!(
         byte,
-        b';' | b'*' | b'(' | b')' | b'{' | b'}' | b'=' | b'&' | b','
+        b';' | b'*' | b'(' | b')' | b'{' | b'}' | b'=' | b'&' | b',' | b'+' | b'-' | b'<'
     )
 }
 
@@ -72,6 +72,9 @@ fn token_len(source: &[u8]) -> usize
     ensures value { result ≡ front_len source.now }
     ensures within { result ≤ length source.now }
 {
+    if source.starts_with(b"==") {
+        return 2;
+    }
     if let Some(byte) = source.first()
         && is_punctuator(*byte)
     {

@@ -1,7 +1,7 @@
-//! The reader of the first form: a straight-line subset of C with threads and mutexes.
+//! The reader of the form: a subset of C with threads and mutexes.
 //!
-//! A source of the form declares variables, then thread functions, then `main`. Its statements write
-//! numbers to variables, lock and unlock mutexes, and start threads.
+//! A source of the form declares variables, then functions, then `main`. Its statements write to variables,
+//! lock and unlock mutexes, start threads, call functions, branch and repeat.
 #![tactic(auto)]
 
 ghost use Rattle.std.specs.Prelude.{ℕ, List, ◌≡◌, ◌≤◌, length, IfOk, IfSome, MatchOption};
@@ -10,11 +10,13 @@ ghost use Rattle.lk_form.specs.Form.{IsOfForm, AreResolved};
 
 mod cursor;
 mod declarations;
+mod expressions;
 mod fault;
 mod lexeme;
 mod lexer;
 mod names;
 mod program;
+mod role;
 mod statements;
 mod terminal;
 mod tree;
@@ -27,7 +29,10 @@ use std::alloc::Global;
 #[cfg(test)]
 mod tests;
 
-pub use tree::{Function, Program, Statement, Variable, VariableKind};
+pub use tree::{
+    Expression, Function, FunctionKind, Operand, Operator, Program, Statement, Variable,
+    VariableKind,
+};
 
 /// The program that a source is, or nothing where it is not of the form. The source is the file of the
 /// number `own`, and has at most 1,048,576 bytes.
@@ -53,7 +58,8 @@ pub fn one_program()
     ensures { (own : ℕ) (source : List ℕ) (a b : Program) → IsOfForm own source a → IsOfForm own source b → a ≡ b }
 {}
 
-/// The numbers of a program name variables of the right kinds and functions above.
+/// The numbers of a program name variables of the right kinds, and functions above that are for what is done
+/// with them.
 pub fn numbers_are_resolved()
     ensures { (own : ℕ) (source : List ℕ) (program : Program) → IsOfForm own source program → AreResolved program }
 {}

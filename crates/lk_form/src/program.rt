@@ -7,9 +7,9 @@ use crate::cursor::Cursor;
 use crate::declarations::Declarations;
 use crate::fault::Fault;
 use crate::names::is_name;
-use crate::statements::body;
+use crate::statements::{MOST_BLOCKS, block, body};
 use crate::terminal::Terminal;
-use crate::tree::{Function, Program, Variable, VariableKind};
+use crate::tree::{Function, FunctionKind, Program, Variable, VariableKind};
 use lk_base::{Name, Spot};
 use std::alloc::Global;
 
@@ -59,13 +59,13 @@ fn variable_declaration(alloc: Global, cursor: &mut Cursor<'_, '_>) -> Result<Va
 }
 
 /// Reads the definition of a thread function.
-#[tactic(auto, unfolding(crate::specs::Reading::function_definition))]
-fn function_definition(
+#[tactic(auto, unfolding(crate::specs::Reading::thread_function))]
+fn thread_function(
     alloc: Global,
     declared: &Declarations,
     cursor: &mut Cursor<'_, '_>,
 ) -> Result<Function, Fault>
-    ensures value { Gives (spec.function_definition declared.now cursor.old) result cursor.new }
+    ensures value { Gives (spec.thread_function declared.now cursor.old) result cursor.new }
     ensures shorter { OnOk result (length cursor.new < length cursor.old) }
 {
     cursor.take(&[Terminal::Void, Terminal::Star])?;
@@ -77,9 +77,47 @@ fn function_definition(
     Ok(Function {
         name,
         spot,
-        parameter,
+        kind: FunctionKind::Thread { parameter },
         body,
     })
+}
+
+/// Reads the definition of a function that may be called.
+#[tactic(auto, unfolding(crate::specs::Reading::plain_function))]
+fn plain_function(
+    alloc: Global,
+    declared: &Declarations,
+    cursor: &mut Cursor<'_, '_>,
+) -> Result<Function, Fault>
+    ensures value { Gives (spec.plain_function declared.now cursor.old) result cursor.new }
+    ensures shorter { OnOk result (length cursor.new < length cursor.old) }
+{
+    cursor.take(&[Terminal::Void])?;
+    let (name, spot) = new_name(alloc, cursor)?;
+    cursor.take(&[Terminal::Open, Terminal::Void, Terminal::Close])?;
+    let body = block(alloc, declared, cursor, MOST_BLOCKS + 1)?;
+    Ok(Function {
+        name,
+        spot,
+        kind: FunctionKind::Plain,
+        body,
+    })
+}
+
+/// Reads the definition of a function.
+#[tactic(auto, unfolding(crate::specs::Reading::function_definition))]
+fn function_definition(
+    alloc: Global,
+    declared: &Declarations,
+    cursor: &mut Cursor<'_, '_>,
+) -> Result<Function, Fault>
+    ensures value { Gives (spec.function_definition declared.now cursor.old) result cursor.new }
+    ensures shorter { OnOk result (length cursor.new < length cursor.old) }
+{
+    if cursor.begins(&[Terminal::Void, Terminal::Star]) {
+        return thread_function(alloc, declared, cursor);
+    }
+    plain_function(alloc, declared, cursor)
 }
 
 /// Reads a variable and takes it to the declarations.
@@ -98,7 +136,7 @@ fn one_more_variable(
     declared.add_variable(variable)
 }
 
-/// Reads a thread function and takes it to the declarations.
+/// Reads a function and takes it to the declarations.
 #[tactic(auto, unfolding(crate::specs::Reading::one_more_function))]
 fn one_more_function(
     alloc: Global,
@@ -120,7 +158,7 @@ fn begins_function(cursor: &Cursor<'_, '_>) -> bool
     cursor.begins(&[Terminal::Void]) || cursor.begins(&[Terminal::Int, Terminal::Main])
 }
 
-/// Whether no thread function comes next.
+/// Whether no function but `main` comes next.
 #[tactic(auto, unfolding(crate::specs::Reading::ends_functions))]
 fn ends_functions(cursor: &Cursor<'_, '_>) -> bool
     ensures { result ≡ spec.ends_functions cursor.now }
@@ -143,7 +181,7 @@ fn variables(
     Ok(())
 }
 
-/// Reads the thread functions, which stand before `main`.
+/// Reads the functions that stand before `main`.
 fn functions(
     alloc: Global,
     declared: &mut Declarations,
@@ -157,6 +195,23 @@ fn functions(
     Ok(())
 }
 
+/// Reads the heading of `main`, and gives the place of its name.
+#[tactic(auto, unfolding(crate::specs::Reading::heading))]
+fn heading(cursor: &mut Cursor<'_, '_>) -> Result<Spot, Fault>
+    ensures value { Gives (spec.heading cursor.old) result cursor.new }
+    ensures shorter { OnOk result (length cursor.new < length cursor.old) }
+{
+    cursor.take(&[Terminal::Int])?;
+    let spot = cursor.spot()?;
+    cursor.take(&[
+        Terminal::Main,
+        Terminal::Open,
+        Terminal::Void,
+        Terminal::Close,
+    ])?;
+    Ok(spot)
+}
+
 /// Reads a program to the end of the tokens.
 #[tactic(auto, unfolding(crate::specs::Reading::program))]
 pub fn program(alloc: Global, cursor: &mut Cursor<'_, '_>) -> Result<Program, Fault>
@@ -165,14 +220,8 @@ pub fn program(alloc: Global, cursor: &mut Cursor<'_, '_>) -> Result<Program, Fa
     let mut declared = Declarations::new(alloc);
     variables(alloc, &mut declared, cursor)?;
     functions(alloc, &mut declared, cursor)?;
-    cursor.take(&[
-        Terminal::Int,
-        Terminal::Main,
-        Terminal::Open,
-        Terminal::Void,
-        Terminal::Close,
-    ])?;
+    let spot = heading(cursor)?;
     let main = body(alloc, &declared, cursor)?;
     cursor.end()?;
-    declared.into_program(main)
+    declared.into_program(spot, main)
 }

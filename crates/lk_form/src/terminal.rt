@@ -12,6 +12,12 @@ pub enum Terminal {
     Void,
     /// `return`
     Return,
+    /// `if`
+    If,
+    /// `else`
+    Else,
+    /// `while`
+    While,
     /// `main`
     Main,
     /// `pthread_mutex_t`
@@ -44,6 +50,14 @@ pub enum Terminal {
     Ampersand,
     /// `,`
     Comma,
+    /// `+`
+    Plus,
+    /// `-`
+    Minus,
+    /// `<`
+    Less,
+    /// `==`
+    EqualTo,
 }
 
 impl Terminal {
@@ -55,6 +69,9 @@ impl Terminal {
             Terminal::Int => "int",
             Terminal::Void => "void",
             Terminal::Return => "return",
+            Terminal::If => "if",
+            Terminal::Else => "else",
+            Terminal::While => "while",
             Terminal::Main => "main",
             Terminal::MutexType => "pthread_mutex_t",
             Terminal::ThreadType => "pthread_t",
@@ -71,6 +88,10 @@ impl Terminal {
             Terminal::Equals => "=",
             Terminal::Ampersand => "&",
             Terminal::Comma => ",",
+            Terminal::Plus => "+",
+            Terminal::Minus => "-",
+            Terminal::Less => "<",
+            Terminal::EqualTo => "==",
         }
     }
 
