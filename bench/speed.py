@@ -4,8 +4,9 @@
 usage: bench/speed.py PATH-OF-LSRACE
 
 For each number of statements it prints the seconds of both (the least of five runs), their ratio, the
-peak memory of lsrace, and how the time grew against the row before: first for sources of 50 variables,
-then for sources whose variables grow with their statements. It shows speed and proves nothing.
+peak memory of lsrace, and how the time grew against the row before. The sources are straight lines, then
+functions with branches, loops, reads and calls; each kind first with 50 variables, then with more of them
+the more statements there are. It shows speed and proves nothing.
 """
 import os
 import subprocess
@@ -21,24 +22,31 @@ int pthread_mutex_unlock(pthread_mutex_t *);
 """
 
 
-def source(statements, names, threads=20):
-    """A program of that many statements in thread functions and main, most of them under a mutex."""
+def declarations(names, threads):
+    """That many ints, eight mutexes, and an id for each thread."""
     lines = [f"int x{i};" for i in range(names)]
     lines += [f"pthread_mutex_t m{i};" for i in range(8)]
-    lines += [f"pthread_t t{i};" for i in range(threads)]
+    return lines + [f"pthread_t t{i};" for i in range(threads)]
+
+
+def main_function(threads, statements):
+    """A main that creates the threads and then runs the statements."""
+    creates = [f"  pthread_create(&t{i}, 0, w{i}, 0);" for i in range(threads)]
+    return ["int main(void) {", *creates, *statements, "  return 0;", "}"]
+
+
+def straight(statements, names, threads=20):
+    """That many statements in thread functions and main, most of them writes under a mutex."""
+    lines = declarations(names, threads)
     each = (statements - threads) // (threads + 1)
     for thread in range(threads):
-        lines.append(f"void *w{thread}(void *q{thread}) {{")
-        lines += body(each, names, thread)
-        lines.append("  return 0;\n}")
-    lines.append("int main(void) {")
-    lines += [f"  pthread_create(&t{i}, 0, w{i}, 0);" for i in range(threads)]
-    lines += body(each, names, threads)
-    lines.append("  return 0;\n}")
+        writes = straight_body(each, names, thread)
+        lines += [f"void *w{thread}(void *q{thread}) {{", *writes, "  return 0;", "}"]
+    lines += main_function(threads, straight_body(each, names, threads))
     return "\n".join(lines) + "\n"
 
 
-def body(count, names, seed):
+def straight_body(count, names, seed):
     """That many statements: blocks of a lock, six writes and an unlock, then writes alone."""
     lines = []
     for block in range(count // 8):
@@ -51,22 +59,71 @@ def body(count, names, seed):
     return lines
 
 
+def branching(statements, names, threads=10):
+    """That many statements in 40 functions and main: three layers of ten functions, of which each calls two
+    of the layer below, and ten thread functions, which call two of the last layer. Most statements stand in
+    branches and loops under a mutex."""
+    lines = declarations(names, threads)
+    calls_in_all = 3 * threads * 2 + 1
+    each = (statements - threads - calls_in_all) // (4 * threads + 1)
+    below = None
+    for layer in "abcw":
+        for i in range(threads):
+            calls = [f"  {below}{(i + k) % threads}();" for k in range(2)] if below else []
+            inner = calls + branching_body(each, names, ord(layer) * threads + i)
+            if layer == "w":
+                lines += [f"void *w{i}(void *q{i}) {{", *inner, "  return 0;", "}"]
+            else:
+                lines += [f"void {layer}{i}(void) {{", *inner, "}"]
+        below = layer
+    lines += main_function(threads, ["  c0();", *branching_body(each, names, 0)])
+    return "\n".join(lines) + "\n"
+
+
+def branching_body(count, names, seed):
+    """That many statements: blocks of ten, most of them in a loop under a mutex, then assignments alone."""
+    lines = []
+    for block in range(count // 10):
+        x = [f"x{(seed * 7 + block * 8 + k) % names}" for k in range(8)]
+        mutex = (seed + block) % 8
+        lines += [
+            f"  pthread_mutex_lock(&m{mutex});",
+            f"  while ({x[0]} < 9) {{",
+            f"    {x[0]} = {x[0]} + {x[1]};",
+            f"    if ({x[2]} == 0) {{",
+            f"      {x[3]} = {x[2]};",
+            "    } else {",
+            f"      {x[4]} = 1;",
+            "    }",
+            "  }",
+            f"  {x[5]} = {x[6]} - {x[7]};",
+            f"  pthread_mutex_unlock(&m{mutex});",
+            f"  {x[6]} = 7;",
+            f"  {x[7]} = {x[0]} + 1;",
+        ]
+    lines += [f"  x{(seed + i) % names} = {i};" for i in range(count % 10)]
+    return lines
+
+
 def measured(command, **more):
     """The least seconds of five runs, and the peak memory in MB of the largest."""
     least, peak = None, 0
     for _ in range(5):
         begin = time.perf_counter()
         process = subprocess.Popen(command, stdout=subprocess.DEVNULL, **more)
-        _, _, usage = os.wait4(process.pid, 0)
+        _, status, usage = os.wait4(process.pid, 0)
         seconds = time.perf_counter() - begin
+        if os.waitstatus_to_exitcode(status) not in (0, 1):
+            sys.exit(f"{command[0]} refused a source")
         least = seconds if least is None else min(least, seconds)
         peak = max(peak, usage.ru_maxrss / 1024)
     return least, peak
 
 
-def table(lsrace, names_of):
+def table(lsrace, source, names_of):
     """Prints a row for each number of statements."""
     before = None
+    print(source.__name__)
     print("statements  names    bytes  lsrace s   gcc s  ratio  peak MB  growth")
     with tempfile.TemporaryDirectory() as folder:
         for statements in (250, 500, 1000, 2000, 4000):
@@ -87,8 +144,9 @@ def main():
     if len(sys.argv) != 2:
         sys.exit(__doc__)
     lsrace = os.path.abspath(sys.argv[1])
-    table(lsrace, lambda statements: 50)
-    table(lsrace, lambda statements: max(50, statements * 9 // 10))
+    for source, most_of in ((straight, 9), (branching, 5)):
+        table(lsrace, source, lambda statements: 50)
+        table(lsrace, source, lambda statements: max(50, statements * most_of // 10))
 
 
 if __name__ == "__main__":

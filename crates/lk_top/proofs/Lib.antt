@@ -1,14 +1,3 @@
 pub mod AnswerLemmas
-pub mod Beside
-pub mod Conflicting
-pub mod Guarding
-pub mod Holding
-pub mod Listing
-pub mod Marking
-pub mod Noting
 pub mod OneOutcome
-pub mod Options
-pub mod Program
 pub mod RunLemmas
-pub mod Running
-pub mod StraightLemmas

@@ -1,24 +1,11 @@
 -- Words come to one outcome.
-use Rattle.std.proofs.Common.{ℕ, ◌≡◌, ◌∙◌, List, [], ◌∷◌, refl, sym, ap, subst, arith}
+use Rattle.std.proofs.Common.{ℕ, ◌≡◌, ◌∙◌, List, refl, sym, ap, subst, arith}
 use Rattle.lk_io.specs.Shelf.{Held}
 use Rattle.lk_form.specs.declared.tree.Program.{Program}
 use Rattle.lk_form.specs.Form.{IsOfForm}
-use Rattle.lk_facts.specs.declared.straight.Statement.{Statement}
+use Rattle.lk_facts.proofs.OneAnalysis.{one_analysis}
 use Rattle.lk_facts.specs.declared.verdict.Verdict.{Verdict}
-use Rattle.lk_facts.specs.Straight.{AreVerdicts}
-use Rattle.lk_facts.proofs.OneVerdict.{one_verdict}
 use Rattle.lk_top.specs.Outcome.{AreVerdictsOf, Outcome, Verdicts, Judged, too_long, not_of_form, of_form, ComesTo, no_command, missing, judged}
-
-one_verdicts : (program : List Statement) (main : ℕ) (locations : List ℕ) (vs ws : List Verdict) → AreVerdicts program main locations vs → AreVerdicts program main locations ws → vs ≡ ws
-one_verdicts program main [] [] [] a b = refl
-one_verdicts program main [] [] (w ∷ ws) a b = absurd b
-one_verdicts program main [] (v ∷ vs) ws a b = absurd a
-one_verdicts program main (l ∷ ls) [] ws a b = absurd a
-one_verdicts program main (l ∷ ls) (v ∷ vs) [] a b = absurd b
-one_verdicts program main (l ∷ ls) (v ∷ vs) (w ∷ ws) a b =
-    let first = one_verdict program main v w a.1 b.1 (a.0 ∙ sym b.0) in
-    let others = one_verdicts program main ls vs ws a.2 b.2 in
-    cc
 
 abbrev pub HasOneProgram : Type 0
 HasOneProgram =
@@ -28,7 +15,7 @@ module _ (one_program : HasOneProgram) where
   same_verdicts : (name : List ℕ) (p q : Program) (vs ws : List Verdict) → p ≡ q → AreVerdictsOf p vs → AreVerdictsOf q ws → Verdicts name p vs ≡ Verdicts name q ws
   same_verdicts name p q vs ws e a b =
       let b' = subst (λ r. AreVerdictsOf r ws) (sym e) b in
-      let same = one_verdicts _ _ _ vs ws a b' in
+      let same = one_analysis _ _ _ _ vs ws a b' in
       cc
 
   one_judgement : {name source : List ℕ} {a b : Outcome} → Judged name source a → Judged name source b → a ≡ b

@@ -8,11 +8,10 @@ use Rattle.lk_io.specs.Sink.{Takes}
 use Rattle.lk_form.specs.declared.tree.Program.{Program}
 use Rattle.lk_facts.specs.declared.verdict.Verdict.{Verdict}
 use Rattle.lk_top.specs.Texts.{unwritten_line, refused_line, unread_line}
-use Rattle.lk_top.specs.Report.{report_text}
 use Rattle.lk_top.specs.declared.answer.Answer.TheVariants.{Report, Refusal, Unread}
 use Rattle.lk_top.specs.Words.{command}
 use Rattle.lk_top.specs.Answer.{Answers}
-use Rattle.lk_top.specs.Outcome.{Refused, Verdicts, ComesTo, judged}
+use Rattle.lk_top.specs.Outcome.{Refused, Verdicts, ComesTo, judged, report_of}
 use Rattle.lk_top.proofs.OneOutcome.{HasOneProgram, one_outcome}
 use Rattle.lk_top.specs.Run.{Shelved, Sunk, Got, GotFront, GotNothing, HasRisen, NoneHasRisen, Reports, Refuses, Misses, AlwaysReports, AlwaysRefuses, Line, refused, unread, Fails, Told, Published, is_report, status_of}
 
@@ -39,7 +38,7 @@ told_front err ends (inl (e, got, calm)) = whole_front err unwritten_line got
 told_front err ends (inr (e, rose, front)) = front
 
 -- a report that failed
-pub published_fails : (words : List (List ℕ)) (shelf : Shelved) (out err : Sunk) (wanted ends : Status) (text : List ℕ) → ForSome shelf.files (λ files. (name : List ℕ) × (program : Program) × (verdicts : List Verdict) × ComesTo words files (Verdicts name program verdicts) × (text ≡ report_text name program verdicts)) → Published wanted text out err ends → wanted ≢ status.WriteFault → ends ≡ status.WriteFault → Fails words shelf out err
+pub published_fails : (words : List (List ℕ)) (shelf : Shelved) (out err : Sunk) (wanted ends : Status) (text : List ℕ) → ForSome shelf.files (λ files. (name : List ℕ) × (program : Program) × (verdicts : List Verdict) × ComesTo words files (Verdicts name program verdicts) × (text ≡ report_of name program verdicts)) → Published wanted text out err ends → wanted ≢ status.WriteFault → ends ≡ status.WriteFault → Fails words shelf out err
 published_fails words shelf out err wanted ends text report (inl (e, got, calm, none)) other failed = absurd (other (sym e ∙ failed))
 published_fails words shelf out err wanted ends text report (inr (e, rose, front, told)) other failed = record {
   rose = inl rose;
@@ -76,7 +75,7 @@ module _ (words : List (List ℕ)) (name : List ℕ) (is_command : command words
 
     pub report_fails : ends ≡ status.WriteFault → Fails words shelf out err
     report_fails failed =
-        let told_report : ForSome shelf.files (λ files. (n : List ℕ) × (program : Program) × (verdicts : List Verdict) × ComesTo words files (Verdicts n program verdicts) × (text.items ≡ report_text n program verdicts)) = λ files held.
+        let told_report : ForSome shelf.files (λ files. (n : List ℕ) × (program : Program) × (verdicts : List Verdict) × ComesTo words files (Verdicts n program verdicts) × (text.items ≡ report_of n program verdicts)) = λ files held.
         let (source, file, (program, verdicts, judgement, text_is, status_is)) = answers.2 files held in
         (name, program, verdicts, judged name source _ is_command file judgement, text_is)
         in

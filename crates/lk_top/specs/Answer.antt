@@ -8,14 +8,13 @@ use Rattle.lk_facts.specs.declared.verdict.Verdict.{Verdict}
 use Rattle.lk_top.specs.declared.answer.Answer.{Answer}
 use Rattle.lk_top.specs.declared.answer.Answer.TheVariants.{Report, Refusal as Refuse, Unread}
 use Rattle.lk_top.specs.Texts.{refused_line, unread_line}
-use Rattle.lk_top.specs.Report.{report_text}
-use Rattle.lk_top.specs.Outcome.{Refused, Verdicts, Judged, AreVerdictsOf, refusal_of}
+use Rattle.lk_top.specs.Outcome.{Refused, Verdicts, Judged, AreVerdictsOf, refusal_of, report_of}
 use Rattle.lk_top.specs.Run.{Shelved, HasRisen, IsAsBefore, status_of, is_report}
 
 -- the report of the program's verdicts
 abbrev pub Reported : List ℕ → Program → Answer → Type 0
 Reported name program (Report text status) =
-    (verdicts : List Verdict) × AreVerdictsOf program verdicts × (text.items ≡ report_text name program verdicts) × (status ≡ status_of verdicts)
+    (verdicts : List Verdict) × AreVerdictsOf program verdicts × (text.items ≡ report_of name program verdicts) × (status ≡ status_of verdicts)
 Reported name program (Refuse line) = ⊥
 Reported name program (Unread line) = ⊥
 
@@ -28,7 +27,7 @@ Refuses name code (Unread line) = ⊥
 -- what the source of this name comes to
 abbrev pub Judges : List ℕ → List ℕ → Answer → Type 0
 Judges name source (Report text status) =
-    (program : Program) × (verdicts : List Verdict) × Judged name source (Verdicts name program verdicts) × (text.items ≡ report_text name program verdicts) × (status ≡ status_of verdicts)
+    (program : Program) × (verdicts : List Verdict) × Judged name source (Verdicts name program verdicts) × (text.items ≡ report_of name program verdicts) × (status ≡ status_of verdicts)
 Judges name source (Refuse line) =
     (refusal : Refusal) × Judged name source (Refused name refusal) × (line.items ≡ refused_line name refusal)
 Judges name source (Unread line) = ⊥

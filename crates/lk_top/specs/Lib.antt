@@ -1,14 +1,6 @@
 pub mod Answer
-pub mod Effects
-pub mod Guards
-pub mod Held
 pub mod Outcome
 pub mod Report
-pub mod Roles
 pub mod Run
-pub mod Sharing
-pub mod Straight
-pub mod Tables
 pub mod Texts
-pub mod Threads
 pub mod Words

@@ -7,13 +7,22 @@ use Rattle.lk_io.specs.Shelf.{Held}
 use Rattle.lk_form.specs.declared.tree.Program.{Program}
 use Rattle.lk_form.specs.Form.{IsOfForm}
 use Rattle.lk_facts.specs.declared.verdict.Verdict.{Verdict}
-use Rattle.lk_facts.specs.Straight.{AreVerdicts}
+use Rattle.lk_facts.specs.Analysis as analysis
+use Rattle.lk_facts.specs.Origins.{flow_of}
+use Rattle.lk_lower.specs.Labels.{labels_of, flows_of, linear_of}
+use Rattle.lk_lower.specs.Points.{points_of}
+use Rattle.lk_sets.specs.Ids.{has_id}
+use Rattle.lk_top.specs.Report.{report_text}
+use Rattle.lk_top.specs.Texts.{first_byte}
 use Rattle.lk_top.specs.Words.{command}
-use Rattle.lk_top.specs.Straight.{straight_program, main_of, locations_of, first_byte}
 
 -- the verdicts of the locations of a program
 abbrev pub AreVerdictsOf : Program → List Verdict → Type 0
-AreVerdictsOf program verdicts = AreVerdicts (straight_program program) (main_of program) (locations_of program) verdicts
+AreVerdictsOf program verdicts = analysis.AreVerdictsOf (points_of program) (labels_of program) (flow_of (flows_of program)) (has_id (linear_of program)) verdicts
+
+-- the report of its verdicts
+abbrev pub report_of : List ℕ → Program → List Verdict → List ℕ
+report_of name program verdicts = report_text name (points_of program) (labels_of program) verdicts
 
 -- a refusal at the first byte of the file, without a name
 abbrev pub refusal_of : Code → Refusal

@@ -11,8 +11,8 @@ use Rattle.lk_form.specs.declared.tree.Program.{Program}
 use Rattle.lk_facts.specs.declared.verdict.Verdict.{Verdict}
 use Rattle.lk_top.specs.Words.{command}
 use Rattle.lk_top.specs.Texts.{refused_line, usage_line, unread_line, unwritten_line, no_memory_line}
-use Rattle.lk_top.specs.Report.{report_text, has_suspect}
-use Rattle.lk_top.specs.Outcome.{Refused, Verdicts, ComesTo}
+use Rattle.lk_top.specs.Report.{has_suspect}
+use Rattle.lk_top.specs.Outcome.{Refused, Verdicts, ComesTo, report_of}
 
 -- a count before a call and after it
 pub record Count : Type 0 where
@@ -74,7 +74,7 @@ pub record Reports (words : List (List ℕ)) (files : Held) (out : Sunk) (ends :
   pub verdicts : List Verdict
   pub outcome : ComesTo words files (Verdicts name program verdicts)
   pub status : ends ≡ status_of verdicts
-  pub report : Got out (report_text name program verdicts)
+  pub report : Got out (report_of name program verdicts)
 
 -- The words come to a refusal, and the error output has its line.
 pub record Refuses (words : List (List ℕ)) (files : Held) (err : Sunk) : Type 0 where
@@ -103,7 +103,7 @@ pub data Line (words : List (List ℕ)) (shelf : Shelved) : List ℕ → Type 0 
 abbrev pub GotReportFront : List (List ℕ) → Option Held → Sunk → Type 0
 GotReportFront words files out =
     GotNothing out
-    ⊎ ForSome files (λ files. (name : List ℕ) × (program : Program) × (verdicts : List Verdict) × ComesTo words files (Verdicts name program verdicts) × GotFront out (report_text name program verdicts))
+    ⊎ ForSome files (λ files. (name : List ℕ) × (program : Program) × (verdicts : List Verdict) × ComesTo words files (Verdicts name program verdicts) × GotFront out (report_of name program verdicts))
 
 -- The line of which the error output got a front is that of failed output only where the output's count
 -- rose, and another only where it is as before.

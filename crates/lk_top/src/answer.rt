@@ -6,13 +6,13 @@ ghost use Rattle.lk_top.specs.Outcome.{refusal_of};
 ghost use Rattle.lk_top.specs.Run.{shelved};
 ghost use Rattle.lk_top.specs.Answer.{Reported, Refuses, Judges, Answers};
 
-use crate::report::{FIRST_BYTE, has_suspect, report};
-use crate::straight::{locations_of, main_of, straight_program};
-use crate::texts::{refused_line, unread_line};
-use crate::verdicts::verdicts;
+use crate::report::{has_suspect, report};
+use crate::texts::{FIRST_BYTE, refused_line, unread_line};
 use lk_base::{Code, LONGEST_SOURCES, Name, NameFault, NoMemory, Refusal, Status};
 use lk_form::{Program, read_program};
 use lk_io::{ReadFault, Shelf, read_whole};
+use lk_lower::lower;
+use lk_solve::solve;
 use std::alloc::Global;
 
 /// What a command with a FILE comes to: the text that is to be written.
@@ -45,14 +45,19 @@ fn judge_program(alloc: Global, name: &[u8], program: &Program) -> Result<Answer
     requires { AreResolved program.now }
     ensures { IfOk result (λ answer. Reported name.now program.now answer) }
 {
-    let statements = straight_program(alloc, program)?;
-    let locations = locations_of(alloc, program)?;
-    let verdicts = verdicts(alloc, &statements, main_of(program), &locations)?;
+    let lowered = lower(alloc, program)?;
+    let verdicts = solve(
+        alloc,
+        &lowered.points,
+        &lowered.labels,
+        &lowered.origins,
+        &lowered.linear,
+    )?;
     let status = match has_suspect(&verdicts) {
         true => Status::Suspects,
         false => Status::Clean,
     };
-    let text = report(alloc, name, program, &statements, &verdicts)?;
+    let text = report(alloc, name, &lowered.points, &lowered.labels, &verdicts)?;
     Ok(Answer::Report { text, status })
 }
 

@@ -2,17 +2,9 @@
 #![tactic(auto)]
 
 mod answer;
-mod effects;
-mod held;
-mod races;
 mod report;
-mod roles;
-mod sharing;
-mod straight;
 mod texts;
-mod threads;
 mod top;
-mod verdicts;
 mod words;
 
 pub use top::run;

@@ -1,107 +1,132 @@
 //! The text of the report.
 ghost use Rattle.std.specs.Prelude.{◌≡◌, ◌++◌, flat_map, codes, OnOk, IfOk};
-ghost use Rattle.lk_top.specs.Straight.{straight_program};
-ghost use Rattle.lk_top.specs.Report.{variable_name, variable_spot, function_name, statement_function, statement_spot, names_text, held_text, state_text, access_text, accesses_text, location_text, is_state, count_of, total_text, report_text, has_suspect};
+ghost use Rattle.std.specs.Option.{option_copied};
+ghost use Rattle.lk_top.specs.Report.{root_at, label_name, label_spot, function_name, point_spot, names_text, held_text, state_text, access_word, access_text, accesses_text, location_text, is_state, count_of, total_text, report_text, has_suspect};
 
-use crate::texts::push_place;
+use crate::texts::{FIRST_BYTE, push_place};
 use lk_base::{NoMemory, Spot};
-use lk_facts::{Racing, Statement, Verdict, VerdictState};
-use lk_form::Program;
+use lk_facts::{Label, Labels, Points, Racing, Root, Verdict, VerdictState};
 use std::alloc::Global;
 
-/// The place of the file's first byte.
-pub(crate) const FIRST_BYTE: Spot = Spot {
-    file: 0,
-    line: 1,
-    col: 1,
-};
-
-fn variable_name(program: &Program, number: u32) -> &[u8]
-    ensures { result.now ≡ variable_name program.now number }
+/// The root of a label, where there is one.
+fn root_at<'a>(points: &'a Points, labels: &Labels, label: u32) -> Option<&'a Root>
+    ensures { option_copied result ≡ root_at points.now labels.now label }
 {
-    match program.variables.get(number as usize) {
-        Some(variable) => variable.name.bytes(),
+    if label >= labels.count() {
+        return None;
+    }
+    let root = labels.root(Label(label));
+    if root >= points.roots() {
+        return None;
+    }
+    Some(points.root(root))
+}
+
+/// The name of what a label names, which is empty where there is no such label.
+fn label_name<'a>(points: &'a Points, labels: &Labels, label: u32) -> &'a [u8]
+    ensures { result.now ≡ label_name points.now labels.now label }
+{
+    match root_at(points, labels, label) {
+        Some(root) => root.name.bytes(),
         None => &[],
     }
 }
 
-fn variable_spot(program: &Program, number: u32) -> Spot
-    ensures { result ≡ variable_spot program.now number }
+/// The place of what a label names.
+fn label_spot(points: &Points, labels: &Labels, label: u32) -> Spot
+    ensures { result ≡ label_spot points.now labels.now label }
 {
-    match program.variables.get(number as usize) {
-        Some(variable) => variable.spot,
+    match root_at(points, labels, label) {
+        Some(root) => root.spot,
         None => FIRST_BYTE,
     }
 }
 
-fn function_name(program: &Program, number: u32) -> &[u8]
-    ensures { result.now ≡ function_name program.now number }
+/// The name of the function of a point.
+fn function_name(points: &Points, point: u32) -> &[u8]
+    ensures { result.now ≡ function_name points.now point }
 {
-    match program.functions.get(number as usize) {
-        Some(function) => function.name.bytes(),
-        None => b"main",
+    if point >= points.count() {
+        return &[];
     }
+    let function = points.function(point);
+    if function >= points.functions() {
+        return &[];
+    }
+    points.name(function).bytes()
 }
 
-fn statement_function(statements: &[Statement], number: u32) -> u32
-    ensures { result ≡ statement_function statements.now number }
+fn point_spot(points: &Points, point: u32) -> Spot
+    ensures { result ≡ point_spot points.now point }
 {
-    match statements.get(number as usize) {
-        Some(statement) => statement.function,
-        None => 0,
+    if point >= points.count() {
+        return FIRST_BYTE;
     }
+    points.spot(point)
 }
 
-fn statement_spot(statements: &[Statement], number: u32) -> Spot
-    ensures { result ≡ statement_spot statements.now number }
+/// What the access of a point does.
+fn access_word(points: &Points, point: u32) -> &[u8]
+    ensures { result.now ≡ access_word points.now point }
 {
-    match statements.get(number as usize) {
-        Some(statement) => statement.spot,
-        None => FIRST_BYTE,
+    if point < points.count() && points.action(point).writes() {
+        return b"write";
     }
+    b"read"
 }
 
-/// Appends the names of the variables of these numbers, with `, ` between them.
-fn push_names(out: &mut Vec<u8>, program: &Program, numbers: &[u32]) -> Result<(), NoMemory>
-    ensures { OnOk result (out.new.items ≡ out.old.items ++ names_text program.now numbers.now) }
+/// Appends the names of the lock places of these labels, with `, ` between them.
+fn push_names(
+    out: &mut Vec<u8>,
+    points: &Points,
+    labels: &Labels,
+    locks: &[u32],
+) -> Result<(), NoMemory>
+    ensures { OnOk result (out.new.items ≡ out.old.items ++ names_text points.now labels.now locks.now) }
 {
-    let Some((first, others)) = numbers.split_first() else {
+    let Some((first, others)) = locks.split_first() else {
         return Ok(());
     };
-    out.extend_from_slice(variable_name(program, *first))?;
-    for number in others {
+    out.extend_from_slice(label_name(points, labels, *first))?;
+    for lock in others {
         out.extend_from_slice(b", ")?;
-        out.extend_from_slice(variable_name(program, *number))?;
+        out.extend_from_slice(label_name(points, labels, *lock))?;
     }
     Ok(())
 }
 
 /// Appends the locks that are held, or `nothing`.
-fn push_held(out: &mut Vec<u8>, program: &Program, locks: &[u32]) -> Result<(), NoMemory>
-    ensures { OnOk result (out.new.items ≡ out.old.items ++ held_text program.now locks.now) }
+fn push_held(
+    out: &mut Vec<u8>,
+    points: &Points,
+    labels: &Labels,
+    locks: &[u32],
+) -> Result<(), NoMemory>
+    ensures { OnOk result (out.new.items ≡ out.old.items ++ held_text points.now labels.now locks.now) }
 {
     if locks.is_empty() {
         out.extend_from_slice(b"nothing")?;
         return Ok(());
     }
-    push_names(out, program, locks)?;
+    push_names(out, points, labels, locks)?;
     Ok(())
 }
 
 fn push_state(
     out: &mut Vec<u8>,
-    program: &Program,
+    points: &Points,
+    labels: &Labels,
     state: VerdictState,
     locks: &[u32],
 ) -> Result<(), NoMemory>
-    ensures { OnOk result (out.new.items ≡ out.old.items ++ state_text program.now state locks.now) }
+    ensures { OnOk result (out.new.items ≡ out.old.items ++ state_text points.now labels.now state locks.now) }
 {
     match state {
         VerdictState::Unshared => out.extend_from_slice(b"unshared")?,
         VerdictState::Suspect => out.extend_from_slice(b"suspect")?,
         VerdictState::Guarded => {
             out.extend_from_slice(b"guarded by ")?;
-            push_names(out, program, locks)?;
+            push_names(out, points, labels, locks)?;
         }
     }
     Ok(())
@@ -112,21 +137,20 @@ fn push_access(
     alloc: Global,
     out: &mut Vec<u8>,
     file: &[u8],
-    program: &Program,
-    statements: &[Statement],
+    points: &Points,
+    labels: &Labels,
     racing: &Racing,
 ) -> Result<(), NoMemory>
-    requires { statements.now ≡ straight_program program.now }
-    ensures { OnOk result (out.new.items ≡ out.old.items ++ access_text file.now program.now racing.now) }
+    ensures { OnOk result (out.new.items ≡ out.old.items ++ access_text file.now points.now labels.now racing.now) }
 {
-    out.extend_from_slice(b"  write ")?;
-    let spot = statement_spot(statements, racing.access);
-    push_place(alloc, out, file, spot)?;
+    out.extend_from_slice(b"  ")?;
+    out.extend_from_slice(access_word(points, racing.access))?;
+    out.push(b' ')?;
+    push_place(alloc, out, file, point_spot(points, racing.access))?;
     out.extend_from_slice(b" in ")?;
-    let function = statement_function(statements, racing.access);
-    out.extend_from_slice(function_name(program, function))?;
+    out.extend_from_slice(function_name(points, racing.access))?;
     out.extend_from_slice(b" holding ")?;
-    push_held(out, program, racing.locks.ids())?;
+    push_held(out, points, labels, racing.locks.ids())?;
     out.push(b'\n')?;
     Ok(())
 }
@@ -136,39 +160,16 @@ fn push_accesses(
     alloc: Global,
     out: &mut Vec<u8>,
     file: &[u8],
-    program: &Program,
-    statements: &[Statement],
+    points: &Points,
+    labels: &Labels,
     accesses: &[Racing],
 ) -> Result<(), NoMemory>
-    requires { statements.now ≡ straight_program program.now }
-    ensures { OnOk result (out.new.items ≡ out.old.items ++ flat_map (access_text file.now program.now) accesses.now) }
+    ensures { OnOk result (out.new.items ≡ out.old.items ++ flat_map (access_text file.now points.now labels.now) accesses.now) }
 {
     for racing in accesses {
-        push_access(alloc, out, file, program, statements, racing)?;
+        push_access(alloc, out, file, points, labels, racing)?;
     }
     Ok(())
-}
-
-/// Appends the lines of a location.
-fn push_location(
-    alloc: Global,
-    out: &mut Vec<u8>,
-    file: &[u8],
-    program: &Program,
-    statements: &[Statement],
-    verdict: &Verdict,
-) -> Result<(), NoMemory>
-    requires { statements.now ≡ straight_program program.now }
-    ensures { OnOk result (out.new.items ≡ out.old.items ++ location_text file.now program.now verdict.now) }
-{
-    out.extend_from_slice(variable_name(program, verdict.location))?;
-    out.push(b' ')?;
-    let spot = variable_spot(program, verdict.location);
-    push_place(alloc, out, file, spot)?;
-    out.push(b' ')?;
-    push_state(out, program, verdict.state, verdict.locks.ids())?;
-    out.push(b'\n')?;
-    push_racing(alloc, out, file, program, statements, verdict)
 }
 
 /// Appends the lines of the racing accesses of a suspect location.
@@ -176,27 +177,40 @@ fn push_racing(
     alloc: Global,
     out: &mut Vec<u8>,
     file: &[u8],
-    program: &Program,
-    statements: &[Statement],
+    points: &Points,
+    labels: &Labels,
     verdict: &Verdict,
 ) -> Result<(), NoMemory>
-    requires { statements.now ≡ straight_program program.now }
     ensures { OnOk result (out.new.items
-        ≡ out.old.items ++ accesses_text file.now program.now verdict.now.state verdict.now.accesses) }
+        ≡ out.old.items ++ accesses_text file.now points.now labels.now verdict.now.state verdict.now.accesses) }
 {
     match verdict.state {
         VerdictState::Suspect => {
-            push_accesses(
-                alloc,
-                out,
-                file,
-                program,
-                statements,
-                verdict.accesses.list(),
-            )
+            push_accesses(alloc, out, file, points, labels, verdict.accesses.list())
         }
         VerdictState::Guarded | VerdictState::Unshared => Ok(()),
     }
+}
+
+/// Appends the lines of a location.
+fn push_location(
+    alloc: Global,
+    out: &mut Vec<u8>,
+    file: &[u8],
+    points: &Points,
+    labels: &Labels,
+    verdict: &Verdict,
+) -> Result<(), NoMemory>
+    ensures { OnOk result (out.new.items ≡ out.old.items ++ location_text file.now points.now labels.now verdict.now) }
+{
+    out.extend_from_slice(label_name(points, labels, verdict.location))?;
+    out.push(b' ')?;
+    let spot = label_spot(points, labels, verdict.location);
+    push_place(alloc, out, file, spot)?;
+    out.push(b' ')?;
+    push_state(out, points, labels, verdict.state, verdict.locks.ids())?;
+    out.push(b'\n')?;
+    push_racing(alloc, out, file, points, labels, verdict)
 }
 
 /// Appends the line of totals.
@@ -236,20 +250,19 @@ pub(crate) fn has_suspect(verdicts: &[Verdict]) -> bool
         .any(|v| is_state(VerdictState::Suspect, v.state))
 }
 
-/// The report of a program, whose statements are those of all its functions.
+/// The report of verdicts on a program of these points and labels.
 pub(crate) fn report(
     alloc: Global,
     file: &[u8],
-    program: &Program,
-    statements: &[Statement],
+    points: &Points,
+    labels: &Labels,
     verdicts: &[Verdict],
 ) -> Result<Vec<u8>, NoMemory>
-    requires { statements.now ≡ straight_program program.now }
-    ensures { IfOk result (λ text. text.items ≡ report_text file.now program.now verdicts.now) }
+    ensures { IfOk result (λ text. text.items ≡ report_text file.now points.now labels.now verdicts.now) }
 {
     let mut text = Vec::new(alloc);
     for verdict in verdicts {
-        push_location(alloc, &mut text, file, program, statements, verdict)?;
+        push_location(alloc, &mut text, file, points, labels, verdict)?;
     }
     push_total(alloc, &mut text, verdicts)?;
     Ok(text)

@@ -1,4 +1,7 @@
+mod programs;
+
 use crate::run;
+use crate::tests::programs::CASES;
 use lk_base::{Boxed, Items, Status};
 use lk_io::{MemShelf, MemSink};
 use std::alloc::Global;
@@ -10,6 +13,12 @@ const FIRST: &str =
 
 const FIRST_REPORT: &str =
     "n first.c:1:5 guarded by m\nk first.c:2:5 suspect\n  write first.c:9:3 in w holding nothing\n  write first.c:17:3 in main holding nothing\nt first.c:4:11 unshared\ntotal 3, guarded 1, unshared 1, suspect 1\n";
+
+const BRANCH_LOCK: &str =
+    "int n;\npthread_mutex_t m;\npthread_t t;\nvoid *w(void *q) {\n  pthread_mutex_lock(&m);\n  n = n + 1;\n  pthread_mutex_unlock(&m);\n  return 0;\n}\nvoid start(void) {\n  pthread_create(&t, 0, w, 0);\n}\nint main(void) {\n  start();\n  if (n == 0) {\n    pthread_mutex_lock(&m);\n  }\n  n = 2;\n  return 0;\n}\n";
+
+const BRANCH_LOCK_REPORT: &str =
+    "n r.c:1:5 suspect\n  write r.c:6:3 in w holding m\n  read r.c:6:7 in w holding m\n  read r.c:15:7 in main holding nothing\n  write r.c:18:3 in main holding nothing\nt r.c:3:11 unshared\ntotal 2, guarded 0, unshared 1, suspect 1\n";
 
 const USAGE: &str = "usage: lsrace check [--externs FILE] FILE...\n";
 
@@ -54,6 +63,22 @@ fn the_first_program_has_its_report(rt: HostRuntime) -> Result<(), Fail> {
 }
 
 #[test]
+fn a_lock_on_a_branch_is_not_held_behind_it(rt: HostRuntime) -> Result<(), Fail> {
+    let ran = run_on(rt.alloc(), "r.c", BRANCH_LOCK)?;
+    assert_ran(&rt, &ran, Status::Suspects, BRANCH_LOCK_REPORT, "");
+    Ok(())
+}
+
+#[test]
+fn least_programs_have_their_reports(rt: HostRuntime) -> Result<(), Fail> {
+    for case in &CASES {
+        let ran = run_on(rt.alloc(), "r.c", case.source)?;
+        assert_ran(&rt, &ran, case.status, case.report, "");
+    }
+    Ok(())
+}
+
+#[test]
 fn words_that_are_no_command_get_the_usage_line(rt: HostRuntime) -> Result<(), Fail> {
     let alloc = rt.alloc();
     let long = "x".repeat(alloc, 256)?;
@@ -93,10 +118,39 @@ fn what_is_not_of_the_form_is_refused_at_its_first_byte(rt: HostRuntime) -> Resu
         "",
         "\0\0\0",
         "int main(void) { return 0; } // end",
+        "int main(void) { else { } return 0; }",
+        "int n; int main(void) { if (n) n = 1; return 0; }",
+        "int n; int main(void) { n = n + n + n; return 0; }",
+        "int n; pthread_mutex_t m; int main(void) { n = m; return 0; }",
+        "void f(void) { f(); } int main(void) { return 0; }",
+        "void f(void) { return; } int main(void) { return 0; }",
+        "void *w(void *q) { return 0; } int main(void) { w(); return 0; }",
+        "pthread_t t; void f(void) { } int main(void) { pthread_create(&t, 0, f, 0); return 0; }",
     ] {
         let ran = run_on(rt.alloc(), "r.c", text)?;
         assert_ran(&rt, &ran, Status::Refused, "", "r.c:1:1: refused 19 Form\n");
     }
+    Ok(())
+}
+
+/// A program of so many loops inside one another.
+fn deep_program(alloc: Global, depth: usize) -> Result<String, Fail> {
+    let mut text = String::from_str(alloc, "int main(void) { ")?;
+    text.push_str("while (1) { ".repeat(alloc, depth)?.as_str())?;
+    text.push_str("} ".repeat(alloc, depth)?.as_str())?;
+    text.push_str("return 0; }")?;
+    Ok(text)
+}
+
+#[test]
+fn at_most_fifty_blocks_stand_inside_one_another(rt: HostRuntime) -> Result<(), Fail> {
+    let text = deep_program(rt.alloc(), 50)?;
+    let ran = run_on(rt.alloc(), "r.c", text.as_str())?;
+    let report = "total 0, guarded 0, unshared 0, suspect 0\n";
+    assert_ran(&rt, &ran, Status::Clean, report, "");
+    let text = deep_program(rt.alloc(), 51)?;
+    let ran = run_on(rt.alloc(), "r.c", text.as_str())?;
+    assert_ran(&rt, &ran, Status::Refused, "", "r.c:1:1: refused 19 Form\n");
     Ok(())
 }
 

@@ -4,4 +4,4 @@ use Rattle.lk_top.proofs.report.report.Given as goal
 
 -- the locations so far are written
 abbrev pub invariant-loop-verdict : goal.invariant-loop-verdict
-invariant-loop-verdict l = l.text.items ≡ flat_map (location_text l.file l.program) (take l.verdict-index l.verdicts)
+invariant-loop-verdict l = l.text.items ≡ flat_map (location_text l.file l.points l.labels) (take l.verdict-index l.verdicts)
