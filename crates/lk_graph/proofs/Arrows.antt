@@ -73,23 +73,23 @@ arrow_at steps program point p q =
           (contained_at (arrow_of point) ids q ((step_is steps program point q).1 (subst (λ x. IsStep steps program x q) both.0 both.1))),
     )
 
--- the arrows from one more point
-pub arrows_more : (steps : Steps) (program : Program) (old new : List Arrow) (end point : ℕ) → end ≡ point + 1 → new ≡ old ++ arrows_at steps program point → ((p q : ℕ) → IsArrow old p q ↔ ((end ≤ p) × IsStep steps program p q)) → (p q : ℕ) → IsArrow new p q ↔ ((point ≤ p) × IsStep steps program p q)
-arrows_more steps program old new end point next is before p q =
+-- arrows of steps, with those from one more point
+pub arrows_sound : (steps : Steps) (program : Program) (old new : List Arrow) (point : ℕ) → new ≡ old ++ arrows_at steps program point → ((p q : ℕ) → IsArrow old p q → IsStep steps program p q) → (p q : ℕ) → IsArrow new p q → IsStep steps program p q
+arrows_sound steps program old new point is before p q there =
+    elim (Contains-append_cases old (arrows_at steps program point) (arrow_of p q) (subst (λ arrows. IsArrow arrows p q) is there)) [
+      | inl earlier ↦ before p q earlier
+      | inr now ↦ ((arrow_at steps program point p q).0 now).1
+    ]
+
+-- among them are all from this point on
+pub arrows_more : (steps : Steps) (program : Program) (old new : List Arrow) (end point : ℕ) → end ≡ point + 1 → new ≡ old ++ arrows_at steps program point → ((p q : ℕ) → end ≤ p → IsStep steps program p q → IsArrow old p q) → (p q : ℕ) → point ≤ p → IsStep steps program p q → IsArrow new p q
+arrows_more steps program old new end point next is before p q from step =
     let more = arrows_at steps program point in
-    let here = arrow_at steps program point p q in (
-      λ there.
-          elim (Contains-append_cases old more (arrow_of p q) (subst (λ arrows. IsArrow arrows p q) is there)) [
-            | inl earlier ↦ let was = (before p q).0 earlier in (omega (arith, was.0), was.1)
-            | inr now ↦ let is' = here.0 now in (omega (arith, is'.0), is'.1)
-          ],
-      λ both.
-          subst (λ arrows. IsArrow arrows p q) (sym is)
-          (elim (cases_eq p point) [
-            | inl same ↦ Contains-append_right old more (arrow_of p q) (here.1 (same, both.1))
-            | inr other ↦ Contains-append_left old more (arrow_of p q) ((before p q).1 (omega arith, both.1))
-          ]),
-    )
+    subst (λ arrows. IsArrow arrows p q) (sym is)
+    (elim (cases_eq p point) [
+      | inl same ↦ Contains-append_right old more (arrow_of p q) ((arrow_at steps program point p q).1 (same, step))
+      | inr other ↦ Contains-append_left old more (arrow_of p q) (before p q (omega arith) step)
+    ])
 
 -- rows with one more arrow
 pub put_more : (arrows : List Arrow) (i : ℕ) (d : Arrow) (old new : Rows) → i < length arrows → ((x y : ℕ) → has new x y ≡ (has old x y || (eqb x (get_or arrows i d).into && eqb y (get_or arrows i d).from))) → ((a b : ℕ) → (has old a b ≡ true) ↔ IsArrow (take i arrows) a b) → (a b : ℕ) → (has new a b ≡ true) ↔ IsArrow (take (i + 1) arrows) a b

@@ -3,6 +3,7 @@ ghost use Rattle.std.specs.Prelude.{◌≡◌, ◌<◌, ◌++◌, ◌↔◌, ℕ
 ghost use Rattle.lk_sets.specs.Spread.{IsWithin};
 ghost use Rattle.lk_graph.specs.Steps.{counts, IsStep, arrows_at, arrow_of};
 
+use crate::order::in_order;
 use lk_base::NoMemory;
 use lk_facts::Points;
 use lk_sets::Arrow;
@@ -50,13 +51,25 @@ impl Steps {
         Ok(())
     }
 
-    /// An arrow for each step, from the last point to the first. In this order a straight line of code has its
-    /// rows passed on in one round.
+    /// Arrows of steps, from the last of the points in their order to the first.
+    fn arrows_in_order(self, alloc: Global, points: &Points) -> Result<Vec<Arrow>, NoMemory>
+        ensures { IfOk result (λ arrows. (p q : ℕ) → Contains arrows.items (arrow_of p q) → IsStep self points.now p q) }
+    {
+        let order = in_order(alloc, points)?;
+        let mut arrows = Vec::new(alloc);
+        for index in (0..order.len()).rev() {
+            self.push_arrows(points, order[index], &mut arrows)?;
+        }
+        Ok(arrows)
+    }
+
+    /// An arrow for each step, and before these arrows in an order in which a straight line of code has its rows passed on
+    /// in one round.
     pub(crate) fn arrows(self, alloc: Global, points: &Points) -> Result<Vec<Arrow>, NoMemory>
         ensures within { IfOk result (λ arrows. All (IsWithin (length points.now.points)) arrows.items) }
         ensures steps { IfOk result (λ arrows. (p q : ℕ) → Contains arrows.items (arrow_of p q) ↔ IsStep self points.now p q) }
     {
-        let mut arrows = Vec::new(alloc);
+        let mut arrows = self.arrows_in_order(alloc, points)?;
         for point in (0..points.count()).rev() {
             self.push_arrows(points, point, &mut arrows)?;
         }

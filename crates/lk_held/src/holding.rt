@@ -1,5 +1,5 @@
 //! Which locks are held at each point.
-ghost use Rattle.std.specs.Prelude.{◌≡◌, ◌<◌, ◌↔◌, ℕ, true, Some, length, map, All, IfOk};
+ghost use Rattle.std.specs.Prelude.{◌≡◌, ◌<◌, ◌↔◌, ℕ, true, Some, length, map, All, IfOk, ⊤};
 ghost use Rattle.std.specs.List.{range_with_len};
 ghost use Rattle.std.specs.List.Sorted.{IsStrictlyIncreasing};
 ghost use Rattle.lk_facts.specs.Origins.{flow_of};
@@ -11,9 +11,10 @@ ghost use Rattle.lk_held.specs.States.{weight};
 ghost use Rattle.lk_sets.specs.Ids.{has_id};
 
 use crate::facts::Facts;
-use lk_rise::empty_set;
 use crate::states::States;
 use lk_base::NoMemory;
+use lk_graph::in_order;
+use lk_rise::empty_set;
 use lk_sets::IdSet;
 use std::alloc::Global;
 
@@ -81,8 +82,30 @@ impl Facts<'_> {
         self.pass(alloc, point, states, released)
     }
 
-    /// Lets each live point pass on what is held once it has run, from the first to the last. In this order a straight
-    /// line of code is done in one round.
+    /// Lets points pass on what is held once they have run, in this order, where they are live.
+    fn pass_in_order(
+        &self,
+        alloc: Global,
+        order: &[u32],
+        states: &mut States,
+        released: &[IdSet],
+    ) -> Result<bool, NoMemory>
+        requires order { All (λ p. p < length self.now.points.now.points) order.now }
+        requires states { AreStates self.now.points.now self.now.labels.now states.old }
+        requires released { AreReleased self.now.points.now self.now.labels.now (flow_of self.now.origins.now) released.now }
+        ensures { IfOk result (Progress weight
+            (Loses self.now.points.now self.now.labels.now (flow_of self.now.origins.now))
+            (λ states. ⊤)
+            states.old states.new) }
+    {
+        let mut changed = false;
+        for point in order {
+            changed |= self.pass_live(alloc, *point, states, released)?;
+        }
+        Ok(changed)
+    }
+
+    /// Lets each live point pass on what is held once it has run.
     fn pass_each(
         &self,
         alloc: Global,
@@ -101,6 +124,28 @@ impl Facts<'_> {
             changed |= self.pass_live(alloc, point, states, released)?;
         }
         Ok(changed)
+    }
+
+    /// Lets the points of the order, and then each point, pass on what is held once they have run. In an order in which
+    /// control comes to the points a straight line of code is done in one round.
+    fn round(
+        &self,
+        alloc: Global,
+        order: &[u32],
+        states: &mut States,
+        released: &[IdSet],
+    ) -> Result<bool, NoMemory>
+        requires order { All (λ p. p < length self.now.points.now.points) order.now }
+        requires states { AreStates self.now.points.now self.now.labels.now states.old }
+        requires released { AreReleased self.now.points.now self.now.labels.now (flow_of self.now.origins.now) released.now }
+        ensures { IfOk result (Progress weight
+            (Loses self.now.points.now self.now.labels.now (flow_of self.now.origins.now))
+            (λ states. (p : ℕ) → p < length self.now.points.now.points → HasPassed self.now.points.now self.now.labels.now (flow_of self.now.origins.now) p states)
+            states.old states.new) }
+    {
+        let first = self.pass_in_order(alloc, order, states, released)?;
+        let others = self.pass_each(alloc, states, released)?;
+        Ok(first | others)
     }
 
     /// The points at which functions begin.
@@ -159,8 +204,9 @@ impl Facts<'_> {
         requires { AreReleased self.now.points.now self.now.labels.now (flow_of self.now.origins.now) released.now }
         ensures { IfOk result (AreHeld self.now.points.now self.now.labels.now (flow_of self.now.origins.now)) }
     {
+        let order = in_order(alloc, self.points)?;
         let mut states = self.first_states(alloc)?;
-        while self.pass_each(alloc, &mut states, released)? {}
+        while self.round(alloc, &order, &mut states, released)? {}
         Ok(states)
     }
 }
