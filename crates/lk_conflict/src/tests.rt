@@ -1,4 +1,5 @@
 ghost use Rattle.std.specs.Prelude.{◌≡◌, ◌<◌, length, IfOk, OnOk};
+ghost use Rattle.lk_conflict.specs.Places.{AreLocksBelow};
 ghost use Rattle.lk_rise.specs.Correlations.{AreInRange};
 
 use crate::{conflicts, verdicts};
@@ -190,8 +191,11 @@ fn push_access(
     requires { AreInRange points.now labels.now (length labels.now.entries) base.old.items }
     ensures { OnOk result (AreInRange points.now labels.now (length labels.now.entries) base.new.items) }
 {
-    assert!(rt; point < points.count() && points.live(point));
-    assert!(rt; (point as usize) < held.points() && held.labels() == labels.count());
+    assert!(rt; point < points.count());
+    assert!(rt; (point as usize) < held.points());
+    assert_eq!(rt; held.labels(), labels.count());
+    let function = points.function(point);
+    assert!(rt; function < points.functions());
     let Some(operand) = points.action(point).accessed_through() else {
         return Ok(());
     };
@@ -200,7 +204,7 @@ fn push_access(
     };
     let locks = IdSet::from_list(alloc, held.at(point))?;
     let item = Item {
-        function: points.function(point),
+        function,
         child: false,
         subject: subject.0,
         access: point,
@@ -255,6 +259,27 @@ fn order(
     Ok(after)
 }
 
+/// The racing items of functions.
+fn races(
+    rt: &impl Abort,
+    alloc: Global,
+    points: &Points,
+    labels: &Labels,
+    origins: &Origins,
+    held: &Held,
+    after: &BitRows,
+) -> Result<Correlations, Fail>
+    ensures { IfOk result (AreLocksBelow origins.now.all.size) }
+{
+    let items = items(rt, alloc, points, labels, origins, held)?;
+    assert_eq!(rt; origins.labels(), labels.count());
+    assert_eq!(rt; held.labels(), labels.count());
+    assert!(rt; held.points() == points.count() as usize);
+    assert_eq!(rt; after.size(), points.count());
+    let races = conflicts(alloc, points, labels, origins, held, &items, after)?;
+    Ok(races)
+}
+
 /// The verdict of the one location, for these functions, points after one another, and linear lock places.
 fn verdict(
     rt: &impl Abort,
@@ -268,18 +293,13 @@ fn verdict(
     let origins = origins(rt, alloc)?;
     let held = held(rt, alloc, functions)?;
     let after = order(rt, alloc, points.count(), after)?;
-    let items = items(rt, alloc, &points, &labels, &origins, &held)?;
-    assert_eq!(rt; origins.labels(), labels.count());
-    assert_eq!(rt; held.labels(), labels.count());
-    assert!(rt; held.points() == points.count() as usize && after.size() == points.count());
-    let races = conflicts(alloc, &points, &labels, &origins, &held, &items, &after)?;
+    let races = races(rt, alloc, &points, &labels, &origins, &held, &after)?;
     let linear = IdSet::from_list(alloc, linear)?;
     let mut found = verdicts(alloc, &points, &origins, &races, &linear)?;
-    assert!(rt; found.len() == 1);
-    match found.pop() {
-        Some(verdict) => Ok(verdict),
-        None => unreachable!(),
-    }
+    let Some(verdict) = found.pop() else {
+        panic!(rt; "no verdict");
+    };
+    Ok(verdict)
 }
 
 /// That the location is unshared.
