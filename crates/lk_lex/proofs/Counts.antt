@@ -65,3 +65,12 @@ none_holds value (kind ∷ kinds) great = rw (no, none_holds value kinds great) 
 pub kind_of-none : (base : Base) (of : Suffix) (value : ℕ) → ¬ (value < 2 ^ 64) → kind_of base of value ≡ None
 unfolding kind_of
 kind_of-none base of value great = none_holds value (kinds of.unsigned of.length (is_decimal base)) great
+
+pub past_small : (value : ℕ) → 2147483647 < value → nat_le value 2147483647 ≡ false
+past_small value past = grind (arith, nat_tests)
+
+pub is_small : (value : ℕ) → value ≤ 2147483647 → nat_le value 2147483647 ≡ true
+is_small value small = grind (arith, nat_tests)
+
+pub not_small : (value : ℕ) → ¬ (value < 2 ^ 64) → nat_le value 2147483647 ≡ false
+not_small value great = let past : 2147483647 < value = omega arith in past_small value past

@@ -1,4 +1,9 @@
 pub mod Bytes
+pub mod Characters
+pub mod Front
+pub mod Lengths
+pub mod Marks
 pub mod Numbers
 pub mod Punctuators
+pub mod Tokens
 pub mod Words

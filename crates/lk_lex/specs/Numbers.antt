@@ -44,7 +44,7 @@ value_from base value digits = fold (λ v d. v * radix base + digit_value d) val
 unfoldable pub value_of : Base → List ℕ → ℕ
 value_of base digits = value_from base 0 digits
 
-abbrev is_one_of : List ℕ → List (List ℕ) → Bool
+abbrev pub is_one_of : List ℕ → List (List ℕ) → Bool
 is_one_of text texts = list_any (bytes_eq text) texts
 
 abbrev pub with_suffix : Bool → Length → Option Suffix

@@ -30,7 +30,7 @@ impl Base {
     }
 
     /// Whether a byte is a digit of the base.
-    fn has_digit(self, byte: u8) -> bool
+    pub fn has_digit(self, byte: u8) -> bool
         ensures { result ≡ is_digit_of self byte }
     {
         match self {

@@ -3,10 +3,16 @@
 
 mod base;
 mod bytes;
+mod front;
 mod keyword;
+mod mark;
 mod number;
+mod place;
 mod punct;
+mod quoted;
+mod token;
 mod unsupported;
 
 pub use keyword::Keyword;
 pub use punct::Punct;
+pub use token::{Token, TokenKind};
