@@ -1,3 +1,5 @@
 mod Counts
 mod Firsts
+mod Fronts
 mod Quoting
+mod Splitting

@@ -11,7 +11,7 @@ use Rattle.lk_lex.proofs.Firsts.{not_34, is_34}
 abbrev pub more : ℕ → Option ℕ → Option ℕ
 more k found = option_map (λ n. k + n) found
 
-more-zero : (found : Option ℕ) → found ≡ more 0 found
+pub more-zero : (found : Option ℕ) → found ≡ more 0 found
 more-zero None = refl
 more-zero (Some n) = ap Some (omega arith)
 

@@ -43,10 +43,13 @@ character_front bytes = option_map_or (λ first. f.Token (first.len + 2) (k.Char
 unfoldable pub text_front : List ℕ → Front
 text_front bytes = option_map_or (λ n. f.Token (n + 1) k.Text) (quoted_len q.Text 0 bytes) f.Broken
 
+abbrev pub closes : ℕ → ℕ → Bool
+closes before c = before == 42 && (c == 47)
+
 -- how many bytes there are up to the first `*/` and with it, by the byte before them
 unfoldable pub comment_len : ℕ → List ℕ → Option ℕ
 comment_len before [] = None
-comment_len before (c ∷ cs) = if before == 42 && (c == 47) then Some 1 else option_map suc (comment_len c cs)
+comment_len before (c ∷ cs) = if closes before c then Some 1 else option_map suc (comment_len c cs)
 
 -- a comment, by what stands behind its `/*` (C99 6.4.9)
 unfoldable pub comment_front : List ℕ → Front

@@ -1,9 +1,15 @@
 -- Bounds on lengths, which private contracts alone cite.
-use Rattle.std.specs.Prelude.{ℕ, ◌+◌, ◌<◌, ◌≤◌, Option, Some, None}
+use Rattle.std.specs.Prelude.{◌≡◌, ℕ, ◌+◌, ◌<◌, ◌≤◌, List, [], ◌++◌, Option, Some, None}
 use Rattle.lk_lex.specs.declared.front.Front.{Front}
 use Rattle.lk_lex.specs.declared.front.Front.TheVariants as f
 use Rattle.lk_lex.specs.declared.mark.Directive.{Directive}
 use Rattle.lk_lex.specs.declared.mark.Directive.TheVariants as d
+use Rattle.lk_base.specs.declared.code.Code.{Code}
+use Rattle.lk_base.specs.declared.spot.Spot.{Spot}
+use Rattle.lk_base.specs.declared.refusal.Refusal.{Refusal}
+use Rattle.lk_lex.specs.declared.fault.LexFault.{LexFault}
+use Rattle.lk_lex.specs.declared.fault.LexFault.TheVariants as e
+use Rattle.lk_lex.specs.Tokens.{Stops}
 use Rattle.lk_lex.specs.declared.place.Place.{Place}
 
 -- what stands in front has at least one byte, and at most so many
@@ -29,3 +35,20 @@ abbrev pub IsLineSmall : Option Directive → Type 0
 IsLineSmall None = Unit {0}
 IsLineSmall (Some d.Pragma) = Unit {0}
 IsLineSmall (Some (d.Mark mark)) = mark.line ≤ 2147483647
+
+-- want of memory, or this refusal
+abbrev pub IsFaultOf : Refusal → LexFault → Type 0
+IsFaultOf refusal e.NoMemory = Unit {0}
+IsFaultOf refusal (e.Refused told) = told ≡ refusal
+
+abbrev pub refusal_of : Code → Spot → List ℕ → Refusal
+refusal_of code spot name = record { code = code; spot = spot; name = name }
+
+-- want of memory, or the split stops there
+abbrev pub IsStop : List (List ℕ) → Place → List ℕ → List (List ℕ) → LexFault → Type 0
+IsStop names place bytes last e.NoMemory = Unit {0}
+IsStop names place bytes last (e.Refused told) = (code : Code) × (spot : Spot) × (told ≡ refusal_of code spot []) × Stops names place bytes code spot last
+
+-- the old names are still in front
+abbrev pub Extends : List (List ℕ) → List (List ℕ) → Type 0
+Extends names last = (more : List (List ℕ)) × (last ≡ names ++ more)

@@ -1,5 +1,5 @@
 -- The tokens of a source (C99 5.1.1.2, 6.4), with places counted from the last line mark.
-use Rattle.std.specs.Prelude.{◌≡◌, ℕ, zero, ◌+◌, ◌-◌, Bool, true, ◌&&◌, ◌==◌, nat_eq, if◌then◌else◌, List, [], ◌∷◌, ◌++◌, length, take, drop}
+use Rattle.std.specs.Prelude.{◌≡◌, ℕ, zero, ◌+◌, ◌-◌, Bool, true, ◌&&◌, ◌==◌, nat_eq, if◌then◌else◌, List, [], ◌∷◌, ◌++◌, take, drop, Option}
 use Rattle.std.specs.Cmp.Lexicographic.{pointwise}
 use Rattle.std.specs.List.{fold, position_or_len}
 use Rattle.std.specs.Option.{option_map_or}
@@ -30,16 +30,16 @@ abbrev pub start_of : ℕ → Place
 start_of own = record { spot = record { file = own; line = 1; col = 1 }; next = record { file = own; line = 2; col = 1 }; at = 0; fresh = true }
 
 -- the names with that of the mark, where it has one
-abbrev pub names_with : List (List ℕ) → Mark → List (List ℕ)
-names_with names mark = option_map_or (λ name. with_name names name) mark.name names
+abbrev pub names_with : List (List ℕ) → Option (List ℕ) → List (List ℕ)
+names_with names name = option_map_or (λ n. with_name names n) name names
 
 -- the number of the file that the mark names, or of the file that it stands in
-abbrev pub file_of : List (List ℕ) → Place → Mark → ℕ
-file_of names place mark = option_map_or (λ name. position_or_len (pointwise nat_eq name) names) mark.name place.spot.file
+abbrev pub file_of : List (List ℕ) → Place → Option (List ℕ) → ℕ
+file_of names place name = option_map_or (λ n. position_or_len (pointwise nat_eq n) names) name place.spot.file
 
 -- a place behind a mark, whose next line is the one that the mark says
 abbrev pub marked : List (List ℕ) → Place → Mark → Place
-marked names place mark = record place { next = record { file = file_of names place mark; line = mark.line; col = 1 } }
+marked names place mark = record place { next = record { file = file_of names place mark.name; line = mark.line; col = 1 } }
 
 abbrev pub token_at : Place → Place → TokenKind → Token
 token_at first behind kind = record { kind = kind; from = first.at; to = behind.at; spot = first.spot }
@@ -50,7 +50,7 @@ pub data Splits : List (List ℕ) → Place → List ℕ → List Token → List
   gap : {names last : List (List ℕ)} {place : Place} {b : ℕ} {bs : List ℕ} {tokens : List Token} (n : ℕ) → cut place.fresh (b ∷ bs) ≡ f.Gap n
       → Splits names (after place (take n (b ∷ bs))) (drop n (b ∷ bs)) tokens last → Splits names place (b ∷ bs) tokens last
   line_mark : {names last : List (List ℕ)} {place : Place} {b : ℕ} {bs : List ℕ} {tokens : List Token} (n : ℕ) (mark : Mark) → cut place.fresh (b ∷ bs) ≡ f.Mark n mark
-      → Splits (names_with names mark) (marked names (after place (take n (b ∷ bs))) mark) (drop n (b ∷ bs)) tokens last → Splits names place (b ∷ bs) tokens last
+      → Splits (names_with names mark.name) (marked names (after place (take n (b ∷ bs))) mark) (drop n (b ∷ bs)) tokens last → Splits names place (b ∷ bs) tokens last
   token : {names last : List (List ℕ)} {place : Place} {b : ℕ} {bs : List ℕ} {tokens : List Token} (n : ℕ) (kind : TokenKind) → cut place.fresh (b ∷ bs) ≡ f.Token n kind
       → Splits names (after place (take n (b ∷ bs))) (drop n (b ∷ bs)) tokens last → Splits names place (b ∷ bs) (token_at place (after place (take n (b ∷ bs))) kind ∷ tokens) last
 
@@ -61,6 +61,6 @@ pub data Stops : List (List ℕ) → Place → List ℕ → Code → Spot → Li
   past_gap : {names last : List (List ℕ)} {place : Place} {b : ℕ} {bs : List ℕ} {code : Code} {spot : Spot} (n : ℕ) → cut place.fresh (b ∷ bs) ≡ f.Gap n
       → Stops names (after place (take n (b ∷ bs))) (drop n (b ∷ bs)) code spot last → Stops names place (b ∷ bs) code spot last
   past_mark : {names last : List (List ℕ)} {place : Place} {b : ℕ} {bs : List ℕ} {code : Code} {spot : Spot} (n : ℕ) (mark : Mark) → cut place.fresh (b ∷ bs) ≡ f.Mark n mark
-      → Stops (names_with names mark) (marked names (after place (take n (b ∷ bs))) mark) (drop n (b ∷ bs)) code spot last → Stops names place (b ∷ bs) code spot last
+      → Stops (names_with names mark.name) (marked names (after place (take n (b ∷ bs))) mark) (drop n (b ∷ bs)) code spot last → Stops names place (b ∷ bs) code spot last
   past_token : {names last : List (List ℕ)} {place : Place} {b : ℕ} {bs : List ℕ} {code : Code} {spot : Spot} (n : ℕ) (kind : TokenKind) → cut place.fresh (b ∷ bs) ≡ f.Token n kind
       → Stops names (after place (take n (b ∷ bs))) (drop n (b ∷ bs)) code spot last → Stops names place (b ∷ bs) code spot last

@@ -103,6 +103,13 @@ fn text_front(bytes: &[u8]) -> Front
     }
 }
 
+/// Whether two bytes are `*/`.
+fn closes(before: u8, byte: u8) -> bool
+    ensures { result ≡ spec.closes before byte }
+{
+    before == b'*' && byte == b'/'
+}
+
 /// How many bytes there are up to the first `*/` and with it.
 fn comment_len(bytes: &[u8]) -> Option<usize>
     ensures value { result ≡ spec.comment_len 0 bytes.now }
@@ -110,7 +117,7 @@ fn comment_len(bytes: &[u8]) -> Option<usize>
 {
     let mut before = 0;
     for (len, byte) in bytes.iter().enumerate() {
-        if before == b'*' && *byte == b'/' {
+        if closes(before, *byte) {
             return Some(len + 1);
         }
         before = *byte;

@@ -3,6 +3,7 @@
 
 mod base;
 mod bytes;
+mod fault;
 mod front;
 mod keyword;
 mod mark;
@@ -10,9 +11,11 @@ mod number;
 mod place;
 mod punct;
 mod quoted;
+mod split;
 mod token;
 mod unsupported;
 
+pub use fault::LexFault;
 pub use keyword::Keyword;
 pub use punct::Punct;
 pub use token::{Token, TokenKind};

@@ -15,4 +15,4 @@ returns-then-is_among-2-clause-value c =
 pub returns-clause-value : goal.returns-clause-value
 unfolding directive
 returns-clause-value c =
-    rw (← c.past_blanks-rest.ensures, ← c.word_len.ensures.value, ← c.split_at.ensures.front, ← c.is_among.ensures, c.if-is_among.false, ← c.is_among-2.ensures, c.if-is_among-2.false) c.mark_directive.ensures.value
+    rw (← c.past_blanks-rest.ensures, ← c.word_len.ensures.value, ← c.split_at.ensures.front, ← c.is_among.ensures, c.if-is_among.false, ← c.is_among-2.ensures, c.if-is_among-2.false) c.mark_directive-2.ensures.value
