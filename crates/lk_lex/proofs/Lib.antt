@@ -1,4 +1,5 @@
 mod Counts
+mod FileNames
 mod Firsts
 mod Fronts
 mod Quoting

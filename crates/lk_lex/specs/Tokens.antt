@@ -16,11 +16,16 @@ use Rattle.lk_lex.specs.declared.place.Place.{Place}
 use Rattle.lk_lex.specs.Bytes.{is_blank}
 use Rattle.lk_lex.specs.Front.{cut}
 
--- the place after a byte: a new line begins the next line
+-- the place after a new line: the first of the next line
+abbrev pub after_line : Place → Place
+after_line place = record { spot = place.next; next = record place.next { line = place.next.line + 1 }; at = place.at + 1; fresh = true }
+
+-- the place after another byte: one column on
+abbrev pub after_column : Place → ℕ → Place
+after_column place b = record { spot = record place.spot { col = place.spot.col + 1 }; next = place.next; at = place.at + 1; fresh = place.fresh && is_blank b }
+
 abbrev pub after_byte : Place → ℕ → Place
-after_byte place b =
-    if b == 10 then record { spot = place.next; next = record place.next { line = place.next.line + 1 }; at = place.at + 1; fresh = true }
-    else record { spot = record place.spot { col = place.spot.col + 1 }; next = place.next; at = place.at + 1; fresh = place.fresh && is_blank b }
+after_byte place b = if b == 10 then after_line place else after_column place b
 
 abbrev pub after : Place → List ℕ → Place
 after place bytes = fold after_byte place bytes
