@@ -2,5 +2,6 @@ mod Counts
 mod FileNames
 mod Firsts
 mod Fronts
+mod OneSplit
 mod Quoting
 mod Splitting

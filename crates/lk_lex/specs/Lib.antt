@@ -1,6 +1,8 @@
+pub mod Answer
 pub mod Bytes
 pub mod Characters
 pub mod Front
+pub mod Laws
 pub mod Lengths
 pub mod Marks
 pub mod Numbers

@@ -6,6 +6,7 @@ mod bytes;
 mod fault;
 mod front;
 mod keyword;
+mod laws;
 mod mark;
 mod number;
 mod place;
@@ -17,5 +18,6 @@ mod unsupported;
 
 pub use fault::LexFault;
 pub use keyword::Keyword;
+pub use laws::one_split;
 pub use punct::Punct;
 pub use token::{Token, TokenKind};

@@ -1,0 +1,10 @@
+//! Laws of the split, as contracts of functions that do nothing.
+ghost use Rattle.lk_lex.specs.Laws.{HasOneList, NeverBoth, HasOneStop};
+
+/// A source has one list of tokens at most. Where it has one, its split doesn't stop; where it stops, it stops at
+/// one place with one code.
+pub fn one_split()
+    ensures list { HasOneList }
+    ensures never_both { NeverBoth }
+    ensures stop { HasOneStop }
+{}
