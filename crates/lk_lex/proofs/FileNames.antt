@@ -10,7 +10,7 @@ use Rattle.std.proofs.lemmas.Map.Keys.{IsDistinct-head, IsDistinct-tail}
 use Rattle.std.proofs.lemmas.Slice.Eq.{bytes_eq-Decides}
 use Rattle.lk_base.specs.Files.{has_name, with_name, AreDifferent}
 use Rattle.lk_base.specs.declared.memory.NoMemory.{NoMemory}
-use Rattle.lk_lex.specs.Lengths.{Extends}
+use Rattle.lk_lex.specs.Answer.{Extends}
 use Rattle.lk_lex.specs.Tokens.{names_with}
 
 abbrev same : List ℕ → List ℕ → Bool

@@ -13,8 +13,9 @@ use Rattle.lk_lex.specs.declared.place.Place.{Place}
 use Rattle.lk_lex.specs.declared.token.Token.{Token}
 use Rattle.lk_lex.specs.declared.token.TokenKind.{TokenKind}
 use Rattle.lk_lex.specs.declared.token.TokenKind.TheVariants as k
+use Rattle.lk_lex.specs.Answer.{Extends}
 use Rattle.lk_lex.specs.Front.{cut}
-use Rattle.lk_lex.specs.Lengths.{IsWithin, IsBounded, IsFaultOf, IsStop, refusal_of, Extends}
+use Rattle.lk_lex.specs.Lengths.{IsWithin, IsBounded, IsFaultOf, IsStop, refusal_of}
 use Rattle.lk_lex.specs.Tokens.{Splits, ends, gap, line_mark, token, Stops, nothing, broken, past_gap, past_mark, past_token, start_of, after, after_byte, after_line, after_column, names_with, marked, token_at}
 use Rattle.lk_lex.proofs.FileNames.{names_with-few, names_with-extends, extends-extends, extends_self}
 

@@ -48,12 +48,11 @@ abbrev pub IsFault : List (List ℕ) → ℕ → List ℕ → List (List ℕ) �
 IsFault names own bytes last e.NoMemory = Unit {0}
 IsFault names own bytes last (e.Refused told) = IsRefused names own bytes last told × (told.spot.file < length last)
 
--- a token's numbers, for a source of so many bytes and so many names
-pub record IsInside (bytes names : ℕ) (token : Token) : Type 0 where
+-- a token's numbers, in a source of so many bytes
+pub record IsInside (bytes : ℕ) (token : Token) : Type 0 where
   pub ordered : token.from ≤ token.to
   pub fits : token.to ≤ bytes
   pub short : is_word token.kind ≡ true → token.to ≤ token.from + 255
-  pub file : token.spot.file < names
 
 -- the old names are still in front
 abbrev pub Extends : List (List ℕ) → List (List ℕ) → Type 0

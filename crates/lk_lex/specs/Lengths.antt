@@ -1,5 +1,5 @@
 -- Bounds on lengths, which private contracts alone cite.
-use Rattle.std.specs.Prelude.{◌≡◌, ℕ, ◌+◌, ◌<◌, ◌≤◌, List, [], ◌++◌, Option, Some, None}
+use Rattle.std.specs.Prelude.{◌≡◌, ℕ, ◌+◌, ◌<◌, ◌≤◌, List, [], Option, Some, None}
 use Rattle.lk_lex.specs.declared.front.Front.{Front}
 use Rattle.lk_lex.specs.declared.front.Front.TheVariants as f
 use Rattle.lk_lex.specs.declared.mark.Directive.{Directive}
@@ -48,7 +48,3 @@ refusal_of code spot name = record { code = code; spot = spot; name = name }
 abbrev pub IsStop : List (List ℕ) → Place → List ℕ → List (List ℕ) → LexFault → Type 0
 IsStop names place bytes last e.NoMemory = Unit {0}
 IsStop names place bytes last (e.Refused told) = (code : Code) × (spot : Spot) × (told ≡ refusal_of code spot []) × Stops names place bytes code spot last
-
--- the old names are still in front
-abbrev pub Extends : List (List ℕ) → List (List ℕ) → Type 0
-Extends names last = (more : List (List ℕ)) × (last ≡ names ++ more)

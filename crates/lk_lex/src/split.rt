@@ -2,7 +2,8 @@
 ghost use Rattle.std.specs.Prelude.{◌≡◌, ◌<◌, ◌≤◌, ◌+◌, [], length, IfOk, IfErr, OnOk, OnErr};
 ghost use Rattle.lk_lex.specs.Tokens as spec;
 ghost use Rattle.lk_lex.specs.Tokens.{Splits, start_of, names_with};
-ghost use Rattle.lk_lex.specs.Lengths.{IsBounded, IsFaultOf, refusal_of, IsStop, Extends};
+ghost use Rattle.lk_lex.specs.Lengths.{IsBounded, IsFaultOf, refusal_of, IsStop};
+ghost use Rattle.lk_lex.specs.Answer.{Extends};
 
 use crate::fault::LexFault;
 use crate::front::{Front, cut};

@@ -1,8 +1,11 @@
 //! The words that are refused.
-ghost use Rattle.std.specs.Prelude.{◌≡◌};
+ghost use Rattle.std.specs.Prelude.{◌≡◌, length, All, IfSome};
+ghost use Rattle.lk_lex.specs.Answer as answer;
+ghost use Rattle.lk_lex.specs.Answer.{IsInside};
 ghost use Rattle.lk_lex.specs.Words as spec;
 
 use crate::bytes::is_among;
+use crate::token::{Token, TokenKind};
 
 /// Keywords of C99 for types that are left out, words of C11, and words of compilers.
 const UNSUPPORTED: [&str; 23] = [
@@ -54,4 +57,41 @@ pub fn is_unsupported(text: &[u8]) -> bool
     ensures { result ≡ spec.is_unsupported text.now }
 {
     is_unsupported_word(text) || is_builtin(text)
+}
+
+/// Whether a token of this kind is a word.
+fn is_word(kind: TokenKind) -> bool
+    ensures { result ≡ answer.is_word kind }
+{
+    matches!(kind, TokenKind::Word | TokenKind::Key(_))
+}
+
+/// The bytes of a token of the source.
+pub fn text_of<'a>(source: &'a [u8], token: &Token) -> &'a [u8]
+    requires { IsInside (length source.now) token.now }
+    ensures { result.now ≡ answer.text_of source.entry.now token.now }
+{
+    &source[token.from as usize..token.to as usize]
+}
+
+/// Whether a token of the source is a word that is refused.
+fn is_refused(source: &[u8], token: &Token) -> bool
+    requires { IsInside (length source.now) token.now }
+    ensures { result ≡ answer.is_refused source.now token.now }
+{
+    is_word(token.kind) && is_unsupported(text_of(source, token))
+}
+
+/// The first token of the source that is a word that is refused.
+pub fn first_refused(source: &[u8], tokens: &[Token]) -> Option<Token>
+    requires { All (IsInside (length source.now)) tokens.now }
+    ensures value { result ≡ answer.first_refused source.now tokens.now }
+    ensures inside { IfSome result (IsInside (length source.now)) }
+{
+    for token in tokens {
+        if is_refused(source, token) {
+            return Some(*token);
+        }
+    }
+    None
 }
