@@ -61,7 +61,7 @@ starts-within [] bytes starts = omega arith
 starts-within (x ∷ xs) [] starts = absurd cc
 starts-within (x ∷ xs) (b ∷ bs) starts = omega (arith, starts-within xs bs (and_parts _ _ starts).1)
 
-find-passes : {A : Type 0} (p : A → Bool) (xs : List A) (x : A) → find p xs ≡ Some x → p x ≡ true
+pub find-passes : {A : Type 0} (p : A → Bool) (xs : List A) (x : A) → find p xs ≡ Some x → p x ≡ true
 find-passes p [] x found = absurd cc
 find-passes {A} p (y ∷ ys) x found = by (p y) refl (λ others. find-passes p ys x others) found
   where

@@ -6,3 +6,4 @@ mod Inside
 mod OneSplit
 mod Quoting
 mod Splitting
+mod Telling
