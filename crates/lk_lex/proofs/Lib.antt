@@ -3,6 +3,7 @@ mod FileNames
 mod Firsts
 mod Fronts
 mod Inside
+mod Longest
 mod OneSplit
 mod Quoting
 mod Splitting

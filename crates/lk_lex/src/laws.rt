@@ -1,5 +1,5 @@
 //! Laws of the split, as contracts of functions that do nothing.
-ghost use Rattle.lk_lex.specs.Laws.{HasOneList, NeverBoth, HasOneStop};
+ghost use Rattle.lk_lex.specs.Laws.{HasOneList, NeverBoth, HasOneStop, AreLongest};
 
 /// A source has one list of tokens at most. Where it has one, its split doesn't stop; where it stops, it stops at
 /// one place with one code.
@@ -7,4 +7,9 @@ pub fn one_split()
     ensures list { HasOneList }
     ensures never_both { NeverBoth }
     ensures stop { HasOneStop }
+{}
+
+/// Each word, number and punctuator is the longest that can stand at its place.
+pub fn longest_tokens()
+    ensures { AreLongest }
 {}

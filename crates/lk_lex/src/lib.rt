@@ -24,9 +24,12 @@ use crate::unsupported::{first_refused, text_of};
 use lk_base::{Code, Files};
 use std::alloc::Global;
 
+#[cfg(test)]
+mod tests;
+
 pub use fault::LexFault;
 pub use keyword::Keyword;
-pub use laws::one_split;
+pub use laws::{longest_tokens, one_split};
 pub use punct::Punct;
 pub use token::{Token, TokenKind};
 
