@@ -62,6 +62,7 @@ short_word_front bytes = by (nat_lt 255 n) refl
   where
     n : ℕ
     n = word_len bytes
+
     by : (long : Bool) → nat_lt 255 n ≡ long → is_short (if long || is_wide (take n bytes) (drop n bytes) then f.Broken else f.Token n (word_kind (take n bytes))) ≡ true
     by true e = refl
     by false e = let fits : nat_le n 255 ≡ true = grind (arith, nat_tests) in either (is_wide (take n bytes) (drop n bytes)) f.Broken _ refl (or_right _ _ fits)

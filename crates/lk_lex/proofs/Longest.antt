@@ -125,6 +125,7 @@ first_number (c ∷ cs) begins = ⊎_elim (λ some. from_digit c cs (some_digit 
   where
     dotted : (46 == c && true) ≡ true → 46 ≡ c
     dotted is = let here : (46 == c) ≡ true = (and_parts (46 == c) true is).0 in grind (arith, nat_tests)
+
     behind : (cs : List ℕ) → 46 ≡ c → nat_lt 0 (prefix_len is_ascii_digit cs) ≡ true → (before : ℕ) × IsNumberText (take (number_len 0 (c ∷ cs)) (c ∷ cs)) before
     behind [] dot some = absurd (true≢false (sym some))
     behind (d ∷ ds) dot some = subst (λ x. (before : ℕ) × IsNumberText (take (number_len 0 (x ∷ d ∷ ds)) (x ∷ d ∷ ds)) before) dot (from_dot d ds (some_digit d ds some))
@@ -220,6 +221,7 @@ good_word bytes some = either bytes (nat_lt 255 n || is_wide (take n bytes) (dro
   where
     n : ℕ
     n = word_len bytes
+
     by : (o : Option Keyword) → IsLongest bytes (word_len bytes) (option_map_or k.Key o k.Word)
     by None = longest_word bytes some
     by (Some keyword) = longest_word bytes some

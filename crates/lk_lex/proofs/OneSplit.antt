@@ -30,9 +30,11 @@ behind_token : {names last : List (List ℕ)} {place : Place} {b : ℕ} {bs : Li
 behind_token n kind e (gap m g s) = absurd cc
 behind_token n kind e (line_mark m mark g s) = absurd cc
 behind_token {names} {last} {place} {b} {bs} {tokens} n kind e (token {tokens = others} m other g s) =
-    let same : m ≡ n = cc in let equal : other ≡ kind = cc in
-    (others, ap (λ w. token_at place (after place (take m (b ∷ bs))) w ∷ others) equal ∙ ap (λ k. token_at place (after place (take k (b ∷ bs))) kind ∷ others) same,
-    subst (λ k. Splits names (after place (take k (b ∷ bs))) (drop k (b ∷ bs)) others last) same s)
+    let same : m ≡ n = cc in let equal : other ≡ kind = cc in (
+      others,
+      ap (λ w. token_at place (after place (take m (b ∷ bs))) w ∷ others) equal ∙ ap (λ k. token_at place (after place (take k (b ∷ bs))) kind ∷ others) same,
+      subst (λ k. Splits names (after place (take k (b ∷ bs))) (drop k (b ∷ bs)) others last) same s,
+    )
 
 one_list : {names x y : List (List ℕ)} {place : Place} {bytes : List ℕ} {a b : List Token} → Splits names place bytes a x → Splits names place bytes b y → (a ≡ b) × (x ≡ y)
 one_list ends ends = (refl, refl)

@@ -23,10 +23,7 @@ pub fn word_len(bytes: &[u8]) -> usize
     ensures value { result ≡ spec.word_len bytes.now }
     ensures within { result ≤ length bytes.now }
 {
-    bytes
-        .iter()
-        .take_while(|byte| is_word_byte(**byte))
-        .count()
+    bytes.iter().take_while(|byte| is_word_byte(**byte)).count()
 }
 
 /// How many bytes there are before the line's end.

@@ -38,12 +38,7 @@ pub use token::{Token, TokenKind};
 /// The source has the number `own` in `files`. The names of its line marks are put into `files`, which has fewer than
 /// 2,147,483,648 names, in the order of the text, in case of a fault too. A refusal has the code `Byte` or
 /// `Token` at the place where the split stops, or else the code `UnsupportedWord` at the first word that is refused.
-pub fn tokens(
-    alloc: Global,
-    b: &[u8],
-    own: u32,
-    files: &mut Files,
-) -> Result<Vec<Token>, LexFault>
+pub fn tokens(alloc: Global, b: &[u8], own: u32, files: &mut Files) -> Result<Vec<Token>, LexFault>
     requires few { length b.now ≤ 1048576 }
     requires names { length files.old < 2147483648 }
     requires own { own < length files.old }
@@ -55,12 +50,7 @@ pub fn tokens(
 {
     let list = split(alloc, b, own, files)?;
     match first_refused(b, &list) {
-        Some(token) => Err(refused(
-            alloc,
-            Code::UnsupportedWord,
-            token.spot,
-            text_of(b, &token),
-        )),
+        Some(token) => Err(refused(alloc, Code::UnsupportedWord, token.spot, text_of(b, &token))),
         None => Ok(list),
     }
 }

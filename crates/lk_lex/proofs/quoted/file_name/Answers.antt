@@ -19,9 +19,9 @@ returns-in_default-item_in_front c =
 pub loop-byte-preserved : goal.loop-byte-preserved
 loop-byte-preserved c =
     let on = file_name-on c.loop-byte.rest.now c.in-Some.byte.now c.in-Some-item_in_front.item c.in-Some.ensures.value c.if-byte-eq34.false
-        (sym c.item_in_front.ensures.value ∙ c.in-Some-item_in_front.is) (omega (arith, c.in-Some-item_in_front.ensures.within)) in
+    (sym c.item_in_front.ensures.value ∙ c.in-Some-item_in_front.is) (omega (arith, c.in-Some-item_in_front.ensures.within)) in
     rw (c.in_ok-push.ensures.items, c.split_at.ensures.back)
-        (c.loop-byte.invariant ∙ ap (behind c.loop-byte.name.items) on ∙ sym (append_assoc c.loop-byte.name.items (c.in-Some-item_in_front.item.value ∷ []) _))
+    (c.loop-byte.invariant ∙ ap (behind c.loop-byte.name.items) on ∙ sym (append_assoc c.loop-byte.name.items (c.in-Some-item_in_front.item.value ∷ []) _))
 
 pub returns : goal.returns
 returns c =

@@ -15,7 +15,7 @@ returns-in_err-item-clause-value c =
 pub loop-byte-preserved : goal.loop-byte-preserved
 loop-byte-preserved c =
     let on = quoted_len-on c.args.quotation c.loop-byte.rest.now c.in-Some.byte.now c.in_ok-item.item c.in-Some.ensures.value c.if-byte-eq34.false
-        (sym c.item_in_front.ensures.value ∙ c.in_ok-item.was) (omega (arith, c.in_ok-item.ensures.within)) (omega (arith, c.in_ok-item.ensures.within)) in
+    (sym c.item_in_front.ensures.value ∙ c.in_ok-item.was) (omega (arith, c.in_ok-item.ensures.within)) (omega (arith, c.in_ok-item.ensures.within)) in
     record {
       count = rw c.split_at.ensures.back (c.loop-byte.invariant.count ∙ ap (more c.loop-byte.len) on ∙ more-more c.loop-byte.len c.in_ok-item.item.len _);
       left = omega (arith, c.split_at.ensures.back_len, c.loop-byte.invariant.left);

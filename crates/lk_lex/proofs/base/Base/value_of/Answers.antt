@@ -16,5 +16,5 @@ returns-in_err-value c =
 pub returns : goal.returns
 returns c =
     let same : c.loop-digit.value ≡ value_of c.args.self c.args.digits.now =
-        sym (at_drop_all (value_from c.args.self c.loop-digit.value) c.args.digits.now c.loop-digit.digit-index c.loop-digit-test.false) ∙ c.loop-digit.invariant.rest in
+    sym (at_drop_all (value_from c.args.self c.loop-digit.value) c.args.digits.now c.loop-digit.digit-index c.loop-digit-test.false) ∙ c.loop-digit.invariant.rest in
     (omega (arith, same), same)
