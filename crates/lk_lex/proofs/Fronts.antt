@@ -69,7 +69,7 @@ find-passes {A} p (y ∷ ys) x found = by (p y) refl (λ others. find-passes p y
     by true e others found = let same : y ≡ x = cc in ap p (sym same) ∙ e
     by false e others found = others found
 
-some_bytes : (punct : Punct) → 0 < length (spelling punct)
+pub some_bytes : (punct : Punct) → 0 < length (spelling punct)
 some_bytes p.Comma = omega arith
 some_bytes _ = omega arith
 

@@ -1,3 +1,4 @@
+mod Always
 mod Counts
 mod FileNames
 mod Firsts

@@ -1,5 +1,5 @@
 -- Laws of the split.
-use Rattle.std.specs.Prelude.{◌≡◌, ◌<◌, ◌≤◌, ⊤, ℕ, Bool, true, false, nat_eq, List, [], ◌∷◌, ◌++◌, length, take}
+use Rattle.std.specs.Prelude.{◌≡◌, ◌<◌, ◌≤◌, ⊤, ℕ, Bool, true, false, nat_eq, List, [], ◌∷◌, ◌++◌, ◌⊎◌, length, take}
 use Rattle.std.specs.Char.{is_ascii_digit}
 use Rattle.std.specs.List.{list_all, starts_with}
 use Rattle.lk_base.specs.declared.code.Code.{Code}
@@ -67,3 +67,11 @@ IsLongest bytes n k.End = ⊤
 -- a word, a number or a punctuator in front is the longest that can stand there
 abbrev pub AreLongest : Type 0
 AreLongest = (fresh : Bool) (bytes : List ℕ) (n : ℕ) (kind : TokenKind) → cut fresh bytes ≡ f.Token n kind → IsLongest bytes n kind
+
+-- bytes split into tokens, or the split stops
+abbrev pub IsSplitOrStops : List (List ℕ) → Place → List ℕ → Type 0
+IsSplitOrStops names place bytes = ((tokens : List Token) × (last : List (List ℕ)) × Splits names place bytes tokens last)
+    ⊎ ((code : Code) × (spot : Spot) × (last : List (List ℕ)) × Stops names place bytes code spot last)
+
+abbrev pub AlwaysOne : Type 0
+AlwaysOne = (names : List (List ℕ)) (place : Place) (bytes : List ℕ) → IsSplitOrStops names place bytes

@@ -1,9 +1,9 @@
 //! Laws of the split, as contracts of functions that do nothing.
-ghost use Rattle.lk_lex.specs.Laws.{HasOneList, NeverBoth, HasOneStop, AreLongest};
+ghost use Rattle.lk_lex.specs.Laws.{HasOneList, NeverBoth, HasOneStop, AlwaysOne, AreLongest};
 
-/// A source has one list of tokens at most. Where it has one, its split doesn't stop; where it stops, it stops at
-/// one place with one code.
+/// A source has one list of tokens, or its split stops at one place with one code.
 pub fn one_split()
+    ensures always { AlwaysOne }
     ensures list { HasOneList }
     ensures never_both { NeverBoth }
     ensures stop { HasOneStop }

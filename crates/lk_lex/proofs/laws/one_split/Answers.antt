@@ -1,5 +1,9 @@
+use Rattle.lk_lex.proofs.Always.{always_one}
 use Rattle.lk_lex.proofs.OneSplit.{has_one_list, never_both, has_one_stop}
 use Rattle.lk_lex.proofs.laws.one_split.Goals as goal
+
+pub returns-clause-always : goal.returns-clause-always
+returns-clause-always c = always_one
 
 pub returns-clause-list : goal.returns-clause-list
 returns-clause-list c = has_one_list
