@@ -1,6 +1,6 @@
 -- A source splits or stops, since what stands in front has a byte.
-use Rattle.std.proofs.Common.{◌≡◌, ℕ, zero, suc, ◌+◌, ◌-◌, ◌<◌, ◌≤◌, Bool, true, false, ◌&&◌, ◌||◌, ◌==◌, cond, nat_eq, nat_lt, if◌then◌else◌, List, [], ◌∷◌, length, take, drop, codes, Option, Some, None, ◌⊎◌, inl, inr, ⊎_elim, refl, arith}
-use Rattle.std.specs.List.{prefix_len, starts_with}
+use Rattle.std.proofs.Common.{◌≡◌, ℕ, zero, suc, ◌+◌, ◌<◌, ◌≤◌, Bool, true, false, ◌||◌, ◌==◌, nat_eq, nat_lt, if◌then◌else◌, List, [], ◌∷◌, length, take, drop, codes, Option, Some, None, inl, inr, refl, arith}
+use Rattle.std.specs.List.{starts_with}
 use Rattle.std.specs.Option.{option_map_or}
 use Rattle.std.proofs.lemmas.Bool.{and_parts}
 use Rattle.std.proofs.lemmas.Bool.Decides.{nat_tests}
@@ -25,7 +25,7 @@ use Rattle.lk_lex.specs.Laws.{IsSplitOrStops, AlwaysOne}
 use Rattle.lk_lex.specs.Marks.{directive}
 use Rattle.lk_lex.specs.Numbers.{number_len, number_of}
 use Rattle.lk_lex.specs.Punctuators.{spelling, is_digraph_in_front, punct_in_front}
-use Rattle.lk_lex.specs.Tokens.{Splits, ends, gap, line_mark, token, Stops, nothing, broken, past_gap, past_mark, past_token, after, names_with, marked}
+use Rattle.lk_lex.specs.Tokens.{ends, gap, line_mark, token, nothing, broken, past_gap, past_mark, past_token, after, names_with, marked}
 use Rattle.lk_lex.proofs.Fronts.{number_len-some, some_bytes}
 
 -- what stands in front has a byte

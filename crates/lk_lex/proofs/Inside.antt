@@ -1,7 +1,7 @@
 -- Where tokens stand: inside the source, words with at most 255 bytes, in files that have names.
-use Rattle.std.proofs.Common.{◌≡◌, ℕ, zero, suc, ◌+◌, ◌-◌, ◌<◌, ◌≤◌, min, Bool, true, false, not, ◌&&◌, ◌||◌, ◌==◌, cond, nat_eq, nat_le, nat_lt, if◌then◌else◌, List, [], ◌∷◌, ◌++◌, length, take, drop, codes, get_or, Option, Some, None, refl, sym, ap, subst, ◌∙◌, arith}
+use Rattle.std.proofs.Common.{◌≡◌, ℕ, zero, suc, ◌+◌, ◌<◌, ◌≤◌, Bool, true, false, not, ◌||◌, ◌==◌, cond, nat_eq, nat_le, nat_lt, if◌then◌else◌, List, [], ◌∷◌, ◌++◌, length, take, drop, codes, get_or, Option, Some, None, refl, sym, ap, subst, ◌∙◌, arith}
 use Rattle.std.specs.Cmp.Lexicographic.{pointwise}
-use Rattle.std.specs.List.{All, list_any, position_or_len, starts_with}
+use Rattle.std.specs.List.{All, position_or_len, starts_with}
 use Rattle.std.specs.Option.{option_map_or}
 use Rattle.std.proofs.lemmas.Bool.{leb-true, true≢false, or_right}
 use Rattle.std.proofs.lemmas.Bool.Decides.{nat_tests}
@@ -25,11 +25,11 @@ use Rattle.lk_lex.specs.Answer.{is_word, IsInside}
 use Rattle.lk_lex.specs.declared.quoted.Quotation.TheVariants as q
 use Rattle.lk_lex.specs.Bytes.{is_blank, word_len, line_len}
 use Rattle.lk_lex.specs.Characters.{as_signed, character, quoted_len}
-use Rattle.lk_lex.specs.Front.{cut, cut_by, piece, word_front, word_kind, is_wide, number_front, character_front, text_front, comment_front, punct_front, hash_front, directive_front, begins_number, comment_len}
+use Rattle.lk_lex.specs.Front.{cut, piece, word_front, word_kind, is_wide, number_front, character_front, text_front, comment_front, punct_front, hash_front, directive_front, begins_number, comment_len}
 use Rattle.lk_lex.specs.Marks.{directive}
 use Rattle.lk_lex.specs.Numbers.{number_len, number_of}
 use Rattle.lk_lex.specs.Punctuators.{spelling, is_digraph_in_front, punct_in_front}
-use Rattle.lk_lex.specs.Tokens.{Splits, ends, gap, line_mark, token, Stops, nothing, broken, past_gap, past_mark, past_token, start_of, after, after_byte, after_line, after_column, names_with, file_of, marked, token_at}
+use Rattle.lk_lex.specs.Tokens.{Splits, ends, gap, line_mark, token, Stops, nothing, broken, past_gap, past_mark, past_token, start_of, after, after_byte, after_line, after_column, names_with, file_of, marked}
 use Rattle.lk_lex.proofs.Splitting.{after-at}
 
 -- whether a word in front has at most 255 bytes

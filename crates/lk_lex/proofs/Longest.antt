@@ -2,7 +2,7 @@
 use Rattle.std.proofs.Common.{◌≡◌, ℕ, zero, suc, ◌+◌, ◌<◌, ◌≤◌, Bool, true, false, ◌&&◌, ◌||◌, ◌==◌, cond, nat_eq, nat_le, nat_lt, if◌then◌else◌, List, [], ◌∷◌, ◌++◌, length, take, drop, codes, get_or, Option, Some, None, refl, sym, ap, subst, ◌∙◌, ⊎_elim, append_assoc, arith}
 use Rattle.std.specs.Char.{is_ascii_digit}
 use Rattle.std.specs.Cmp.Lexicographic.{pointwise}
-use Rattle.std.specs.List.{find, list_all, list_any, prefix_len, starts_with}
+use Rattle.std.specs.List.{find, list_all, prefix_len, starts_with}
 use Rattle.std.specs.Option.{option_map_or}
 use Rattle.std.specs.Str.{bytes_eq}
 use Rattle.std.proofs.lemmas.Bool.{and_parts, and_from, or_cases, leb-true, true≢false}
@@ -20,7 +20,6 @@ use Rattle.lk_lex.specs.declared.punct.Punct.{Punct}
 use Rattle.lk_lex.specs.declared.punct.Punct.TheVariants as p
 use Rattle.lk_lex.specs.declared.quoted.Item.{Item}
 use Rattle.lk_lex.specs.declared.quoted.Quotation.TheVariants as q
-use Rattle.lk_lex.specs.declared.token.TokenKind.{TokenKind}
 use Rattle.lk_lex.specs.declared.token.TokenKind.TheVariants as k
 use Rattle.lk_lex.specs.Bytes.{is_blank, is_word_byte, word_len, line_len}
 use Rattle.lk_lex.specs.Characters.{as_signed, character, quoted_len}

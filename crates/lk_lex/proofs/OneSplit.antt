@@ -1,5 +1,5 @@
 -- Bytes split in one way at most, or stop at one place.
-use Rattle.std.proofs.Common.{◌≡◌, ℕ, List, [], ◌∷◌, take, drop, refl, sym, ap, subst, ◌∙◌}
+use Rattle.std.proofs.Common.{◌≡◌, ℕ, List, ◌∷◌, take, drop, refl, sym, ap, subst, ◌∙◌}
 use Rattle.lk_base.specs.declared.code.Code.{Code}
 use Rattle.lk_base.specs.declared.spot.Spot.{Spot}
 use Rattle.lk_lex.specs.declared.front.Front.TheVariants as f

@@ -1,7 +1,7 @@
 -- How the characters between quotes are passed, one by one.
-use Rattle.std.proofs.Common.{◌≡◌, ℕ, zero, suc, ◌+◌, ◌-◌, ◌<◌, ◌≤◌, Bool, true, false, ◌==◌, if◌then◌else◌, List, [], ◌∷◌, length, drop, Option, Some, None, slice_get, refl, sym, ap, ◌∙◌, arith}
+use Rattle.std.proofs.Common.{◌≡◌, ℕ, zero, suc, ◌+◌, ◌-◌, ◌<◌, ◌≤◌, List, [], ◌∷◌, length, drop, Option, Some, None, slice_get, refl, ap, ◌∙◌, arith}
 use Rattle.std.proofs.Math.Numerals.{sub-one}
-use Rattle.std.specs.Option.{option_map, option_map_or, option_and_then}
+use Rattle.std.specs.Option.{option_map}
 use Rattle.lk_lex.specs.declared.quoted.Item.{Item}
 use Rattle.lk_lex.specs.declared.quoted.Quotation.{Quotation}
 use Rattle.lk_lex.specs.declared.quoted.Quotation.TheVariants as q

@@ -1,4 +1,4 @@
-use Rattle.std.proofs.Common.{◌≡◌, sym, ◌∙◌, ap, arith}
+use Rattle.std.proofs.Common.{sym, ◌∙◌}
 use Rattle.std.proofs.lemmas.Result.{err_from_is_err_and}
 use Rattle.lk_lex.proofs.Inside.{splits_inside, splits_filed}
 use Rattle.lk_lex.proofs.Telling.{stop_fault, word_fault, refused_short}

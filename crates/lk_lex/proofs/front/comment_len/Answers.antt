@@ -1,5 +1,5 @@
-use Rattle.std.proofs.Common.{refl, sym, ◌∙◌, ap, arith}
-use Rattle.lk_lex.proofs.Quoting.{more, more-zero}
+use Rattle.std.proofs.Common.{refl, sym, ◌∙◌, arith}
+use Rattle.lk_lex.proofs.Quoting.{more-zero}
 use Rattle.lk_lex.proofs.Fronts.{comment_len-close, comment_len-on, comment_len-end}
 use Rattle.lk_lex.proofs.front.comment_len.Goals as goal
 

@@ -1,4 +1,4 @@
-use Rattle.std.proofs.Common.{refl, arith}
+use Rattle.std.proofs.Common.{refl}
 use Rattle.lk_lex.specs.Front.{number_front}
 use Rattle.lk_lex.proofs.Fronts.{number_len-some}
 use Rattle.lk_lex.proofs.front.number_front.Goals as goal

@@ -1,5 +1,4 @@
-use Rattle.std.proofs.Common.{◌≡◌, ◌≤◌, false, true, nat_le, refl, arith}
-use Rattle.std.proofs.lemmas.Bool.Decides.{nat_tests}
+use Rattle.std.proofs.Common.{refl}
 use Rattle.lk_lex.specs.declared.base.Base.TheVariants as b
 use Rattle.lk_lex.specs.Numbers.{value_of}
 use Rattle.lk_lex.specs.Marks.{line_number}

@@ -1,4 +1,4 @@
-use Rattle.std.proofs.Common.{refl, sym, ◌∙◌}
+use Rattle.std.proofs.Common.{refl}
 use Rattle.lk_lex.specs.Numbers.{constant_of}
 use Rattle.lk_lex.proofs.Counts.{kind_of-none}
 use Rattle.lk_lex.proofs.number.constant_of.Goals as goal

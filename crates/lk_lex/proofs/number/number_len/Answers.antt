@@ -1,4 +1,4 @@
-use Rattle.std.proofs.Common.{◌≡◌, ◌<◌, length, sym, ◌∙◌, arith}
+use Rattle.std.proofs.Common.{sym, ◌∙◌, arith}
 use Rattle.lk_lex.proofs.Counts.{number_len-on, number_len-stop, number_len-end}
 use Rattle.lk_lex.proofs.number.number_len.Goals as goal
 

@@ -1,4 +1,4 @@
-use Rattle.std.proofs.Common.{refl, sym, ◌∙◌, ap, ◌++◌, List, ℕ, [], ◌∷◌, append_assoc, arith}
+use Rattle.std.proofs.Common.{sym, ◌∙◌, ap, ◌++◌, List, ℕ, [], ◌∷◌, append_assoc, arith}
 use Rattle.std.proofs.lemmas.List.{append-nil}
 use Rattle.lk_lex.proofs.Firsts.{empty_first}
 use Rattle.lk_lex.proofs.Quoting.{file_name-close, file_name-bad, file_name-on, file_name-end}

@@ -1,4 +1,4 @@
-use Rattle.std.proofs.Common.{sym, ◌∙◌, arith}
+use Rattle.std.proofs.Common.{sym, ◌∙◌}
 use Rattle.lk_lex.proofs.Splitting.{upto_gap, upto_mark, upto_token, upto_end, upto_nothing, upto_broken, stop_told, not_empty, is_empty}
 use Rattle.lk_lex.proofs.split.split.Goals as goal
 

@@ -1,4 +1,4 @@
-use Rattle.std.proofs.Common.{◌≡◌, ◌<◌, ◌^◌, sym, ◌∙◌, refl, arith}
+use Rattle.std.proofs.Common.{◌≡◌, sym, ◌∙◌, refl, arith}
 use Rattle.std.proofs.lemmas.List.{at_drop_all}
 use Rattle.lk_lex.specs.Numbers.{value_of, value_from}
 use Rattle.lk_lex.proofs.Counts.{too_great}
