@@ -1,8 +1,7 @@
 //! Digits in the three bases of C, and their values.
-ghost use Rattle.std.specs.Prelude.{◌≡◌, ◌<◌, ◌≤◌, ◌^◌, ◌+◌, ◌*◌, nat_le, length};
+ghost use Rattle.std.specs.Prelude.{◌≡◌, ◌<◌, ◌≤◌, ◌^◌, ◌+◌, ◌*◌, length};
 ghost use Rattle.std.specs.Option.{SomeIff};
 ghost use Rattle.std.specs.Char.{digit_value};
-ghost use Rattle.lk_lex.specs.Numbers as spec;
 ghost use Rattle.lk_lex.specs.Numbers.{radix, is_digit_of, digits_len, value_of};
 
 /// The base of an integer constant (C99 6.4.4.1) or of an escape (C99 6.4.4.4).

@@ -1,11 +1,11 @@
 //! Lines that begin with `#`.
-ghost use Rattle.std.specs.Prelude.{◌≡◌, ◌≤◌, length, IfSome, IfOk};
+ghost use Rattle.std.specs.Prelude.{◌≡◌, ◌≤◌, IfSome, IfOk};
 ghost use Rattle.std.specs.List.{list_all};
 ghost use Rattle.std.specs.Char.{is_ascii_digit};
 ghost use Rattle.std.specs.Option.{option_map};
 ghost use Rattle.lk_lex.specs.declared.mark.Directive.TheVariants as d;
 ghost use Rattle.lk_lex.specs.Marks as spec;
-ghost use Rattle.lk_lex.specs.Marks.{is_flag_byte, mark_of, line_number, named_mark, numbered_mark, directive};
+ghost use Rattle.lk_lex.specs.Marks.{is_flag_byte, line_number, named_mark, numbered_mark, directive};
 ghost use Rattle.lk_lex.specs.Lengths.{IsLineSmall};
 
 use crate::base::Base;

@@ -1,8 +1,8 @@
 //! Numbers: how far one goes, its value and its kind.
-ghost use Rattle.std.specs.Prelude.{◌≡◌, ◌<◌, ◌≤◌, ◌^◌, length, nat_le};
+ghost use Rattle.std.specs.Prelude.{◌≡◌, ◌≤◌, length, nat_le};
 ghost use Rattle.std.specs.List.{find};
 ghost use Rattle.lk_lex.specs.Numbers as spec;
-ghost use Rattle.lk_lex.specs.Numbers.{number_len, goes_on, suffix_of, greatest, kinds, is_decimal, kind_of, constant_of, constant, is_hexadecimal, is_octal, number_of};
+ghost use Rattle.lk_lex.specs.Numbers.{number_len, goes_on, suffix_of, greatest, kinds, kind_of, constant_of, constant, number_of};
 
 use crate::base::Base;
 use crate::bytes::{is_among, is_word_byte};

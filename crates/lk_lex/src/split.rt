@@ -1,8 +1,8 @@
 //! The split of a source into tokens, with blanks, comments and line marks between them.
-ghost use Rattle.std.specs.Prelude.{◌≡◌, ◌<◌, ◌≤◌, ◌+◌, [], length, IfOk, IfErr, OnOk, OnErr};
+ghost use Rattle.std.specs.Prelude.{◌≡◌, ◌<◌, ◌≤◌, length, IfOk, IfErr, OnOk, OnErr};
 ghost use Rattle.lk_lex.specs.Tokens as spec;
 ghost use Rattle.lk_lex.specs.Tokens.{Splits, start_of, names_with};
-ghost use Rattle.lk_lex.specs.Lengths.{IsBounded, IsFaultOf, refusal_of, IsStop};
+ghost use Rattle.lk_lex.specs.Lengths.{IsFaultOf, refusal_of, IsStop};
 ghost use Rattle.lk_lex.specs.Answer.{Extends};
 
 use crate::fault::LexFault;
