@@ -1,0 +1,11 @@
+mod Always
+mod Counts
+mod FileNames
+mod Firsts
+mod Fronts
+mod Inside
+mod Longest
+mod OneSplit
+mod Quoting
+mod Splitting
+mod Telling

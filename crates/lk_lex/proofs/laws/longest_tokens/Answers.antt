@@ -1,0 +1,5 @@
+use Rattle.lk_lex.proofs.Longest.{are_longest}
+use Rattle.lk_lex.proofs.laws.longest_tokens.Goals as goal
+
+pub returns : goal.returns
+returns c = are_longest

@@ -1,0 +1,15 @@
+use Rattle.lk_lex.proofs.Always.{always_one}
+use Rattle.lk_lex.proofs.OneSplit.{has_one_list, never_both, has_one_stop}
+use Rattle.lk_lex.proofs.laws.one_split.Goals as goal
+
+pub returns-clause-always : goal.returns-clause-always
+returns-clause-always c = always_one
+
+pub returns-clause-list : goal.returns-clause-list
+returns-clause-list c = has_one_list
+
+pub returns-clause-never_both : goal.returns-clause-never_both
+returns-clause-never_both c = never_both
+
+pub returns-clause-stop : goal.returns-clause-stop
+returns-clause-stop c = has_one_stop

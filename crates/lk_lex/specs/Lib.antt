@@ -1,0 +1,11 @@
+pub mod Answer
+pub mod Bytes
+pub mod Characters
+pub mod Front
+pub mod Laws
+pub mod Lengths
+pub mod Marks
+pub mod Numbers
+pub mod Punctuators
+pub mod Tokens
+pub mod Words
