@@ -400,24 +400,12 @@ fn push_statement(
             value,
         } => push_assign(points, function, *variable, *spot, *value, on),
         Statement::Lock { variable, spot } => {
-            push_mutex(
-                points,
-                function,
-                *variable,
-                *spot,
-                Action::Lock(first + 1),
-                on,
-            )
+            let action = Action::Lock(first + 1);
+            push_mutex(points, function, *variable, *spot, action, on)
         }
         Statement::Unlock { variable, spot } => {
-            push_mutex(
-                points,
-                function,
-                *variable,
-                *spot,
-                Action::Unlock(first + 1),
-                on,
-            )
+            let action = Action::Unlock(first + 1);
+            push_mutex(points, function, *variable, *spot, action, on)
         }
         Statement::Create {
             variable,

@@ -10,3 +10,6 @@ mod routines;
 mod sites;
 
 pub use lowered::{Lowered, lower};
+
+#[cfg(test)]
+mod tests;
