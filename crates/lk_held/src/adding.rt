@@ -11,10 +11,10 @@ ghost use Rattle.lk_held.specs.States.{holds};
 ghost use Rattle.lk_sets.specs.Ids.{has_id, IsSetOf};
 
 use crate::facts::Facts;
-use lk_rise::{held_as, risen};
 use crate::states::States;
 use lk_base::NoMemory;
 use lk_facts::{Label, Origins, Site};
+use lk_rise::{held_as, risen};
 use lk_sets::IdSet;
 use std::alloc::Global;
 

@@ -11,9 +11,9 @@ ghost use Rattle.lk_held.specs.States.{weight};
 ghost use Rattle.lk_sets.specs.Ids.{has_id};
 
 use crate::facts::Facts;
-use lk_rise::empty_set;
 use crate::states::States;
 use lk_base::NoMemory;
+use lk_rise::empty_set;
 use lk_sets::IdSet;
 use std::alloc::Global;
 

@@ -6,8 +6,8 @@ ghost use Rattle.lk_held.specs.Holding.{clash_at, apart_from, IsKept};
 ghost use Rattle.lk_held.specs.Releasing.{AreReleased};
 
 use crate::facts::Facts;
-use lk_rise::clash;
 use lk_base::NoMemory;
+use lk_rise::clash;
 use lk_sets::IdSet;
 use std::alloc::Global;
 

@@ -9,10 +9,9 @@ ghost use Rattle.lk_held.specs.Releasing.{AreSets, Joins, Releases, Gains, HasRe
 ghost use Rattle.lk_sets.specs.Ids.{has_id};
 
 use crate::facts::Facts;
-use lk_rise::push_over;
-use lk_rise::{empty_set, has_all};
 use lk_base::NoMemory;
 use lk_facts::Site;
+use lk_rise::{empty_set, has_all, push_over};
 use lk_sets::IdSet;
 use std::alloc::Global;
 

@@ -3,8 +3,8 @@ ghost use Rattle.std.specs.Prelude.{◌≡◌, ◌<◌, ℕ, true, length, IfOk,
 ghost use Rattle.std.specs.List.Sorted.{IsStrictlyIncreasing};
 ghost use Rattle.lk_sets.specs.Ids.{has_id};
 
-use lk_rise::has_all;
 use lk_base::NoMemory;
+use lk_rise::has_all;
 use lk_sets::IdSet;
 use std::alloc::Global;
 
