@@ -1,11 +1,10 @@
 -- A point has one action, in one function: what it locks, unlocks and calls is one.
-use Rattle.std.proofs.Common.{◌≡◌, ◌<◌, ℕ, true, false, List, length, Some, Option, None, sym, ap, ◌∙◌, subst, inl, inr, arith}
-use Rattle.std.specs.Option.{option_map, option_map_or}
-use Rattle.std.proofs.lemmas.Bool.{false≢true}
+use Rattle.std.proofs.Common.{◌≡◌, ◌<◌, ℕ, true, List, length, Some, Option, None, sym, ap, ◌∙◌, inl, inr, arith}
+use Rattle.std.specs.Option.{option_map}
 use Rattle.std.proofs.lemmas.Option.{slice_get_cases}
 use Rattle.lk_facts.specs.declared.point.Point.{Point}
 use Rattle.lk_facts.specs.declared.action.Action.TheVariants.{Call as Calls, Lock, Unlock}
-use Rattle.lk_facts.specs.Doing.{Does, Takes, Frees, Runs}
+use Rattle.lk_facts.specs.Doing.{Takes, Frees, Runs}
 use Rattle.lk_facts.specs.Doing.Takes.{lock}
 use Rattle.lk_facts.specs.Doing.Frees.{unlock}
 use Rattle.lk_facts.specs.Doing.Runs.{call}
@@ -14,7 +13,6 @@ use Rattle.lk_facts.specs.Labels.{LabelTable, target_at}
 use Rattle.lk_facts.specs.Program.{Program, action_at, live_at, function_at, site_at}
 use Rattle.lk_facts.specs.declared.way.Way.{Way}
 use Rattle.lk_facts.specs.declared.way.Way.TheVariants.{Through}
-use Rattle.lk_held.specs.declared.facts.Call.{Call}
 use Rattle.lk_held.specs.Acts.{IsTaken, IsFreed, IsCall}
 
 -- a point is of a function

@@ -1,17 +1,14 @@
 -- Which locks a point adds, and which are held once it has run.
-use Rattle.std.proofs.Common.{◌≡◌, ◌<◌, ◌+◌, ◌&&◌, ◌||◌, ◌++◌, ◌⊎◌, ◌↔◌, ℕ, Bool, true, false, List, [], ◌∷◌, length, get_or, take, All, Some, None, refl, sym, ap, ◌∙◌, subst, ⊎_elim, inl, inr}
+use Rattle.std.proofs.Common.{◌≡◌, ◌<◌, ◌&&◌, ◌||◌, ◌++◌, ◌↔◌, ℕ, Bool, true, false, List, [], ◌∷◌, length, All, Some, None, sym, ap, ◌∙◌, subst, ⊎_elim, inl, inr}
 use Rattle.std.specs.List.{filter}
 use Rattle.std.specs.Option.{option_map_or}
-use Rattle.std.proofs.lemmas.Bool.{and_cases, and_parts, both_ways, cases_Bool, false≢true, false_from_ne_true, or_cases, or_left, or_parts, or_right}
-use Rattle.std.proofs.lemmas.List.{take_more}
+use Rattle.std.proofs.lemmas.Bool.{and_cases, and_parts, both_ways, cases_Bool, false≢true, false_from_ne_true, or_cases, or_parts}
 use Rattle.std.proofs.lemmas.Option.{slice_get_cases}
-use Rattle.lk_facts.specs.Doing.{Takes, Runs}
 use Rattle.lk_facts.specs.Flow.{Flow, IsOnly, IsHeldAs, RisesAs}
-use Rattle.lk_facts.specs.Held.{Released, MayDrop, NotTaken, RunsNone, Adds, Keeps, IsBrought}
+use Rattle.lk_facts.specs.Held.{RunsNone, Adds, IsBrought}
 use Rattle.lk_facts.specs.Labels.{LabelTable, is_lock_at}
 use Rattle.lk_facts.specs.Program.{Program, exit_of}
 use Rattle.lk_facts.specs.declared.label_entry.LabelEntry.{LabelEntry}
-use Rattle.lk_facts.specs.declared.way.Way.{Way}
 use Rattle.lk_facts.specs.declared.way.Way.TheVariants.{Through}
 use Rattle.lk_sets.specs.Ids.{has_id, IsSetOf}
 use Rattle.lk_sets.proofs.Members.{has_id-filter}

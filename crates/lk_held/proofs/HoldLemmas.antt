@@ -1,13 +1,13 @@
 -- Which locks are held at each point.
-use Rattle.std.proofs.Common.{◌≡◌, ◌<◌, ◌+◌, ◌≤◌, ◌&&◌, ◌||◌, ◌⊎◌, ◌↔◌, ℕ, Bool, true, false, not, cond, List, [], ◌∷◌, ◌++◌, length, map, Option, Some, None, refl, sym, ap, ◌∙◌, subst, ⊎_elim, inl, inr, arith}
+use Rattle.std.proofs.Common.{◌≡◌, ◌<◌, ◌+◌, ◌≤◌, ◌&&◌, ◌||◌, ◌⊎◌, ◌↔◌, ℕ, Bool, true, false, not, cond, List, [], ◌∷◌, ◌++◌, length, map, Some, None, sym, ap, ◌∙◌, subst, ⊎_elim, inl, inr, arith}
 use Rattle.std.specs.List.{range_with_len, slice_get}
 use Rattle.std.specs.Option.{option_map, option_map_or, unwrap_or}
-use Rattle.std.proofs.lemmas.Bool.{and_cases, and_from, and_parts, both_ways, cases_Bool, cases_lt, false≢true, false_from_ne_true, not-false, not-true, not_from_false, or_cases, or_left, or_right}
+use Rattle.std.proofs.lemmas.Bool.{and_from, and_parts, both_ways, cases_Bool, cases_lt, false≢true, false_from_ne_true, not-true, not_from_false, or_cases, or_left, or_right}
 use Rattle.std.proofs.lemmas.List.FromFn.{get_or-map-range_with_len, length-map-range_with_len}
 use Rattle.std.proofs.lemmas.Option.{none-some, slice_get-get_or, slice_get_cases, slice_get_past}
 use Rattle.lk_facts.specs.declared.function.Function.{Function}
 use Rattle.lk_facts.specs.Flow.{Flow}
-use Rattle.lk_facts.specs.Held.{Released, NotHeld, NotAdded, MayDrop, Adds, Keeps, IsHeldTable}
+use Rattle.lk_facts.specs.Held.{Released, NotHeld, NotAdded, Adds, Keeps, IsHeldTable}
 use Rattle.lk_facts.specs.Labels.{LabelTable, is_lock_at}
 use Rattle.lk_facts.specs.Program.{Program, live_at, entry_of, next_of}
 use Rattle.lk_facts.specs.Reach.{IsNext}

@@ -1,19 +1,19 @@
 -- The lock sets of points and functions, as lists.
-use Rattle.std.proofs.Common.{◌≡◌, ◌<◌, ◌≤◌, ◌+◌, ◌++◌, ◌↔◌, ℕ, Bool, true, false, List, [], ◌∷◌, length, get_or, map, All, Some, refl, sym, ap, ◌∙◌, subst, inl, inr, arith}
+use Rattle.std.proofs.Common.{◌≡◌, ◌<◌, ◌≤◌, ◌+◌, ◌++◌, ◌↔◌, ℕ, true, List, [], ◌∷◌, length, get_or, map, All, Some, refl, sym, ap, ◌∙◌, subst, inl, inr, arith}
 use Rattle.std.specs.List.{range_with_len}
 use Rattle.std.specs.List.Sorted.{IsStrictlyIncreasing}
 use Rattle.std.specs.Option.{option_map, option_map_or, unwrap_or}
 use Rattle.std.proofs.Math.Path.{fun_ext}
-use Rattle.std.proofs.lemmas.Bool.{both_ways, cases_Bool, cases_lt, false≢true}
+use Rattle.std.proofs.lemmas.Bool.{cases_Bool, cases_lt, false≢true}
 use Rattle.std.proofs.lemmas.List.{get_or_append_left, get_or_past, get_or_push, length_push}
 use Rattle.std.proofs.lemmas.List.Elements.{All-push}
 use Rattle.std.proofs.lemmas.List.FromFn.{get_or-map-range_with_len, length-map-range_with_len, map-range_with_len_more}
 use Rattle.std.proofs.lemmas.Option.{none-some, slice_get_cases, slice_get_past}
 use Rattle.lk_facts.specs.declared.function.Function.{Function}
 use Rattle.lk_facts.specs.Flow.{Flow}
-use Rattle.lk_facts.specs.Held.{Released, MayDrop, Keeps, IsHeldTable, AreLockSets}
-use Rattle.lk_facts.specs.Labels.{LabelTable, is_lock_at}
-use Rattle.lk_facts.specs.LockSets.{LockSets, sets_of, at_of, keep_of, out_of, AreLockSetsInRange}
+use Rattle.lk_facts.specs.Held.{Released, Keeps, IsHeldTable, AreLockSets}
+use Rattle.lk_facts.specs.Labels.{LabelTable}
+use Rattle.lk_facts.specs.LockSets.{LockSets, sets_of, AreLockSetsInRange}
 use Rattle.lk_facts.specs.Origins.{IsSetBelow, AreSetsBelow}
 use Rattle.lk_facts.specs.Program.{Program, exit_of}
 use Rattle.lk_sets.specs.Ids.{has_id}

@@ -1,11 +1,11 @@
 -- What points release, and sets of what functions release.
-use Rattle.std.proofs.Common.{◌≡◌, ◌<◌, ◌≤◌, ◌-◌, ◌+◌, ◌||◌, ◌⊎◌, ◌↔◌, ℕ, Bool, true, false, List, [], ◌∷◌, length, get_or, set, replicate, All, Some, None, refl, sym, ap, ◌∙◌, subst, ⊎_elim, inl, inr, sum_by, arith}
+use Rattle.std.proofs.Common.{◌≡◌, ◌<◌, ◌-◌, ◌||◌, ◌⊎◌, ◌↔◌, ℕ, Bool, true, false, List, [], ◌∷◌, length, get_or, set, replicate, All, Some, None, refl, sym, ap, ◌∙◌, subst, ⊎_elim, inl, inr, sum_by, arith}
 use Rattle.std.specs.List.{list_all}
 use Rattle.std.proofs.lemmas.Bool.{both_ways, cases_eq, cases_lt, false≢true, or_cases, or_left, or_right}
 use Rattle.std.proofs.lemmas.List.{get_or-replicate, get_or-set_other, get_or-set_same, get_or_past, length-replicate, length-set}
-use Rattle.std.proofs.lemmas.List.Elements.{All-get_or, All-replicate, All-set}
+use Rattle.std.proofs.lemmas.List.Elements.{All-replicate, All-set}
 use Rattle.std.proofs.lemmas.List.Sums.{sum_by-set}
-use Rattle.lk_facts.specs.Doing.{Does, Frees, Runs}
+use Rattle.lk_facts.specs.Doing.{Frees, Runs}
 use Rattle.lk_facts.specs.Doing.Frees.{unlock}
 use Rattle.lk_facts.specs.Doing.Runs.{call as calls}
 use Rattle.lk_facts.specs.Flow.{Flow, Over}

@@ -1,4 +1,4 @@
-use Rattle.std.proofs.Common.{◌≡◌, ◌<◌, ℕ, true, List, ◌∷◌, [], length, All, sym, ◌∙◌, ap, subst}
+use Rattle.std.proofs.Common.{◌≡◌, ◌<◌, ℕ, length, All, sym, ◌∙◌, ap, subst}
 use Rattle.std.proofs.lemmas.Result.{IfOk-weaker}
 use Rattle.lk_facts.specs.Flow.{IsOnly, IsHeldAs}
 use Rattle.lk_facts.specs.Origins.{flow_of}
@@ -6,8 +6,6 @@ use Rattle.lk_sets.specs.Ids.{has_id}
 use Rattle.lk_held.specs.Holding.{AreAdded}
 use Rattle.lk_held.specs.States.{holds}
 use Rattle.lk_held.proofs.AddLemmas.{added_one, added_risen, added_none, states_within}
-use Rattle.lk_rise.proofs.OverLemmas.{risen_within}
-use Rattle.lk_rise.proofs.SetLemmas.{All-from_has_id}
 use Rattle.lk_held.proofs.facts.Facts.adds.Goals as goal
 
 pub returns-in-Some-clause-added : goal.returns-in-Some-clause-added

@@ -1,4 +1,4 @@
-use Rattle.std.proofs.Common.{◌≡◌, ◌↔◌, ℕ, true, List, [], ◌∷◌, sym, ◌∙◌, subst, ap, arith, length}
+use Rattle.std.proofs.Common.{◌≡◌, ◌↔◌, ℕ, true, [], ◌∷◌, sym, ◌∙◌, subst, ap, arith}
 use Rattle.std.proofs.lemmas.Bool.{false≢true}
 use Rattle.std.proofs.lemmas.List.{get_or_read}
 use Rattle.std.proofs.lemmas.Result.{IfOk-weaker}

@@ -1,4 +1,4 @@
-use Rattle.std.proofs.Common.{◌≡◌, ℕ, true, ap, sym, ◌∙◌, arith}
+use Rattle.std.proofs.Common.{ap, sym, ◌∙◌, arith}
 use Rattle.lk_sets.specs.Ids.{has_id}
 use Rattle.lk_held.proofs.HoldLemmas.{entries_more, entry_within}
 use Rattle.lk_held.proofs.facts.Facts.entries.Goals as goal

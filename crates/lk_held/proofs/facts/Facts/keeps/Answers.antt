@@ -1,4 +1,4 @@
-use Rattle.std.proofs.Common.{◌≡◌, ◌<◌, ◌∙◌, ap, sym, subst, ℕ, List, length}
+use Rattle.std.proofs.Common.{◌<◌, ◌∙◌, ap, sym, length}
 use Rattle.lk_sets.specs.Ids.{has_id}
 use Rattle.lk_held.proofs.KeepLemmas.{kept_is}
 use Rattle.lk_rise.proofs.SetLemmas.{All-from_has_id, All-has_id}

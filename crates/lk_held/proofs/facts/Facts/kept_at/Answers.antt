@@ -1,4 +1,4 @@
-use Rattle.std.proofs.Common.{◌<◌, length, All, subst, sym, ap, ◌∙◌}
+use Rattle.std.proofs.Common.{◌<◌, length, All, subst, sym}
 use Rattle.std.specs.List.Sorted.{IsStrictlyIncreasing}
 use Rattle.lk_facts.specs.Origins.{flow_of}
 use Rattle.lk_held.specs.Holding.{IsKept}

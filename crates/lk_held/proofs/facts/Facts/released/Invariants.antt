@@ -1,6 +1,6 @@
 use Rattle.std.proofs.Common.{length}
 use Rattle.lk_facts.specs.Origins.{flow_of}
-use Rattle.lk_held.specs.Releasing.{Gains, AreSets, AreSound, room}
+use Rattle.lk_held.specs.Releasing.{AreSets, AreSound, room}
 use Rattle.lk_held.proofs.facts.Facts.released.Given as goal
 
 abbrev pub invariant-loop-released : goal.invariant-loop-released

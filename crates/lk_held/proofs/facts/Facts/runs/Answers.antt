@@ -1,4 +1,4 @@
-use Rattle.std.proofs.Common.{sym, ◌∙◌, ap}
+use Rattle.std.proofs.Common.{sym}
 use Rattle.std.proofs.lemmas.Bool.{and_parts}
 use Rattle.lk_facts.specs.Origins.{flow_of}
 use Rattle.lk_held.proofs.ActLemmas.{called}

@@ -1,6 +1,5 @@
-use Rattle.std.proofs.Common.{◌≡◌, false, List, ℕ, Some, None, ◌∙◌, sym, ap, refl, subst}
+use Rattle.std.proofs.Common.{Some, ◌∙◌, sym, ap, refl, subst}
 use Rattle.std.specs.List.{list_all}
-use Rattle.std.specs.List.Sorted.{IsStrictlyIncreasing}
 use Rattle.std.proofs.lemmas.Option.{slice_get_read}
 use Rattle.lk_sets.specs.Ids.{has_id, IsSetOf}
 use Rattle.lk_held.proofs.StateLemmas.{left_all, left_copy, left_met}
