@@ -12,5 +12,4 @@ mod racing;
 pub use judging::verdicts;
 pub use racing::conflicts;
 
-
 mod tests;
