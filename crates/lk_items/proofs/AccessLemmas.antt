@@ -1,11 +1,11 @@
 -- A point makes one access at most, and the accesses of all points are told one by one.
-use Rattle.std.proofs.Common.{◌≡◌, ◌<◌, ◌≤◌, ◌+◌, ◌⊎◌, ◌++◌, ℕ, true, false, List, [], ◌∷◌, All, Contains, length, Option, Some, None, refl, sym, ap, ◌∙◌, subst, inl, inr, arith}
+use Rattle.std.proofs.Common.{◌≡◌, ◌<◌, ◌+◌, ◌++◌, ℕ, true, false, List, [], ◌∷◌, Contains, length, Some, refl, sym, ap, ◌∙◌, subst, inl, inr, arith}
 use Rattle.std.specs.Option.{unwrap_or}
 use Rattle.std.proofs.lemmas.Bool.{cases_lt}
 use Rattle.std.proofs.lemmas.List.Elements.{All-nil, All-push, Contains-append_left, Contains-push}
 use Rattle.lk_facts.specs.declared.action.Action.{Action}
 use Rattle.lk_facts.specs.Actions.{accessed_through}
-use Rattle.lk_facts.specs.Doing.{Does, Accesses}
+use Rattle.lk_facts.specs.Doing.{Accesses}
 use Rattle.lk_facts.specs.Doing.Accesses.{access}
 use Rattle.lk_facts.specs.Labels.{LabelTable, target_at}
 use Rattle.lk_facts.specs.LockSets.{LockSets, at_of}

@@ -1,20 +1,18 @@
 -- What has risen from the accesses of points are the items of a program.
-use Rattle.std.proofs.Common.{◌≡◌, ◌<◌, ◌↔◌, ℕ, Bool, true, false, List, All, Contains, length, refl, sym, ap, ◌∙◌, subst}
+use Rattle.std.proofs.Common.{◌≡◌, ℕ, Bool, true, false, List, Contains, length, sym, ◌∙◌, subst}
 use Rattle.std.proofs.lemmas.List.Elements.{All-contains}
 use Rattle.lk_facts.specs.Analysis.{held_table}
-use Rattle.lk_facts.specs.Doing.{Accesses}
-use Rattle.lk_facts.specs.Flow.{Flow, Over}
-use Rattle.lk_facts.specs.Items.{LockTest, HasItem, PointItem, HasLock, AreItemLocks, AreItems}
+use Rattle.lk_facts.specs.Flow.{Flow}
+use Rattle.lk_facts.specs.Items.{HasItem, PointItem, HasLock, AreItems}
 use Rattle.lk_facts.specs.Labels.{LabelTable}
-use Rattle.lk_facts.specs.LockSets.{LockSets, at_of}
+use Rattle.lk_facts.specs.LockSets.{LockSets}
 use Rattle.lk_facts.specs.Program.{Program}
 use Rattle.lk_facts.specs.declared.source.Source.{Source}
 use Rattle.lk_facts.specs.declared.source.Source.TheVariants.{OwnAccess, ItemBelow}
 use Rattle.lk_rise.specs.declared.correlations.Item.{Item}
 use Rattle.lk_rise.specs.declared.rising.Subjects.TheVariants.{AsOutside}
 use Rattle.lk_rise.specs.Correlations.{item_of, has_of, locks_of}
-use Rattle.lk_rise.specs.Rising.{Carries, Risen, AreRisen, AreRisenLocks}
-use Rattle.lk_sets.specs.Ids.{has_id}
+use Rattle.lk_rise.specs.Rising.{Carries, Risen, AreRisen}
 use Rattle.lk_items.specs.Accesses.{IsOwn, AreAccessesBelow}
 use Rattle.lk_items.proofs.AccessLemmas.{accesses_within}
 

@@ -5,3 +5,6 @@ mod accesses;
 mod program_items;
 
 pub use program_items::items;
+
+#[cfg(test)]
+mod tests;

@@ -1,10 +1,9 @@
 -- A call or creation links two functions, and a point is at most one of these.
-use Rattle.std.proofs.Common.{◌≡◌, ◌<◌, ◌≤◌, ◌+◌, ◌⊎◌, ◌||◌, ◌++◌, ℕ, zero, suc, Bool, true, false, List, [], ◌∷◌, length, slice_get, is_some, inl, inr, Some, Option, None, refl, sym, ap, ◌∙◌, subst, arith}
+use Rattle.std.proofs.Common.{◌≡◌, ◌<◌, ◌+◌, ◌⊎◌, ◌||◌, ◌++◌, ℕ, zero, suc, Bool, true, false, List, [], ◌∷◌, length, slice_get, is_some, inl, inr, Some, refl, sym, ap, ◌∙◌, subst, arith}
 use Rattle.std.proofs.lemmas.Bool.{cases_lt, false≢true}
 use Rattle.std.proofs.lemmas.Option.{slice_get_cases}
 use Rattle.std.specs.Option.{option_map_or, unwrap_or}
 use Rattle.lk_facts.specs.declared.action.Action.TheVariants.{Call, Create}
-use Rattle.lk_facts.specs.Doing.{Does, Runs, Starts}
 use Rattle.lk_facts.specs.Doing.Runs.{call}
 use Rattle.lk_facts.specs.Doing.Starts.{create}
 use Rattle.lk_facts.specs.Flow.{Flow}

@@ -1,5 +1,5 @@
 -- What a lock set holds for a lock, and the one label that a label is outside.
-use Rattle.std.proofs.Common.{◌≡◌, ◌<◌, ◌≤◌, ◌⊎◌, ◌↔◌, ℕ, Bool, true, eqb, List, [], length, All, refl, sym, ap, ◌∙◌, subst, ⊎_elim, inl, inr, IsTrue}
+use Rattle.std.proofs.Common.{◌≡◌, ◌<◌, ◌⊎◌, ◌↔◌, ℕ, Bool, true, eqb, List, [], All, refl, sym, ap, ◌∙◌, subst, ⊎_elim, inl, inr, IsTrue}
 use Rattle.std.specs.List.{flat_map, position_or_len, slice_get}
 use Rattle.std.specs.Option.{option_map_or, unwrap_or}
 use Rattle.std.proofs.lemmas.Bool.{false≢true, or_cases, or_left, or_right}

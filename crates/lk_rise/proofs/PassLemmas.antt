@@ -1,6 +1,6 @@
 -- How an item rises by a link, and by all.
-use Rattle.std.proofs.Common.{◌≡◌, ◌<◌, ◌≤◌, ◌+◌, ◌||◌, ◌↔◌, ◌⊎◌, ℕ, Bool, true, false, List, All, Option, Some, None, Contains, length, get_or, is_some, refl, sym, ap, ◌∙◌, subst, ⊎_elim, inl, inr, arith, slice_get}
-use Rattle.std.specs.Option.{option_map, option_map_or, unwrap_or}
+use Rattle.std.proofs.Common.{◌≡◌, ◌<◌, ◌+◌, ◌||◌, ◌↔◌, ℕ, Bool, true, false, List, All, Option, Some, length, get_or, is_some, sym, ap, ◌∙◌, subst, ⊎_elim, inl, inr, arith, slice_get}
+use Rattle.std.specs.Option.{option_map_or, unwrap_or}
 use Rattle.std.proofs.lemmas.Option.{slice_get_within, get_or_from_slice_get}
 use Rattle.lk_facts.specs.Origins.{IsSetBelow, flow_of}
 use Rattle.lk_facts.specs.declared.way.Way.TheVariants.{Through}
@@ -10,8 +10,8 @@ use Rattle.lk_rise.specs.declared.correlations.Item.{Item}
 use Rattle.lk_rise.specs.declared.links.Link.{Link}
 use Rattle.lk_rise.specs.Correlations.{item_of, set_of, has_item, has_lock, IsEntryInRange}
 use Rattle.lk_rise.specs.Rising.{Risen, subjects_below}
-use Rattle.lk_rise.specs.Tables.{Setting, Offered, HasRisen, IsCarried, IsAllowed, IsOffer, IsSound, Grows, Works, HasLockAbove, AreAbove, AreAboveWithin, HasPassed, HasMet, HasPassedAll, HasMetAll, above_of, lock_in, item_at}
-use Rattle.lk_rise.proofs.SetLemmas.{All-from_has_id, All-has_id, place_of_id}
+use Rattle.lk_rise.specs.Tables.{Setting, Offered, HasRisen, IsCarried, IsOffer, IsSound, Grows, Works, HasLockAbove, AreAbove, AreAboveWithin, HasPassed, HasMet, HasPassedAll, HasMetAll, above_of, lock_in, item_at}
+use Rattle.lk_rise.proofs.SetLemmas.{place_of_id}
 use Rattle.lk_rise.proofs.WorkLemmas.{Fits, offered_works, works_as, works_below, works_not}
 use Rattle.lk_sets.specs.Ids.{has_id}
 use Rattle.lk_sets.proofs.Members.{has_id-from_Contains}

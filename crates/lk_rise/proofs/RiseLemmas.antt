@@ -1,27 +1,27 @@
 -- What has risen: from the given items, and when nothing changes any more.
-use Rattle.std.proofs.Common.{◌≡◌, ◌<◌, ◌≤◌, ◌+◌, ◌↔◌, ◌⊎◌, ◌||◌, ℕ, Bool, true, false, List, [], All, Option, Some, None, Contains, length, get_or, is_some, refl, sym, ap, ◌∙◌, subst, ⊎_elim, inl, inr, arith, slice_get, below_more}
-use Rattle.std.specs.Option.{option_map, option_map_or, unwrap_or}
+use Rattle.std.proofs.Common.{◌≡◌, ◌<◌, ◌+◌, ◌||◌, ℕ, Bool, true, false, List, [], Option, Some, None, Contains, length, is_some, refl, sym, ap, ◌∙◌, subst, ⊎_elim, inl, inr, slice_get, below_more}
+use Rattle.std.specs.Option.{option_map_or, unwrap_or}
 use Rattle.std.proofs.lemmas.Bool.{false≢true}
 use Rattle.std.proofs.lemmas.List.Elements.{All-nil}
 use Rattle.std.proofs.lemmas.Map.Entries.{place_from_lookup}
 use Rattle.std.proofs.lemmas.Option.{slice_get_within, slice_get_read, get_or_from_slice_get}
 use Rattle.lk_facts.specs.Analysis.{held_table}
-use Rattle.lk_facts.specs.Items.{LockTest, Rises, HasLock}
-use Rattle.lk_facts.specs.Origins.{IsSetBelow, flow_of}
+use Rattle.lk_facts.specs.Items.{Rises, HasLock}
+use Rattle.lk_facts.specs.Origins.{flow_of}
 use Rattle.lk_facts.specs.declared.source.Source.TheVariants.{ItemBelow}
 use Rattle.lk_facts.specs.declared.way.Way.{Way}
 use Rattle.lk_facts.specs.declared.way.Way.TheVariants.{Through}
 use Rattle.lk_rise.specs.declared.correlations.Item.{Item}
 use Rattle.lk_rise.specs.declared.links.Link.{Link}
-use Rattle.lk_rise.specs.Correlations.{is_same, item_of, set_of, has_item, has_lock, has_of, locks_of, AreInRange, IsEntryInRange}
-use Rattle.lk_rise.specs.Links.{IsLink, AreLinksBelow}
-use Rattle.lk_rise.specs.Rising.{Carries, Risen, AreRisenLocks, AreRisen, subjects_below}
+use Rattle.lk_rise.specs.Correlations.{is_same, item_of, set_of, has_item, has_lock, locks_of, AreInRange, IsEntryInRange}
+use Rattle.lk_rise.specs.Links.{AreLinksBelow}
+use Rattle.lk_rise.specs.Rising.{Carries, AreRisen, subjects_below}
 use Rattle.lk_rise.specs.Rising.Risen.{based, risen}
-use Rattle.lk_rise.specs.Tables.{Setting, Offered, HasRisen, IsCarried, IsAllowed, IsSound, Grows, Works, HasLockAbove, HasPassed, HasMet, HasPassedAll, HasMetAll, HasBased, above_of, lock_in, item_at}
+use Rattle.lk_rise.specs.Tables.{Setting, Offered, HasRisen, IsCarried, IsSound, Grows, HasPassedAll, HasMetAll, HasBased, above_of}
 use Rattle.lk_rise.proofs.ItemLemmas.{same_item}
 use Rattle.lk_rise.proofs.LinkLemmas.{rises_within}
 use Rattle.lk_rise.proofs.TableLemmas.{item_at_known}
-use Rattle.lk_rise.proofs.WorkLemmas.{Fits, offered_works, offered_within, grows_more}
+use Rattle.lk_rise.proofs.WorkLemmas.{Fits, offered_works, offered_within}
 use Rattle.lk_sets.specs.Ids.{has_id}
 
 -- a table of no items

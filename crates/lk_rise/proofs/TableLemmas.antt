@@ -1,18 +1,18 @@
 -- Tables of items: what is left of the locks of an item, and what a table has once they were put.
-use Rattle.std.proofs.Common.{◌≡◌, ◌<◌, ◌≤◌, ◌+◌, ◌&&◌, ℕ, zero, suc, Bool, true, false, cond, List, [], ◌∷◌, length, All, Option, Some, None, Contains, is_some, slice_get, refl, sym, ap, ◌∙◌, subst, inl, inr, sum_by, arith}
+use Rattle.std.proofs.Common.{◌≡◌, ◌<◌, ◌+◌, ◌&&◌, ℕ, zero, suc, Bool, true, false, cond, List, [], ◌∷◌, length, All, Option, Some, None, is_some, slice_get, refl, sym, ap, ◌∙◌, subst, inl, inr, sum_by, arith}
 use Rattle.std.specs.List.{list_all}
 use Rattle.std.specs.List.Sorted.{IsStrictlyIncreasing}
-use Rattle.std.specs.Map.{lookup, values_of}
+use Rattle.std.specs.Map.{values_of}
 use Rattle.std.specs.Option.{option_map, option_map_or, unwrap_or}
 use Rattle.std.proofs.lemmas.List.Elements.{All-cons, All-head, All-tail}
 use Rattle.std.proofs.lemmas.List.Sums.{sum_by-cons}
 use Rattle.std.proofs.lemmas.Option.{slice_get_cases}
-use Rattle.std.proofs.lemmas.Bool.{and_from, and_parts, and_right, both_ways, cases_Bool, false≢true}
+use Rattle.std.proofs.lemmas.Bool.{and_from, and_parts, and_right, false≢true}
 use Rattle.indexmap.specs.IndexMap.{insert_entry}
 use Rattle.lk_rise.specs.declared.correlations.Item.{Item}
-use Rattle.lk_rise.specs.Correlations.{is_same, set_of, has_item, has_lock}
+use Rattle.lk_rise.specs.Correlations.{is_same, set_of, has_item}
 use Rattle.lk_rise.specs.Tables.{IsLeft, IsWithin, item_at, weight}
-use Rattle.lk_rise.proofs.ItemLemmas.{same_item, same_itself, same_laws, same_from_equal}
+use Rattle.lk_rise.proofs.ItemLemmas.{same_item}
 use Rattle.lk_rise.proofs.SetLemmas.{all_pass, one_fails, shorter}
 use Rattle.lk_sets.proofs.Members.{same_answers}
 use Rattle.lk_sets.specs.Ids.{has_id, IsSetOf}

@@ -1,16 +1,13 @@
 -- Steps of the work on a table, one behind another.
-use Rattle.std.proofs.Common.{◌≡◌, ◌<◌, ◌≤◌, ◌+◌, ◌||◌, ◌&&◌, ℕ, Bool, true, false, cond, List, All, Contains, Option, Some, None, is_some, length, refl, sym, ap, ◌∙◌, subst, ⊎_elim, inl, inr, arith, below_more}
-use Rattle.std.specs.Option.{option_map_or, unwrap_or}
-use Rattle.std.proofs.lemmas.Bool.{and_from, and_parts, both_ways, cases_Bool, false≢true, or_cases, or_parts}
-use Rattle.std.proofs.lemmas.List.Elements.{All-cons}
-use Rattle.std.specs.List.Sorted.{IsStrictlyIncreasing}
+use Rattle.std.proofs.Common.{◌≡◌, ◌<◌, ◌≤◌, ◌+◌, ◌||◌, ℕ, Bool, true, false, cond, List, All, Option, Some, None, is_some, length, refl, sym, ap, ◌∙◌, subst, inl, inr, arith, below_more}
+use Rattle.std.specs.Option.{option_map_or}
+use Rattle.std.proofs.lemmas.Bool.{and_from, and_parts, both_ways, false≢true, or_cases, or_parts}
 use Rattle.indexmap.specs.IndexMap.{insert_entry}
 use Rattle.lk_facts.specs.Items.{LockTest}
-use Rattle.lk_facts.specs.Origins.{IsSetBelow}
 use Rattle.lk_rise.specs.declared.correlations.Item.{Item}
 use Rattle.lk_rise.specs.Correlations.{is_same, set_of, has_item, has_lock, IsEntryInRange}
 use Rattle.lk_rise.specs.Rising.{subjects_below}
-use Rattle.lk_rise.specs.Tables.{Setting, Offered, Puts, IsWithin, IsLeft, HasRisen, IsAllowed, IsSound, Grows, Works, lock_in, item_at, weight}
+use Rattle.lk_rise.specs.Tables.{Setting, Offered, Puts, HasRisen, IsAllowed, IsSound, Grows, Works, lock_in, item_at, weight}
 use Rattle.lk_rise.proofs.SetLemmas.{All-from_has_id, All-has_id}
 use Rattle.lk_rise.proofs.ItemLemmas.{same_item, same_itself}
 use Rattle.lk_rise.proofs.TableLemmas.{item_at-insert, All-insert, weight-insert, length-insert}

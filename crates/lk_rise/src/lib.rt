@@ -12,5 +12,8 @@ mod sets;
 pub use correlations::{Correlations, Item};
 pub use links::{Link, link_of};
 pub use over::{clash, held_as, only_in_row, push_over, risen, rises_as};
-pub use rising::{Subjects, rise};
+pub use rising::{Subjects, fits, rise};
 pub use sets::{empty_set, has_all};
+
+#[cfg(test)]
+mod tests;

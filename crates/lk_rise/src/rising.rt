@@ -1,8 +1,8 @@
 //! What rises from functions to those that run or start them.
-ghost use Rattle.std.specs.Prelude.{◌≡◌, length, IfOk};
+ghost use Rattle.std.specs.Prelude.{◌≡◌, ◌<◌, ◌↔◌, length, All, IsTrue, IfOk};
 ghost use Rattle.lk_facts.specs.Analysis.{held_table};
 ghost use Rattle.lk_facts.specs.Origins.{flow_of};
-ghost use Rattle.lk_rise.specs.Correlations.{AreInRange};
+ghost use Rattle.lk_rise.specs.Correlations.{AreInRange, IsEntryInRange};
 ghost use Rattle.lk_rise.specs.Rising.{Carries, subjects_below, AreRisen};
 
 use crate::correlations::{Correlations, Item};
@@ -18,6 +18,52 @@ pub enum Subjects {
     AsOutside,
     /// The subject is a location, which is the same above.
     AsTheyAre,
+}
+
+impl Subjects {
+    /// The number that subjects are below: that of the labels, or that of the locations.
+    fn below(self, points: &Points, labels: &Labels) -> u32
+        ensures { result ≡ subjects_below points.now labels.now self }
+    {
+        match self {
+            Subjects::AsOutside => labels.count(),
+            Subjects::AsTheyAre => points.locations(),
+        }
+    }
+}
+
+/// Whether the numbers are below another.
+fn are_below(ids: &[u32], count: u32) -> bool
+    ensures { IsTrue result ↔ All (λ x. x < count) ids.now }
+{
+    ids.iter().all(|id| *id < count)
+}
+
+/// Whether the numbers of an item are in range.
+fn item_fits(item: Item, points: &Points, subjects: u32) -> bool
+    ensures { IsTrue result ↔ ((item.function < length points.now.functions) × (item.subject < subjects) × (item.access < length points.now.points)) }
+{
+    item.function < points.functions() && item.subject < subjects && item.access < points.count()
+}
+
+/// Whether the numbers of an item and of its locks are in range.
+fn entry_fits(entry: &(Item, IdSet), points: &Points, labels: &Labels, subjects: u32) -> bool
+    ensures { IsTrue result ↔ IsEntryInRange points.now labels.now subjects entry.now }
+{
+    item_fits(entry.0, points, subjects) && are_below(entry.1.ids(), labels.count())
+}
+
+/// Whether the numbers of each item, and those of its locks, are in range, as `rise` asks.
+pub fn fits(points: &Points, labels: &Labels, based: &[(Item, IdSet)], subjects: Subjects) -> bool
+    ensures { IsTrue result ↔ AreInRange points.now labels.now (subjects_below points.now labels.now subjects) based.now }
+{
+    let below = subjects.below(points, labels);
+    for entry in based {
+        if !entry_fits(entry, points, labels, below) {
+            return false;
+        }
+    }
+    true
 }
 
 /// What items rise in.

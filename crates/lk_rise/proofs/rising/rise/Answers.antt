@@ -1,8 +1,6 @@
-use Rattle.std.proofs.Common.{◌≡◌, ◌<◌, ℕ, Bool, List, length, sym, subst}
-use Rattle.lk_facts.specs.Origins.{flow_of}
+use Rattle.std.proofs.Common.{◌<◌, ℕ, Bool, List, length, sym, subst}
 use Rattle.lk_rise.specs.declared.correlations.Item.{Item}
 use Rattle.lk_rise.specs.declared.links.Link.{Link}
-use Rattle.lk_rise.specs.Links.{AreLinksBelow}
 use Rattle.lk_rise.specs.Tables.{Setting, IsSound, Works, HasPassedAll, HasMetAll}
 use Rattle.lk_rise.proofs.RiseLemmas.{none_sound, stays_based, rise_is}
 use Rattle.lk_rise.proofs.rising.rise.Goals as goal

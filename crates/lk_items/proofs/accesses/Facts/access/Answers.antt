@@ -1,4 +1,4 @@
-use Rattle.std.proofs.Common.{◌≡◌, ℕ, true, false, sym, ◌∙◌, subst}
+use Rattle.std.proofs.Common.{◌≡◌, true, false, sym, ◌∙◌, subst}
 use Rattle.lk_facts.specs.Program.{live_at}
 use Rattle.lk_items.specs.Accesses.{IsAccess}
 use Rattle.lk_items.proofs.AccessLemmas.{access_is}

@@ -1,4 +1,4 @@
-use Rattle.std.proofs.Common.{◌≡◌, ◌+◌, List, ℕ, length, sym, subst}
+use Rattle.std.proofs.Common.{◌+◌, List, ℕ, length, sym, subst}
 use Rattle.lk_facts.specs.Origins.{IsSetBelow}
 use Rattle.lk_rise.specs.declared.correlations.Item.{Item}
 use Rattle.lk_sets.specs.Ids.{has_id, IsSetOf}

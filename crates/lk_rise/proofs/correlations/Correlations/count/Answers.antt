@@ -1,6 +1,5 @@
-use Rattle.std.proofs.Common.{List, ℕ, subst}
+use Rattle.std.proofs.Common.{subst}
 use Rattle.std.proofs.lemmas.Map.Entries.{lookup_from_place}
-use Rattle.lk_rise.specs.declared.correlations.Item.{Item}
 use Rattle.lk_rise.specs.Correlations.{AreCorrelations}
 use Rattle.lk_rise.proofs.ItemLemmas.{same_laws}
 use Rattle.lk_rise.proofs.correlations.Correlations.count.Goals as goal

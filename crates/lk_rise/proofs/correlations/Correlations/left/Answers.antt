@@ -1,6 +1,5 @@
-use Rattle.std.proofs.Common.{◌≡◌, false, true, List, ℕ, Some, None, ◌∙◌, sym, ap, subst}
+use Rattle.std.proofs.Common.{◌≡◌, Some, None, ◌∙◌, sym, ap, subst}
 use Rattle.std.specs.List.{list_all}
-use Rattle.lk_rise.specs.declared.correlations.Item.{Item}
 use Rattle.lk_rise.specs.Correlations.{set_of}
 use Rattle.lk_rise.specs.Tables.{IsLeft, IsWithin}
 use Rattle.lk_sets.specs.Ids.{has_id, IsSetOf}

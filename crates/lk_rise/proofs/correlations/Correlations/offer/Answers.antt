@@ -1,8 +1,6 @@
-use Rattle.std.proofs.Common.{◌≡◌, true, List, ℕ, Some, sym, ap, ◌∙◌, subst, refl, cond}
+use Rattle.std.proofs.Common.{true, sym, subst, refl}
 use Rattle.std.proofs.lemmas.Bool.{both_ways}
 use Rattle.std.proofs.lemmas.Option.{MatchOption-at_some}
-use Rattle.lk_rise.specs.declared.correlations.Item.{Item}
-use Rattle.lk_rise.specs.Correlations.{is_same, set_of}
 use Rattle.lk_rise.specs.Tables.{IsLeft, IsWithin, Offered}
 use Rattle.lk_rise.proofs.correlations.Correlations.offer.Goals as goal
 

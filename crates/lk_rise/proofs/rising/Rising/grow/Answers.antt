@@ -1,4 +1,4 @@
-use Rattle.std.proofs.Common.{◌≡◌, ◌<◌, ◌≤◌, length, arith, below_more}
+use Rattle.std.proofs.Common.{arith, below_more}
 use Rattle.lk_rise.specs.Tables.{setting, HasPassedAll}
 use Rattle.lk_rise.proofs.PassLemmas.{stay_passed}
 use Rattle.lk_rise.proofs.WorkLemmas.{grows_more}

@@ -1,4 +1,4 @@
-use Rattle.std.proofs.Common.{ℕ, ◌<◌, ◌≤◌, length}
+use Rattle.std.proofs.Common.{ℕ, ◌<◌, ◌≤◌}
 use Rattle.lk_rise.specs.Tables.{setting, Grows, HasPassedAll}
 use Rattle.lk_rise.proofs.rising.Rising.grow.Given as goal
 

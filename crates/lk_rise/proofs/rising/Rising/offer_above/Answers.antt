@@ -1,7 +1,6 @@
-use Rattle.std.proofs.Common.{◌≡◌, ◌<◌, ◌↔◌, ℕ, true, List, All, length, get_or, sym, ap, subst, arith}
-use Rattle.lk_rise.specs.declared.correlations.Item.{Item}
+use Rattle.std.proofs.Common.{◌≡◌, ◌<◌, ◌↔◌, ℕ, true, All, length, sym, subst, arith}
 use Rattle.lk_rise.specs.Rising.{subjects_below}
-use Rattle.lk_rise.specs.Tables.{setting, Offered, IsCarried, above_of}
+use Rattle.lk_rise.specs.Tables.{setting, Offered, IsCarried}
 use Rattle.lk_rise.proofs.PassLemmas.{OffersBelow, offers_none, offers_more, offers_all}
 use Rattle.lk_rise.proofs.rising.Rising.offer_above.Goals as goal
 use Rattle.lk_sets.specs.Ids.{has_id}

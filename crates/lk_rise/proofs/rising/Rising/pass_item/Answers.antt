@@ -1,4 +1,4 @@
-use Rattle.std.proofs.Common.{◌≡◌, Some, length, arith, refl, slice_get, subst}
+use Rattle.std.proofs.Common.{◌≡◌, length, arith, refl, subst}
 use Rattle.std.proofs.lemmas.Option.{slice_get_read}
 use Rattle.lk_rise.specs.Tables.{setting}
 use Rattle.lk_rise.proofs.PassLemmas.{PassesBelow, passes_none, passes_more, grows_long}

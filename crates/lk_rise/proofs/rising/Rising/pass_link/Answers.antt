@@ -1,11 +1,8 @@
-use Rattle.std.proofs.Common.{◌≡◌, ◌<◌, [], List, ℕ, length, Some, sym, ap, ◌∙◌, subst, slice_get}
-use Rattle.std.specs.Option.{option_map}
+use Rattle.std.proofs.Common.{[], slice_get}
 use Rattle.std.proofs.lemmas.Result.{IfOk-weaker}
-use Rattle.lk_facts.specs.Origins.{IsSetBelow}
-use Rattle.lk_rise.specs.declared.correlations.Item.{Item}
 use Rattle.lk_rise.specs.Tables.{setting}
 use Rattle.lk_rise.proofs.TableLemmas.{entry_known}
-use Rattle.lk_rise.proofs.PassLemmas.{locks_range, offer_fits, passed_by, passed_up}
+use Rattle.lk_rise.proofs.PassLemmas.{locks_range, offer_fits, passed_up}
 use Rattle.lk_rise.proofs.rising.Rising.pass_link.Goals as goal
 
 pub risen-requires-clause-point : goal.risen-requires-clause-point

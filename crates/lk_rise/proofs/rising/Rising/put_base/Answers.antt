@@ -1,4 +1,4 @@
-use Rattle.std.proofs.Common.{◌≡◌, refl}
+use Rattle.std.proofs.Common.{refl}
 use Rattle.std.proofs.lemmas.Option.{slice_get_read}
 use Rattle.lk_rise.specs.Tables.{setting}
 use Rattle.lk_rise.proofs.RiseLemmas.{base_more}

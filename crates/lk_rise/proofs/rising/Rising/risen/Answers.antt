@@ -1,4 +1,4 @@
-use Rattle.std.proofs.Common.{◌<◌, List, ℕ, length, All, sym, ◌∙◌, ap, subst}
+use Rattle.std.proofs.Common.{◌<◌, length, All, sym, ◌∙◌, ap, subst}
 use Rattle.lk_rise.proofs.SetLemmas.{All-from_has_id, All-has_id}
 use Rattle.lk_rise.proofs.rising.Rising.risen.Goals as goal
 use Rattle.lk_sets.specs.Ids.{has_id}
