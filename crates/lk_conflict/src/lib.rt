@@ -12,5 +12,5 @@ mod racing;
 pub use judging::verdicts;
 pub use racing::conflicts;
 
-
+#[cfg(test)]
 mod tests;

@@ -55,19 +55,35 @@ fn action(alloc: Global, step: Step, point: u32) -> Action {
     }
 }
 
+/// The label that a point accesses.
+fn target(step: Step) -> Option<Label> {
+    match step {
+        Step::Read | Step::Write => Some(Label(CELL)),
+        _ => None,
+    }
+}
+
+/// The locks at a point.
+fn locks_at(alloc: Global, line: Line<'_>) -> Result<Items<u32>, Fail> {
+    let (_, _, lock) = line;
+    let mut locks = Vec::new(alloc);
+    if let Some(lock) = lock {
+        locks.push(lock)?;
+    }
+    Ok(Items::new(locks))
+}
+
 /// A live point, whose site has its own number where it is a call or creation.
 fn point(alloc: Global, line: Line<'_>, place: u32, function: u32) -> Result<Point, Fail> {
     let (step, next, _) = line;
+    let is_sited = matches!(step, Step::Call(_) | Step::Create(_));
     Ok(Point {
         action: action(alloc, step, place),
         next: Items::new(Vec::from_slice(alloc, next)?),
         function,
         spot: SPOT,
         live: true,
-        site: match step {
-            Step::Call(_) | Step::Create(_) => Some(Site(place)),
-            _ => None,
-        },
+        site: if is_sited { Some(Site(place)) } else { None },
     })
 }
 
@@ -117,10 +133,7 @@ fn labels(rt: &impl Abort, alloc: Global, functions: &[&[Line<'_>]]) -> Result<L
     let mut targets = Vec::new(alloc);
     for lines in functions {
         for line in lines.iter() {
-            targets.push(match line.0 {
-                Step::Read | Step::Write => Some(Label(CELL)),
-                _ => None,
-            })?;
+            targets.push(target(line.0))?;
         }
     }
     assert!(rt; Labels::fits(&entries, &targets));
@@ -162,14 +175,8 @@ fn held(rt: &impl Abort, alloc: Global, functions: &[&[Line<'_>]]) -> Result<Hel
     let mut keep = Vec::new(alloc);
     for lines in functions {
         for line in lines.iter() {
-            at.push(Items::new(match line.2 {
-                Some(lock) => vec![in alloc; lock]?,
-                None => Vec::new(alloc),
-            }))?;
-            keep.push(Items::new(match line.2 {
-                Some(lock) => vec![in alloc; lock]?,
-                None => Vec::new(alloc),
-            }))?;
+            at.push(locks_at(alloc, *line)?)?;
+            keep.push(locks_at(alloc, *line)?)?;
         }
     }
     let out = empty_sets(alloc, functions.len())?;
