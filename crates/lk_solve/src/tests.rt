@@ -6,8 +6,8 @@ use crate::solve;
 use lk_base::{Items, Name, Spot};
 use lk_conflict::conflicts;
 use lk_facts::{
-    Action, Function, Held, Label, LabelEntry, Labels, Origins, Point, Points, Racing, Site,
-    Verdict, VerdictState,
+    Action, Function, Held, Label, LabelEntry, Labels, Origins, Point, Points, Site, Verdict,
+    VerdictState,
 };
 use lk_graph::after;
 use lk_held::held;
@@ -45,22 +45,13 @@ type Set<'a> = (u32, &'a [u32]);
 /// An item, and its locks.
 type Entry<'a> = (Item, &'a [u32]);
 
-/// A state, the locks that guard, and the racing accesses with their lock sets.
-type Finding<'a> = (VerdictState, &'a [u32], &'a [Set<'a>]);
-
-/// A program, and what the rules say of it. Where no set is listed for a point or function, it is empty.
-#[derive(Clone, Copy)]
-struct Row<'a> {
-    /// The points of each function, its entry first and its exit last; main is the last function.
-    functions: &'a [&'a [Line<'a>]],
-    locations: u32,
-    locks: u32,
-    at: &'a [Set<'a>],
-    keep: &'a [Set<'a>],
-    out: &'a [Set<'a>],
-    items: &'a [Entry<'a>],
-    races: &'a [Entry<'a>],
-    verdicts: &'a [Finding<'a>],
+/// What the analysis finds.
+#[derive(Drop)]
+struct Found {
+    held: Held,
+    items: Correlations,
+    races: Correlations,
+    verdicts: Vec<Verdict>,
 }
 
 const fn own(function: u32, subject: u32, access: u32) -> Item {
@@ -128,11 +119,18 @@ fn function(alloc: Global, entry: u32, exit: u32) -> Result<Function, Fail> {
     })
 }
 
-fn points(rt: &impl Abort, alloc: Global, row: &Row<'_>) -> Result<Points, Fail> {
+/// The points of functions that stand behind one another, each with its entry first and its exit last. Main is the last function.
+fn points(
+    rt: &impl Abort,
+    alloc: Global,
+    functions: &[&[Line<'_>]],
+    locations: u32,
+    locks: u32,
+) -> Result<Points, Fail> {
     let mut all = Vec::new(alloc);
     let mut list = Vec::new(alloc);
     let mut place = 0;
-    for (f, lines) in row.functions.iter().enumerate() {
+    for (f, lines) in functions.iter().enumerate() {
         assert!(rt; f < 100 && place < 1000 && !lines.is_empty() && lines.len() < 1000);
         let entry = place;
         for line in lines.iter() {
@@ -147,24 +145,30 @@ fn points(rt: &impl Abort, alloc: Global, row: &Row<'_>) -> Result<Points, Fail>
     let count = list.len();
     assert!(rt; 0 < count && count < 100);
     let main = count as u32 - 1;
-    assert!(rt; Points::fits(&all, &list, &roots, main, place, row.locations, row.locks));
-    Ok(Points::new(all, list, roots, main, place, row.locations, row.locks))
+    assert!(rt; Points::fits(&all, &list, &roots, main, place, locations, locks));
+    Ok(Points::new(all, list, roots, main, place, locations, locks))
 }
 
 /// A label for each location and lock place.
-fn labels(rt: &impl Abort, alloc: Global, row: &Row<'_>) -> Result<Labels, Fail> {
-    assert!(rt; row.locations < 100 && row.locks < 100);
+fn labels(
+    rt: &impl Abort,
+    alloc: Global,
+    functions: &[&[Line<'_>]],
+    locations: u32,
+    locks: u32,
+) -> Result<Labels, Fail> {
+    assert!(rt; locations < 100 && locks < 100);
     let mut entries = Vec::new(alloc);
-    for root in 0..row.locations + row.locks {
+    for root in 0..locations + locks {
         entries.push(LabelEntry {
             root,
             is_origin: true,
-            is_lock: root >= row.locations,
+            is_lock: root >= locations,
             is_global: true,
         })?;
     }
     let mut targets = Vec::new(alloc);
-    for lines in row.functions {
+    for lines in functions {
         for line in lines.iter() {
             targets.push(target(line.0))?;
         }
@@ -197,14 +201,14 @@ fn listed<'a>(sets: &[Set<'a>], number: u32) -> &'a [u32] {
 }
 
 /// The lock sets are the listed ones.
-fn check_held(rt: &impl Abort, row: &Row<'_>, held: &Held) {
+fn check_held(rt: &impl Abort, held: &Held, at: &[Set<'_>], keep: &[Set<'_>], out: &[Set<'_>]) {
     assert!(rt; held.points() < 2000 && held.functions() < 100);
     for point in 0..held.points() as u32 {
-        assert!(rt; held.at(point) == listed(row.at, point));
-        assert!(rt; held.keep(point) == listed(row.keep, point));
+        assert!(rt; held.at(point) == listed(at, point));
+        assert!(rt; held.keep(point) == listed(keep, point));
     }
     for function in 0..held.functions() as u32 {
-        assert!(rt; held.out(function) == listed(row.out, function));
+        assert!(rt; held.out(function) == listed(out, function));
     }
 }
 
@@ -216,45 +220,57 @@ fn check_items(rt: &impl Abort, found: &Correlations, listed: &[Entry<'_>]) {
     }
 }
 
-fn check_accesses(rt: &impl Abort, found: &[Racing], listed: &[Set<'_>]) {
-    assert!(rt; found.len() == listed.len());
-    for (racing, (access, locks)) in found.iter().zip(listed) {
+/// The verdict of a location, with its locks and its racing accesses, each with its lock set.
+fn check_verdict(
+    rt: &impl Abort,
+    verdict: &Verdict,
+    state: VerdictState,
+    locks: &[u32],
+    accesses: &[Set<'_>],
+) {
+    assert!(rt; verdict.state == state && verdict.locks.ids() == locks);
+    assert!(rt; verdict.accesses.len() == accesses.len());
+    for (racing, (access, locks)) in verdict.accesses.list().iter().zip(accesses) {
         assert!(rt; racing.access == *access && racing.locks.ids() == *locks);
     }
 }
 
-fn check_verdicts(rt: &impl Abort, found: &[Verdict], listed: &[Finding<'_>]) {
-    assert!(rt; found.len() == listed.len());
-    for (verdict, (state, locks, accesses)) in found.iter().zip(listed) {
-        assert!(rt; verdict.state == *state && verdict.locks.ids() == *locks);
-        check_accesses(rt, verdict.accesses.list(), accesses);
-    }
+/// The verdict of a location is that it is unshared.
+fn check_unshared(rt: &impl Abort, verdict: &Verdict) {
+    check_verdict(rt, verdict, VerdictState::Unshared, &[], &[]);
 }
 
 /// Each lock place is linear.
-fn linear(rt: &impl Abort, alloc: Global, row: &Row<'_>) -> Result<IdSet, Fail> {
-    assert!(rt; row.locations < 100 && row.locks < 100);
-    let places: Vec<u32> = (row.locations..row.locations + row.locks).collect(alloc)?;
+fn linear(rt: &impl Abort, alloc: Global, locations: u32, locks: u32) -> Result<IdSet, Fail> {
+    assert!(rt; locations < 100 && locks < 100);
+    let places: Vec<u32> = (locations..locations + locks).collect(alloc)?;
     Ok(IdSet::from_list(alloc, &places)?)
 }
 
-/// Each part of the analysis of the row's program says what the row lists.
-fn check(rt: &impl Abort, alloc: Global, row: &Row<'_>) -> Result<(), Fail> {
-    let points = points(rt, alloc, row)?;
-    let labels = labels(rt, alloc, row)?;
+/// Each part of the analysis of the functions.
+fn analyse(
+    rt: &impl Abort,
+    alloc: Global,
+    functions: &[&[Line<'_>]],
+    locations: u32,
+    locks: u32,
+) -> Result<Found, Fail> {
+    let points = points(rt, alloc, functions, locations, locks)?;
+    let labels = labels(rt, alloc, functions, locations, locks)?;
     let origins = origins(rt, alloc, labels.count())?;
     assert!(rt; origins.labels() == labels.count());
     let after = after(alloc, &points)?;
     let held = held(alloc, &points, &labels, &origins)?;
-    check_held(rt, row, &held);
     let items = items(alloc, &points, &labels, &origins, &held)?;
-    check_items(rt, &items, row.items);
     let races = conflicts(alloc, &points, &labels, &origins, &held, &items, &after)?;
-    check_items(rt, &races, row.races);
-    let linear = linear(rt, alloc, row)?;
+    let linear = linear(rt, alloc, locations, locks)?;
     let verdicts = solve(alloc, &points, &labels, &origins, &linear)?;
-    check_verdicts(rt, &verdicts, row.verdicts);
-    Ok(())
+    Ok(Found {
+        held,
+        items,
+        races,
+        verdicts,
+    })
 }
 
 /// A thread and its creator each take the mutex 2, read and write the location 0, and free the mutex. The id of the thread is
@@ -279,11 +295,11 @@ fn a_lock_that_both_sides_hold_guards(rt: HostRuntime) -> Result<(), Fail> {
         (Step::Unlock(2), &[13]),
         (Step::Skip, &[]),
     ];
-    let row = Row {
-        functions: &[thread, main],
-        locations: 2,
-        locks: 1,
-        at: &[
+    let found = analyse(&rt, rt.alloc(), &[thread, main], 2, 1)?;
+    check_held(
+        &rt,
+        &found.held,
+        &[
             (2, &[2]),
             (3, &[2]),
             (4, &[2]),
@@ -291,9 +307,13 @@ fn a_lock_that_both_sides_hold_guards(rt: HostRuntime) -> Result<(), Fail> {
             (11, &[2]),
             (12, &[2]),
         ],
-        keep: &[(2, &[2]), (3, &[2]), (10, &[2]), (11, &[2])],
-        out: &[],
-        items: &[
+        &[(2, &[2]), (3, &[2]), (10, &[2]), (11, &[2])],
+        &[],
+    );
+    check_items(
+        &rt,
+        &found.items,
+        &[
             (own(0, 0, 2), &[2]),
             (own(0, 0, 3), &[2]),
             (own(1, 1, 8), &[]),
@@ -302,22 +322,27 @@ fn a_lock_that_both_sides_hold_guards(rt: HostRuntime) -> Result<(), Fail> {
             (child(1, 0, 2), &[2]),
             (child(1, 0, 3), &[2]),
         ],
-        races: &[
+    );
+    check_items(
+        &rt,
+        &found.races,
+        &[
             (own(1, 0, 10), &[2]),
             (own(1, 0, 11), &[2]),
             (child(1, 0, 2), &[2]),
             (child(1, 0, 3), &[2]),
         ],
-        verdicts: &[
-            (
-                VerdictState::Guarded,
-                &[2],
-                &[(2, &[2]), (3, &[2]), (10, &[2]), (11, &[2])],
-            ),
-            (VerdictState::Unshared, &[], &[]),
-        ],
-    };
-    check(&rt, rt.alloc(), &row)
+    );
+    assert!(&rt; found.verdicts.len() == 2);
+    check_verdict(
+        &rt,
+        &found.verdicts[0],
+        VerdictState::Guarded,
+        &[2],
+        &[(2, &[2]), (3, &[2]), (10, &[2]), (11, &[2])],
+    );
+    check_unshared(&rt, &found.verdicts[1]);
+    Ok(())
 }
 
 /// The same, but the creator accesses the location once it has freed the mutex.
@@ -341,14 +366,18 @@ fn accesses_after_the_unlock_hold_nothing(rt: HostRuntime) -> Result<(), Fail> {
         (Step::Write(0), &[13]),
         (Step::Skip, &[]),
     ];
-    let row = Row {
-        functions: &[thread, main],
-        locations: 2,
-        locks: 1,
-        at: &[(2, &[2]), (3, &[2]), (4, &[2]), (10, &[2])],
-        keep: &[(2, &[2]), (3, &[2])],
-        out: &[],
-        items: &[
+    let found = analyse(&rt, rt.alloc(), &[thread, main], 2, 1)?;
+    check_held(
+        &rt,
+        &found.held,
+        &[(2, &[2]), (3, &[2]), (4, &[2]), (10, &[2])],
+        &[(2, &[2]), (3, &[2])],
+        &[],
+    );
+    check_items(
+        &rt,
+        &found.items,
+        &[
             (own(0, 0, 2), &[2]),
             (own(0, 0, 3), &[2]),
             (own(1, 1, 8), &[]),
@@ -357,22 +386,27 @@ fn accesses_after_the_unlock_hold_nothing(rt: HostRuntime) -> Result<(), Fail> {
             (child(1, 0, 2), &[2]),
             (child(1, 0, 3), &[2]),
         ],
-        races: &[
+    );
+    check_items(
+        &rt,
+        &found.races,
+        &[
             (own(1, 0, 11), &[]),
             (own(1, 0, 12), &[]),
             (child(1, 0, 2), &[2]),
             (child(1, 0, 3), &[2]),
         ],
-        verdicts: &[
-            (
-                VerdictState::Suspect,
-                &[],
-                &[(2, &[2]), (3, &[2]), (11, &[]), (12, &[])],
-            ),
-            (VerdictState::Unshared, &[], &[]),
-        ],
-    };
-    check(&rt, rt.alloc(), &row)
+    );
+    assert!(&rt; found.verdicts.len() == 2);
+    check_verdict(
+        &rt,
+        &found.verdicts[0],
+        VerdictState::Suspect,
+        &[],
+        &[(2, &[2]), (3, &[2]), (11, &[]), (12, &[])],
+    );
+    check_unshared(&rt, &found.verdicts[1]);
+    Ok(())
 }
 
 /// A callee frees the mutex, writes the location, and takes the mutex again: its caller's lock doesn't count at the
@@ -402,27 +436,40 @@ fn a_callee_that_releases_takes_the_lock_away(rt: HostRuntime) -> Result<(), Fai
         (Step::Unlock(2), &[16]),
         (Step::Skip, &[]),
     ];
-    let row = Row {
-        functions: &[callee, thread, main],
-        locations: 2,
-        locks: 1,
-        at: &[(4, &[2]), (7, &[2]), (8, &[2]), (14, &[2]), (15, &[2])],
-        keep: &[(4, &[2]), (14, &[2])],
-        out: &[(0, &[2])],
-        items: &[
+    let found = analyse(&rt, rt.alloc(), &[callee, thread, main], 2, 1)?;
+    check_held(
+        &rt,
+        &found.held,
+        &[(4, &[2]), (7, &[2]), (8, &[2]), (14, &[2]), (15, &[2])],
+        &[(4, &[2]), (14, &[2])],
+        &[(0, &[2])],
+    );
+    check_items(
+        &rt,
+        &found.items,
+        &[
             (own(0, 0, 2), &[]),
             (own(1, 0, 2), &[]),
             (own(2, 1, 12), &[]),
             (own(2, 0, 14), &[2]),
             (child(2, 0, 2), &[]),
         ],
-        races: &[(own(2, 0, 14), &[2]), (child(2, 0, 2), &[])],
-        verdicts: &[
-            (VerdictState::Suspect, &[], &[(2, &[]), (14, &[2])]),
-            (VerdictState::Unshared, &[], &[]),
-        ],
-    };
-    check(&rt, rt.alloc(), &row)
+    );
+    check_items(
+        &rt,
+        &found.races,
+        &[(own(2, 0, 14), &[2]), (child(2, 0, 2), &[])],
+    );
+    assert!(&rt; found.verdicts.len() == 2);
+    check_verdict(
+        &rt,
+        &found.verdicts[0],
+        VerdictState::Suspect,
+        &[],
+        &[(2, &[]), (14, &[2])],
+    );
+    check_unshared(&rt, &found.verdicts[1]);
+    Ok(())
 }
 
 /// The creator takes the mutex 3 on one of two ways to its write. The location 1 tells the way.
@@ -444,28 +491,35 @@ fn a_lock_on_one_way_is_not_held(rt: HostRuntime) -> Result<(), Fail> {
         (Step::Write(0), &[11]),
         (Step::Skip, &[]),
     ];
-    let row = Row {
-        functions: &[thread, main],
-        locations: 3,
-        locks: 1,
-        at: &[(2, &[3]), (3, &[3])],
-        keep: &[(2, &[3])],
-        out: &[],
-        items: &[
+    let found = analyse(&rt, rt.alloc(), &[thread, main], 3, 1)?;
+    check_held(&rt, &found.held, &[(2, &[3]), (3, &[3])], &[(2, &[3])], &[]);
+    check_items(
+        &rt,
+        &found.items,
+        &[
             (own(0, 0, 2), &[3]),
             (own(1, 2, 7), &[]),
             (own(1, 1, 8), &[]),
             (own(1, 0, 10), &[]),
             (child(1, 0, 2), &[3]),
         ],
-        races: &[(own(1, 0, 10), &[]), (child(1, 0, 2), &[3])],
-        verdicts: &[
-            (VerdictState::Suspect, &[], &[(2, &[3]), (10, &[])]),
-            (VerdictState::Unshared, &[], &[]),
-            (VerdictState::Unshared, &[], &[]),
-        ],
-    };
-    check(&rt, rt.alloc(), &row)
+    );
+    check_items(
+        &rt,
+        &found.races,
+        &[(own(1, 0, 10), &[]), (child(1, 0, 2), &[3])],
+    );
+    assert!(&rt; found.verdicts.len() == 3);
+    check_verdict(
+        &rt,
+        &found.verdicts[0],
+        VerdictState::Suspect,
+        &[],
+        &[(2, &[3]), (10, &[])],
+    );
+    check_unshared(&rt, &found.verdicts[1]);
+    check_unshared(&rt, &found.verdicts[2]);
+    Ok(())
 }
 
 /// A callee creates the thread and returns. Its caller reads the location, takes the mutex on one of two ways, and writes it.
@@ -493,14 +547,18 @@ fn a_thread_of_a_callee_races_with_its_caller(rt: HostRuntime) -> Result<(), Fai
         (Step::Write(0), &[15]),
         (Step::Skip, &[]),
     ];
-    let row = Row {
-        functions: &[thread, start, main],
-        locations: 2,
-        locks: 1,
-        at: &[(2, &[2]), (3, &[2]), (4, &[2])],
-        keep: &[(2, &[2]), (3, &[2])],
-        out: &[],
-        items: &[
+    let found = analyse(&rt, rt.alloc(), &[thread, start, main], 2, 1)?;
+    check_held(
+        &rt,
+        &found.held,
+        &[(2, &[2]), (3, &[2]), (4, &[2])],
+        &[(2, &[2]), (3, &[2])],
+        &[],
+    );
+    check_items(
+        &rt,
+        &found.items,
+        &[
             (own(0, 0, 2), &[2]),
             (own(0, 0, 3), &[2]),
             (own(1, 1, 8), &[]),
@@ -512,20 +570,25 @@ fn a_thread_of_a_callee_races_with_its_caller(rt: HostRuntime) -> Result<(), Fai
             (own(2, 0, 12), &[]),
             (own(2, 0, 14), &[]),
         ],
-        races: &[
+    );
+    check_items(
+        &rt,
+        &found.races,
+        &[
             (child(2, 0, 2), &[2]),
             (child(2, 0, 3), &[2]),
             (own(2, 0, 12), &[]),
             (own(2, 0, 14), &[]),
         ],
-        verdicts: &[
-            (
-                VerdictState::Suspect,
-                &[],
-                &[(2, &[2]), (3, &[2]), (12, &[]), (14, &[])],
-            ),
-            (VerdictState::Unshared, &[], &[]),
-        ],
-    };
-    check(&rt, rt.alloc(), &row)
+    );
+    assert!(&rt; found.verdicts.len() == 2);
+    check_verdict(
+        &rt,
+        &found.verdicts[0],
+        VerdictState::Suspect,
+        &[],
+        &[(2, &[2]), (3, &[2]), (12, &[]), (14, &[])],
+    );
+    check_unshared(&rt, &found.verdicts[1]);
+    Ok(())
 }
