@@ -5,8 +5,8 @@ usage: bench/speed.py PATH-OF-LSRACE
 
 For each number of statements it prints the seconds of both (the least of five runs), their ratio, the
 peak memory of lsrace, and how the time grew against the row before. The sources are straight lines, then
-functions with branches, loops, reads and calls; each kind first with 50 variables, then with more of them
-the more statements there are. It shows speed and proves nothing.
+functions with branches, loops, reads and calls, then deeply nested ones; each kind first with 50 variables, then
+with more of them the more statements there are. It shows speed and proves nothing.
 """
 import os
 import subprocess
@@ -105,6 +105,34 @@ def branching_body(count, names, seed):
     return lines
 
 
+def nested(statements, names, threads=10):
+    """That many statements in 40 functions: ten thread functions, each of which calls three of thirty others. Each
+    body is loops and branches inside one another, twenty deep, with sums of two variables between them, so that
+    4,000 statements have more than 25,000 control points."""
+    lines = declarations(names, threads)
+    each = (statements - threads - 3 * threads) // (4 * threads)
+    for i in range(3 * threads):
+        lines += [f"void f{i}(void) {{", *nested_body(each, names, i), "}"]
+    for i in range(threads):
+        inner = [f"  f{3 * i + k}();" for k in range(3)] + nested_body(each, names, i)
+        lines += [f"void *w{i}(void *q{i}) {{", *inner, "  return 0;", "}"]
+    lines += main_function(threads, [])
+    return "\n".join(lines) + "\n"
+
+
+def nested_body(count, names, seed):
+    """That many statements, with a loop or branch before each third of them until twenty stand inside one another."""
+    lines, open_blocks = [], 0
+    for i in range(count):
+        x = [f"x{(seed * 11 + 3 * i + k) % names}" for k in range(3)]
+        if i % 4 == 0 and open_blocks < 20:
+            lines.append(f"{'while' if open_blocks % 2 else 'if'} ({x[0]} < {x[1]}) {{")
+            open_blocks += 1
+        else:
+            lines.append(f"{x[0]} = {x[1]} + {x[2]};")
+    return lines + ["}"] * open_blocks
+
+
 def measured(command, **more):
     """The least seconds of five runs, and the peak memory in MB of the largest."""
     least, peak = None, 0
@@ -144,7 +172,7 @@ def main():
     if len(sys.argv) != 2:
         sys.exit(__doc__)
     lsrace = os.path.abspath(sys.argv[1])
-    for source, most_of in ((straight, 9), (branching, 5)):
+    for source, most_of in ((straight, 9), (branching, 5), (nested, 5)):
         table(lsrace, source, lambda statements: 50)
         table(lsrace, source, lambda statements: max(50, statements * most_of // 10))
 
