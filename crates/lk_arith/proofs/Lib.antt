@@ -1,0 +1,4 @@
+pub mod Converting
+pub mod Dividing
+pub mod Multiplying
+pub mod Ranges

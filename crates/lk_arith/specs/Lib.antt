@@ -1,0 +1,4 @@
+pub mod Conversions
+pub mod Kinds
+pub mod Operators
+pub mod Steps

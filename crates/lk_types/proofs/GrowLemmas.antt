@@ -1,0 +1,163 @@
+-- What stays as it is while a table grows.
+use Rattle.std.proofs.Common.{◌≡◌, ◌∙◌, ◌≤◌, ◌<◌, ◌+◌, ℕ, zero, suc, Bool, true, false, List, [], ◌∷◌, ◌++◌, length, map, refl, sym, ap, subst, arith, length-append, All, Option, Some, None}
+use Rattle.std.specs.List.{flat_map, slice_get}
+use Rattle.std.specs.Prelude.{unwrap_or, if◌then◌else◌, ◌||◌}
+use Rattle.std.proofs.lemmas.List.Elements.{All-nil, All-cons, All-head, All-tail, All-weaker}
+use Rattle.lk_types.specs.Building.{IsTable, IsType, IsLonger, IsMadeOf, IsClosed, IsClosedForm, types_of}
+use Rattle.lk_types.specs.Sizes.{size_at, form_size, size_of_parts, is_too_large}
+use Rattle.lk_types.specs.Laws.{OlderWalksStay, PredeclaredStay, LongerIsTransitive}
+use Rattle.lk_types.specs.Table.{Table, type_at, least_of, members_of, fields_of, IsKnown, is_open, is_empty}
+use Rattle.lk_types.specs.Walks.{Branch, Entry, target, branches, fields, has_tag, holds, holds_within, holds_struct, is_void, walk, nodes, most_steps, start, below_start, at_branch}
+use Rattle.lk_types.specs.declared.c_type.CType.{CType}
+use Rattle.lk_types.specs.declared.c_type.CType.TheVariants.{Void, Int, ThreadId, Mutex, Cond, Pointer, Array, Struct, Function, Opaque}
+use Rattle.lk_types.proofs.Entries.{OfParts, size_of, same_sizes}
+use Rattle.lk_types.proofs.Fuel.{same_below, walk_suc}
+use Rattle.lk_types.proofs.PartLemmas.{target_by, parts_of_table}
+
+pub get_before : {X : Type 0} (xs ys : List X) (i : ℕ) → i < length xs → slice_get (xs ++ ys) i ≡ slice_get xs i
+get_before [] ys i within = absurd (omega arith)
+get_before (x ∷ xs) ys zero within = refl
+get_before (x ∷ xs) ys (suc i) within = get_before xs ys i (omega arith)
+
+-- whether forms hold structs is the same by two functions that agree on what they are made of
+pub holds_agree : (f g : ℕ → Bool) (table : Table) (t : ℕ) (form : CType) → IsMadeOf table t form → ((u : ℕ) → u < t → f u ≡ g u) → holds f form ≡ holds g form
+holds_agree f g table t Void made agree = refl
+holds_agree f g table t (Int kind) made agree = refl
+holds_agree f g table t ThreadId made agree = refl
+holds_agree f g table t Mutex made agree = refl
+holds_agree f g table t Cond made agree = refl
+holds_agree f g table t (Pointer u) made agree = refl
+holds_agree f g table t (Array u n) made agree = agree u made
+holds_agree f g table t (Struct s) made agree = refl
+holds_agree f g table t (Function result params dots) made agree = refl
+holds_agree f g table t (Opaque n) made agree = refl
+
+module _ (old new : Table) (good : IsTable old) (longer : IsLonger old new) where
+  pub type_same : (t : ℕ) → IsKnown old t → type_at new t ≡ type_at old t
+  type_same t known = ap (λ o. unwrap_or o Void) (ap (λ types. slice_get types t) longer.types.1 ∙ get_before old.types longer.types.0 t known)
+
+  pub least_same : (t : ℕ) → IsKnown old t → least_of new t ≡ least_of old t
+  least_same t known = ap (λ o. unwrap_or o t) (ap (λ least. slice_get least t) longer.least.1 ∙ get_before old.least longer.least.0 t (omega (arith, good.leasts, known)))
+
+  pub known_same : (t : ℕ) → IsKnown old t → IsKnown new t
+  known_same t known = omega (arith, known, ap length longer.types.1, length-append old.types longer.types.0)
+
+  holds_same : (d t : ℕ) → IsKnown old t → holds_within d new t ≡ holds_within d old t
+  unfolding holds_within
+  holds_same zero t known = refl
+  holds_same (suc d) t known =
+      ap (holds (holds_within d new)) (type_same t known) ∙
+      holds_agree (holds_within d new) (holds_within d old) old t (type_at old t) (good.types t known).made_of (λ u less. holds_same d u (omega arith))
+
+  pub holds_struct_same : (t : ℕ) → IsKnown old t → holds_struct new t ≡ holds_struct old t
+  holds_struct_same t known = holds_same (suc t) t known
+
+  pub has_tag_same : (t : ℕ) → IsKnown old t → has_tag new t ≡ has_tag old t
+  has_tag_same t known = ap (λ form. is_void form || holds_struct new t) (type_same t known) ∙ ap (λ b. is_void (type_at old t) || b) (holds_struct_same t known)
+
+  pub target_same : (t : ℕ) → IsKnown old t → target new t ≡ target old t
+  target_same t known = ap (λ tag. target_by tag (least_of new t) t) (has_tag_same t known) ∙ ap (λ least. target_by (has_tag old t) least t) (least_same t known)
+
+  -- the members of the struct are the same, where the type is one
+  abbrev pub IsOwn : CType → Type 0
+  IsOwn form = (s : ℕ) → form ≡ Struct s → members_of new s ≡ members_of old s
+
+  pub own_closed : (form : CType) → IsClosedForm old form → IsOwn form
+  own_closed form closed s is = longer.members s (subst (IsClosedForm old) is closed)
+
+  -- what a form is made of is known
+  abbrev pub IsOfKnown : CType → Type 0
+  IsOfKnown form = (u : ℕ) → form ≡ Pointer u → IsKnown old u
+
+  pub branches_by : (form : CType) → IsOfKnown form → IsOwn form → branches new form ≡ branches old form
+  branches_by Void known own = refl
+  branches_by (Int kind) known own = refl
+  branches_by ThreadId known own = refl
+  branches_by Mutex known own = refl
+  branches_by Cond known own = refl
+  branches_by (Pointer u) known own = ap (λ b. b ∷ []) (target_same u (known u refl))
+  branches_by (Array u n) known own = refl
+  branches_by (Struct s) known own = ap (λ members. fields 0 (types_of members)) (own s refl)
+  branches_by (Function result params dots) known own = refl
+  branches_by (Opaque n) known own = refl
+
+  pub of_known : (t : ℕ) → IsKnown old t → IsOfKnown (type_at old t)
+  of_known t known u is = let made = subst (IsMadeOf old t) is (good.types t known).made_of in omega (arith, made, known)
+
+  pub branches_same : (t : ℕ) → IsKnown old t → IsOwn (type_at old t) → branches new (type_at old t) ≡ branches old (type_at old t)
+  branches_same t known own = branches_by (type_at old t) (of_known t known) own
+
+  walk_same : (d t : ℕ) → IsKnown old t → IsOwn (type_at old t) → walk d new t ≡ walk d old t
+  unfolding walk
+  walk_same zero t known own = refl
+  walk_same (suc d) t known own =
+      let form = type_at old t in
+      ap (λ es. start t ∷ es)
+      (ap (below_start (walk d new) new) (type_same t known) ∙
+      ap (flat_map (at_branch (walk d new))) (branches_same t known own) ∙
+      same_below (walk d new) (walk d old) (branches old form)
+      (λ k b within plain. let part = parts_of_table old good t known k b within plain in walk_same d _ part.0 (own_closed (type_at old _) part.1)))
+
+  pub nodes_same : (t : ℕ) → IsKnown old t → IsOwn (type_at old t) → nodes new t ≡ nodes old t
+  nodes_same t known own = walk_same most_steps t known own
+
+  pub size_same : (t : ℕ) → IsKnown old t → IsOwn (type_at old t) → size_at new t ≡ size_at old t
+  size_same t known own = ap size_of (nodes_same t known own)
+
+  -- the size of parts that are known and closed
+  pub parts_size_same : (bs : List Branch) → OfParts (λ u. IsKnown old u × IsClosed old u) bs → size_of_parts (size_at new) bs ≡ size_of_parts (size_at old) bs
+  parts_size_same bs all = same_sizes (size_at new) (size_at old) bs (λ k b within plain. let part = all k b within plain in size_same _ part.0 (own_closed (type_at old _) part.1))
+
+  pub form_size_by : (form : CType) → branches new form ≡ branches old form → OfParts (λ u. IsKnown old u × IsClosed old u) (branches old form) → form_size new form ≡ form_size old form
+  form_size_by form same all = ap (size_of_parts (size_at new)) same ∙ parts_size_same (branches old form) all
+
+  pub closed_grown : (form : CType) → IsClosedForm old form → IsClosedForm new form
+  closed_grown Void closed = tt
+  closed_grown (Int kind) closed = tt
+  closed_grown ThreadId closed = tt
+  closed_grown Mutex closed = tt
+  closed_grown Cond closed = tt
+  closed_grown (Pointer u) closed = tt
+  closed_grown (Array u n) closed = tt
+  closed_grown (Struct s) closed = ap is_empty (longer.members s closed) ∙ closed
+  closed_grown (Function result params dots) closed = tt
+  closed_grown (Opaque n) closed = tt
+
+  pub closed_same : (t : ℕ) → IsKnown old t → IsClosed old t → IsClosed new t
+  closed_same t known closed = subst (IsClosedForm new) (sym (type_same t known)) (closed_grown (type_at old t) closed)
+
+  -- what was made of known types is so in the later table
+  pub made_grown : (t : ℕ) (form : CType) → IsOwn form → IsMadeOf old t form → IsMadeOf new t form
+  made_grown t Void own made = tt
+  made_grown t (Int kind) own made = tt
+  made_grown t ThreadId own made = tt
+  made_grown t Mutex own made = tt
+  made_grown t Cond own made = tt
+  made_grown t (Pointer u) own made = made
+  made_grown t (Array u n) own made = made
+  made_grown t (Struct s) own made = (
+    omega (arith, made.0, longer.structs),
+    subst (λ members. All (IsKnown new) (types_of members)) (sym (own s refl)) (All-weaker (IsKnown old) (IsKnown new) (λ u known. known_same u known) (types_of (members_of old s)) made.1),
+  )
+  made_grown t (Function result params dots) own made = made
+  made_grown t (Opaque n) own made = tt
+
+  -- the parts of a form that are closed stay so
+  pub closed_parts : (form : CType) → branches new form ≡ branches old form → OfParts (λ u. IsKnown old u × IsClosed old u) (branches old form) → OfParts (IsClosed new) (branches new form)
+  closed_parts form same all = subst (OfParts (IsClosed new)) (sym same) (λ k b within plain. let part = all k b within plain in closed_same _ part.0 part.1)
+
+  -- a form whose parts are known and closed makes a type of the later table
+  pub type_from : (t : ℕ) (form : CType) → type_at new t ≡ form → IsMadeOf new t form → branches new form ≡ branches old form → OfParts (λ u. IsKnown old u × IsClosed old u) (branches old form) →
+      is_too_large (form_size old form) ≡ false → IsType new t
+  type_from t form is made same all small =
+      subst (λ f. IsMadeOf new t f → OfParts (IsClosed new) (branches new f) → is_too_large (form_size new f) ≡ false → IsType new t) is
+      (λ made closed small. record { made_of = made; closed = closed; small = small })
+      made (closed_parts form same all) (ap is_too_large (form_size_by form same all) ∙ small)
+
+  pub type_grown : (t : ℕ) → IsKnown old t → IsOwn (type_at old t) → IsType new t
+  type_grown t known own =
+      let type = good.types t known in
+      type_from t (type_at old t) (type_same t known) (made_grown t (type_at old t) own type.made_of) (branches_same t known own) (parts_of_table old good t known) type.small
+
+pub older_walks_stay : OlderWalksStay
+older_walks_stay old new good longer t known closed = nodes_same old new good longer t known (own_closed old new good longer (type_at old t) closed)

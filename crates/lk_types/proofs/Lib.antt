@@ -1,0 +1,16 @@
+pub mod Entries
+pub mod Fuel
+pub mod PlaceLemmas
+pub mod PathLemmas
+pub mod PartLemmas
+pub mod GrowLemmas
+pub mod SubwalkLemmas
+pub mod FormEq
+pub mod KeptLemmas
+pub mod AlikeLemmas
+pub mod RestLemmas
+pub mod NodeLemmas
+pub mod SizeLemmas
+pub mod AddLemmas
+pub mod CompleteLemmas
+pub mod NewLemmas

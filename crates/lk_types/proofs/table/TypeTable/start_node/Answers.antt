@@ -1,0 +1,9 @@
+use Rattle.lk_types.specs.declared.node.Base.TheVariants.{Start}
+use Rattle.lk_types.proofs.NodeLemmas.{first_node, first_is_node}
+use Rattle.lk_types.proofs.table.TypeTable.start_node.Goals as goal
+
+pub returns-clause-node : goal.returns-clause-node
+returns-clause-node c = first_is_node c.args.self.now (Start c.args.t) c.requires
+
+pub returns-clause-first : goal.returns-clause-first
+returns-clause-first c = first_node c.args.self.now (Start c.args.t)

@@ -1,0 +1,12 @@
+pub mod Table
+pub mod Walks
+pub mod Sizes
+pub mod Nodes
+pub mod Equal
+pub mod Building
+pub mod Objects
+pub mod Kept
+pub mod Forms
+pub mod Places
+pub mod Predeclared
+pub mod Laws

@@ -1,0 +1,87 @@
+//! The forms of types.
+ghost use Rattle.std.specs.Prelude.{◌≡◌, IfOk};
+ghost use Rattle.lk_types.specs.Table.{struct_of};
+
+use crate::type_id::TypeId;
+use crate::type_ids::TypeIds;
+use lk_base::{Kind, NoMemory};
+
+/// A type of C (C99 6.2.5) by its form; the types that it is made of are numbers in the same table.
+///
+/// Qualifiers count nowhere, and an enumeration is `int`.
+#[derive(Debug, Drop, PartialEq, Eq, Hash)]
+pub enum CType {
+    /// `void`.
+    Void,
+    /// An integer type.
+    Int(Kind),
+    /// `pthread_t`.
+    ThreadId,
+    /// `pthread_mutex_t`.
+    Mutex,
+    /// `pthread_cond_t`.
+    Cond,
+    /// A pointer to a type.
+    Pointer(TypeId),
+    /// An array of elements of a type, and how many there are; 0 stands for no size.
+    Array(TypeId, u64),
+    /// The struct with this number. Its members stand in the table.
+    Struct(u32),
+    /// A function.
+    Function {
+        /// What it returns.
+        result: TypeId,
+        /// The types of its parameters.
+        params: TypeIds,
+        /// Whether further arguments may follow (`...`).
+        dots: bool,
+    },
+    /// A type that is never complete, as that of `pthread_attr_t`. Different numbers are different types.
+    Opaque(u32),
+}
+
+impl CType {
+    /// The number of the struct, where the type is one.
+    pub fn struct_number(&self) -> Option<u32>
+        ensures { result ≡ struct_of self.now }
+    {
+        match self {
+            CType::Struct(number) => Some(*number),
+            CType::Void
+            | CType::Int(_)
+            | CType::ThreadId
+            | CType::Mutex
+            | CType::Cond
+            | CType::Pointer(_)
+            | CType::Array(_, _)
+            | CType::Function { .. }
+            | CType::Opaque(_) => None,
+        }
+    }
+
+    /// An equal type.
+    pub fn copy(&self) -> Result<CType, NoMemory>
+        ensures { IfOk result (λ form. form ≡ self.now) }
+    {
+        Ok(match self {
+            CType::Void => CType::Void,
+            CType::Int(kind) => CType::Int(*kind),
+            CType::ThreadId => CType::ThreadId,
+            CType::Mutex => CType::Mutex,
+            CType::Cond => CType::Cond,
+            CType::Pointer(target) => CType::Pointer(*target),
+            CType::Array(element, size) => CType::Array(*element, *size),
+            CType::Struct(number) => CType::Struct(*number),
+            CType::Function {
+                result,
+                params,
+                dots,
+            } => CType::Function {
+                result: *result,
+                params: params.copy()?,
+                dots: *dots,
+            },
+            CType::Opaque(number) => CType::Opaque(*number),
+        })
+    }
+}
