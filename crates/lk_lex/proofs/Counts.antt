@@ -52,7 +52,12 @@ greatest_fits k.Long = omega arith
 greatest_fits k.ULong = omega arith
 greatest_fits k.LLong = omega arith
 greatest_fits k.ULLong = omega arith
-greatest_fits _ = omega arith
+greatest_fits k.Bool = omega arith
+greatest_fits k.Char = omega arith
+greatest_fits k.SChar = omega arith
+greatest_fits k.UChar = omega arith
+greatest_fits k.Short = omega arith
+greatest_fits k.UShort = omega arith
 
 none_holds : (value : ℕ) (kinds : List Kind) → ¬ (value < 2 ^ 64) → find (λ kind. nat_le value (greatest kind)) kinds ≡ None
 none_holds value [] great = refl

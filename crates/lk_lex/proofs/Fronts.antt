@@ -11,7 +11,7 @@ use Rattle.lk_lex.specs.declared.punct.Punct.TheVariants as p
 use Rattle.lk_lex.specs.Front.{closes, comment_len, begins_number}
 use Rattle.lk_lex.specs.Lengths.{IsWithin}
 use Rattle.lk_lex.specs.Numbers.{goes_on, number_len}
-use Rattle.lk_lex.specs.Punctuators.{spelling, beginning_with, punct_in_front}
+use Rattle.lk_lex.specs.Punctuators.{spelling, punctuators, punct_in_front}
 use Rattle.lk_lex.proofs.Quoting.{more}
 
 pub comment_len-close : (before : ℕ) (bytes : List ℕ) (i : ℕ) → i < length bytes → closes before (get_or bytes i 0) ≡ true
@@ -76,8 +76,7 @@ some_bytes _ = omega arith
 -- a punctuator in front has bytes, which are there
 pub punct-within : (bytes : List ℕ) (punct : Punct) → punct_in_front bytes ≡ Some punct → IsWithin (length bytes) (length (spelling punct))
 unfolding punct_in_front
-punct-within [] punct found = absurd cc
-punct-within (b ∷ bs) punct found = record {
+punct-within bytes punct found = record {
   some = some_bytes punct;
-  fits = starts-within (spelling punct) (b ∷ bs) (find-passes (λ p. starts_with nat_eq (b ∷ bs) (spelling p)) (beginning_with b) punct found);
+  fits = starts-within (spelling punct) bytes (find-passes (λ p. starts_with nat_eq bytes (spelling p)) punctuators punct found);
 }

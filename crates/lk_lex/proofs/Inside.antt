@@ -1,125 +1,32 @@
--- Where tokens stand: inside the source, words with at most 255 bytes, in files that have names.
-use Rattle.std.proofs.Common.{◌≡◌, ℕ, zero, suc, ◌+◌, ◌<◌, ◌≤◌, Bool, true, false, not, ◌||◌, ◌==◌, cond, nat_eq, nat_le, nat_lt, if◌then◌else◌, List, [], ◌∷◌, ◌++◌, length, take, drop, codes, get_or, Option, Some, None, refl, sym, ap, subst, ◌∙◌, arith}
+-- What a list of tokens keeps: where its tokens stand, what their bytes are, their order and their files.
+use Rattle.std.proofs.Common.{◌≡◌, ℕ, zero, suc, ◌+◌, ◌-◌, ◌<◌, ◌≤◌, Bool, true, false, not, ◌||◌, min, ◌==◌, cond, nat_eq, if◌then◌else◌, List, [], ◌∷◌, ◌++◌, length, take, drop, get_or, Option, Some, None, refl, sym, ap, subst, ◌∙◌, arith}
 use Rattle.std.specs.Cmp.Lexicographic.{pointwise}
-use Rattle.std.specs.List.{All, position_or_len, starts_with}
-use Rattle.std.specs.Option.{option_map_or}
-use Rattle.std.proofs.lemmas.Bool.{leb-true, true≢false, or_right}
-use Rattle.std.proofs.lemmas.Bool.Decides.{nat_tests}
-use Rattle.std.proofs.lemmas.List.{length-append, length-take, take-append-drop}
+use Rattle.std.specs.List.{All, AllPairs, position_or_len}
+use Rattle.std.proofs.lemmas.List.{drop-drop, length-append, length-drop, length-take, take-append-drop}
+use Rattle.std.proofs.lemmas.List.Kept.{AllPairs-cons}
 use Rattle.lk_base.specs.Files.{has_name, with_name}
 use Rattle.lk_base.specs.declared.code.Code.{Code}
 use Rattle.lk_base.specs.declared.spot.Spot.{Spot}
-use Rattle.lk_lex.specs.declared.front.Front.{Front}
-use Rattle.lk_lex.specs.declared.front.Front.TheVariants as f
-use Rattle.lk_lex.specs.declared.mark.Directive.{Directive}
-use Rattle.lk_lex.specs.declared.mark.Directive.TheVariants as d
 use Rattle.lk_lex.specs.declared.mark.Mark.{Mark}
-use Rattle.lk_lex.specs.declared.number.Number.{Number}
 use Rattle.lk_lex.specs.declared.place.Place.{Place}
-use Rattle.lk_lex.specs.declared.punct.Punct.{Punct}
-use Rattle.lk_lex.specs.declared.quoted.Item.{Item}
 use Rattle.lk_lex.specs.declared.token.Token.{Token}
 use Rattle.lk_lex.specs.declared.token.TokenKind.{TokenKind}
 use Rattle.lk_lex.specs.declared.token.TokenKind.TheVariants as k
-use Rattle.lk_lex.specs.Answer.{is_word, IsInside}
-use Rattle.lk_lex.specs.declared.quoted.Quotation.TheVariants as q
-use Rattle.lk_lex.specs.Bytes.{is_blank, word_len, line_len}
-use Rattle.lk_lex.specs.Characters.{as_signed, character, quoted_len}
-use Rattle.lk_lex.specs.Front.{cut, piece, word_front, word_kind, is_wide, number_front, character_front, text_front, comment_front, punct_front, hash_front, directive_front, begins_number, comment_len}
-use Rattle.lk_lex.specs.Marks.{directive}
-use Rattle.lk_lex.specs.Numbers.{number_len, number_of}
-use Rattle.lk_lex.specs.Punctuators.{spelling, is_digraph_in_front, punct_in_front}
-use Rattle.lk_lex.specs.Tokens.{Splits, ends, gap, line_mark, token, Stops, nothing, broken, past_gap, past_mark, past_token, start_of, after, after_byte, after_line, after_column, names_with, file_of, marked}
+use Rattle.lk_lex.specs.Answer.{AreTokens, text_of}
+use Rattle.lk_lex.specs.TokenList.{IsInside, IsSpelled, IsEnded, AreTokensOf, is_end}
+use Rattle.lk_lex.specs.Tokens.{Splits, ends, gap, line_mark, token, Stops, nothing, broken, past_gap, past_mark, past_token, start_of, after, after_byte, after_line, after_column, names_with, file_of, marked, token_at}
+use Rattle.lk_lex.proofs.InFront.{IsRead, token_read}
 use Rattle.lk_lex.proofs.Splitting.{after-at}
 
--- whether a word in front has at most 255 bytes
-is_short : Front → Bool
-is_short f.Nothing = true
-is_short f.Broken = true
-is_short (f.Gap n) = true
-is_short (f.Mark n mark) = true
-is_short (f.Token n kind) = not (is_word kind) || nat_le n 255
+take_taken : (n : ℕ) (xs : List ℕ) → take (length (take n xs)) xs ≡ take n xs
+take_taken zero xs = refl
+take_taken (suc n) [] = refl
+take_taken (suc n) (x ∷ xs) = ap (λ ys. x ∷ ys) (take_taken n xs)
 
-either : (b : Bool) (x y : Front) → is_short x ≡ true → is_short y ≡ true → is_short (if b then x else y) ≡ true
-either true x y first second = first
-either false x y first second = second
-
-short_gap : (n : ℕ) → is_short (f.Gap n) ≡ true
-unfolding is_short
-short_gap n = refl
-
-short_broken : is_short f.Broken ≡ true
-unfolding is_short
-short_broken = refl
-
-short_nothing : is_short f.Nothing ≡ true
-unfolding is_short
-short_nothing = refl
-
-short_word_front : (bytes : List ℕ) → is_short (word_front bytes) ≡ true
-unfolding word_front is_short
-short_word_front bytes = by (nat_lt 255 n) refl
-  where
-    n : ℕ
-    n = word_len bytes
-
-    by : (long : Bool) → nat_lt 255 n ≡ long → is_short (if long || is_wide (take n bytes) (drop n bytes) then f.Broken else f.Token n (word_kind (take n bytes))) ≡ true
-    by true e = refl
-    by false e = let fits : nat_le n 255 ≡ true = grind (arith, nat_tests) in either (is_wide (take n bytes) (drop n bytes)) f.Broken _ refl (or_right _ _ fits)
-
-short_number : (n : ℕ) (o : Option Number) → is_short (option_map_or (λ number. f.Token n (k.Number number.kind number.value)) o f.Broken) ≡ true
-unfolding is_short
-short_number n None = refl
-short_number n (Some number) = refl
-
-short_character : (o : Option Item) → is_short (option_map_or (λ first. f.Token (first.len + 2) (k.Char (as_signed first.value))) o f.Broken) ≡ true
-unfolding is_short
-short_character None = refl
-short_character (Some first) = refl
-
-short_text : (o : Option ℕ) → is_short (option_map_or (λ n. f.Token (n + 1) k.Text) o f.Broken) ≡ true
-unfolding is_short
-short_text None = refl
-short_text (Some n) = refl
-
-short_comment : (o : Option ℕ) → is_short (option_map_or (λ n. f.Gap (n + 2)) o f.Broken) ≡ true
-unfolding is_short
-short_comment None = refl
-short_comment (Some n) = refl
-
-short_punct : (o : Option Punct) → is_short (option_map_or (λ punct. f.Token (length (spelling punct)) (k.Punct punct)) o f.Nothing) ≡ true
-unfolding is_short
-short_punct None = refl
-short_punct (Some punct) = refl
-
-short_directive : (n : ℕ) (o : Option Directive) → is_short (directive_front n o) ≡ true
-unfolding is_short
-short_directive n None = refl
-short_directive n (Some d.Pragma) = refl
-short_directive n (Some (d.Mark mark)) = refl
-
-short_piece : (bytes : List ℕ) → is_short (piece bytes) ≡ true
-unfolding piece number_front character_front text_front comment_front punct_front
-short_piece bytes =
-    either (begins_number bytes) _ _ (short_number (number_len 0 bytes) (number_of (take (number_len 0 bytes) bytes)))
-    (either (nat_lt 0 (word_len bytes)) _ _ (short_word_front bytes)
-    (either (starts_with nat_eq bytes (codes "'")) _ _ (short_character (character (drop 1 bytes)))
-    (either (starts_with nat_eq bytes (codes "\"")) _ _ (short_text (quoted_len q.Text 0 (drop 1 bytes)))
-    (either (starts_with nat_eq bytes (codes "//")) _ _ (short_gap (line_len bytes))
-    (either (starts_with nat_eq bytes (codes "/*")) _ _ (short_comment (comment_len 0 (drop 2 bytes)))
-    (either (is_digraph_in_front bytes) _ _ short_broken (short_punct (punct_in_front bytes))))))))
-
-short_cut : (fresh : Bool) (bytes : List ℕ) → is_short (cut fresh bytes) ≡ true
-unfolding cut hash_front
-short_cut fresh [] = short_nothing
-short_cut fresh (c ∷ cs) =
-    either (is_blank c) _ _ (short_gap 1)
-    (either (c == 35) _ _ (either fresh _ _ (short_directive (line_len cs + 1) (directive (take (line_len cs) cs))) short_nothing) (short_piece (c ∷ cs)))
-
-short_word : (fresh : Bool) (bytes : List ℕ) (n : ℕ) (kind : TokenKind) → cut fresh bytes ≡ f.Token n kind → is_word kind ≡ true → n ≤ 255
-unfolding is_short
-short_word fresh bytes n kind e word =
-    let short : (not (is_word kind) || nat_le n 255) ≡ true = ap is_short (sym e) ∙ short_cut fresh bytes in leb-true n 255 (rw word at short)
+drop_taken : (n : ℕ) (xs : List ℕ) → drop (length (take n xs)) xs ≡ drop n xs
+drop_taken zero xs = refl
+drop_taken (suc n) [] = refl
+drop_taken (suc n) (x ∷ xs) = drop_taken n xs
 
 -- how many bytes there are up to the end
 whole : (place : Place) (n : ℕ) (bytes : List ℕ) → (after place (take n bytes)).at + length (drop n bytes) ≡ place.at + length bytes
@@ -127,24 +34,128 @@ whole place n bytes =
     let parts : length (take n bytes ++ drop n bytes) ≡ length bytes = ap length (take-append-drop n bytes) in
     omega (arith, after-at (take n bytes) place, parts, length-append (take n bytes) (drop n bytes))
 
-inside_at : {names last : List (List ℕ)} {place : Place} {bytes : List ℕ} {tokens : List Token} → Splits names place bytes tokens last
-    → (i : ℕ) (d : Token) → i < length tokens → IsInside (place.at + length bytes) (get_or tokens i d)
-inside_at ends zero d there = record { ordered = omega arith; fits = omega arith; short = λ word. absurd (true≢false (sym word)) }
-inside_at ends (suc i) d there = absurd (omega arith)
-inside_at {place = place} {tokens = tokens} (gap {b = b} {bs = bs} n e s) i d there =
-    subst (λ m. IsInside m (get_or tokens i d)) (whole place n (b ∷ bs)) (inside_at s i d there)
-inside_at {place = place} {tokens = tokens} (line_mark {b = b} {bs = bs} n mark e s) i d there =
-    subst (λ m. IsInside m (get_or tokens i d)) (whole place n (b ∷ bs)) (inside_at s i d there)
-inside_at {place = place} (token {b = b} {bs = bs} n kind e s) zero d there =
+-- the bytes are what is left of the source from the place on
+record IsLeft (source : List ℕ) (place : Place) (bytes : List ℕ) : Type 0 where
+  rest : bytes ≡ drop place.at source
+  left : place.at + length bytes ≡ length source
+
+left_behind : (source : List ℕ) (place : Place) (bytes : List ℕ) (n : ℕ) → IsLeft source place bytes → IsLeft source (after place (take n bytes)) (drop n bytes)
+left_behind source place bytes n is = record {
+  rest =
+      sym (drop_taken n bytes) ∙ ap (drop (length (take n bytes))) is.rest ∙ drop-drop (length (take n bytes)) place.at source
+      ∙ ap (λ m. drop m source) (sym (after-at (take n bytes) place));
+  left = whole place n bytes ∙ is.left;
+}
+
+-- a token's numbers and its bytes
+record Stands (source : List ℕ) (token : Token) : Type 0 where
+  inside : IsInside (length source) token
+  spelled : IsSpelled (text_of source token) token.kind
+
+end_stands : (source : List ℕ) (place : Place) → IsLeft source place [] → Stands source (token_at place place k.End)
+end_stands source place is = record {
+  inside = record { ordered = omega arith; some = λ e. absurd cc; fits = omega (arith, is.left); short = λ word. absurd cc };
+  spelled = none (place.at - place.at) (omega arith);
+}
+  where
+    none : (n : ℕ) → n ≡ 0 → take n (drop place.at source) ≡ []
+    none n empty = rw empty refl
+
+token_stands : (source : List ℕ) (place : Place) (b : ℕ) (bs : List ℕ) (n : ℕ) (kind : TokenKind) → IsLeft source place (b ∷ bs) → IsRead (b ∷ bs) n kind
+    → Stands source (token_at place (after place (take n (b ∷ bs))) kind)
+token_stands source place b bs n kind is read =
     let at : (after place (take n (b ∷ bs))).at ≡ place.at + length (take n (b ∷ bs)) = after-at (take n (b ∷ bs)) place in
     let sum = whole place n (b ∷ bs) in
-    record { ordered = omega (arith, at); fits = omega (arith, sum); short = λ word. omega (arith, at, length-take n (b ∷ bs), short_word place.fresh (b ∷ bs) n kind e word) }
-inside_at {place = place} (token {b = b} {bs = bs} {tokens = tokens} n kind e s) (suc i) d there =
-    subst (λ m. IsInside m (get_or tokens i d)) (whole place n (b ∷ bs)) (inside_at s i d (omega arith))
+    let taken : length (take n (b ∷ bs)) ≡ min n (length (b ∷ bs)) = length-take n (b ∷ bs) in
+    let wide : (after place (take n (b ∷ bs))).at - place.at ≡ length (take n (b ∷ bs)) = omega (arith, at) in
+    let text : take ((after place (take n (b ∷ bs))).at - place.at) (drop place.at source) ≡ take n (b ∷ bs) =
+    ap (λ m. take m (drop place.at source)) wide ∙ ap (take (length (take n (b ∷ bs)))) (sym is.rest) ∙ take_taken n (b ∷ bs) in
+    record {
+      inside = record {
+        ordered = omega (arith, at);
+        some = λ e. omega (arith, at, taken, read.some);
+        fits = omega (arith, sum, is.left);
+        short = λ word. omega (arith, at, taken, read.short word);
+      };
+      spelled = subst (λ t. IsSpelled t kind) (sym text) read.spelled;
+    }
+
+stands_at : {names last : List (List ℕ)} {place : Place} {bytes : List ℕ} {tokens : List Token} (source : List ℕ) → Splits names place bytes tokens last → IsLeft source place bytes
+    → (i : ℕ) (d : Token) → i < length tokens → Stands source (get_or tokens i d)
+stands_at {place = place} source ends is zero d there = end_stands source place is
+stands_at source ends is (suc i) d there = absurd (omega arith)
+stands_at {place = place} source (gap {b = b} {bs = bs} n e s) is i d there = stands_at source s (left_behind source place (b ∷ bs) n is) i d there
+stands_at {place = place} source (line_mark {b = b} {bs = bs} n mark e s) is i d there =
+    let behind = left_behind source place (b ∷ bs) n is in stands_at source s (record { rest = behind.rest; left = behind.left }) i d there
+stands_at {place = place} source (token {b = b} {bs = bs} n kind e s) is zero d there = token_stands source place b bs n kind is (token_read place.fresh (b ∷ bs) n kind e)
+stands_at {place = place} source (token {b = b} {bs = bs} n kind e s) is (suc i) d there = stands_at source s (left_behind source place (b ∷ bs) n is) i d (omega arith)
+
+start_left : (own : ℕ) (source : List ℕ) → IsLeft source (start_of own) source
+start_left own source = record { rest = refl; left = omega arith }
 
 pub splits_inside : {names last : List (List ℕ)} {own : ℕ} {bytes : List ℕ} {tokens : List Token} → Splits names (start_of own) bytes tokens last → All (IsInside (length bytes)) tokens
-splits_inside {bytes = bytes} {tokens = tokens} s i d there =
-    let same : 0 + length bytes ≡ length bytes = omega arith in subst (λ m. IsInside m (get_or tokens i d)) same (inside_at s i d there)
+splits_inside {own = own} {bytes = bytes} s i d there = (stands_at bytes s (start_left own bytes) i d there).inside
+
+splits_spelled : {names last : List (List ℕ)} {own : ℕ} {bytes : List ℕ} {tokens : List Token} → Splits names (start_of own) bytes tokens last
+    → All (λ token. IsSpelled (text_of bytes token) token.kind) tokens
+splits_spelled {own = own} {bytes = bytes} s i d there = (stands_at bytes s (start_left own bytes) i d there).spelled
+
+-- tokens stand behind the place from which they are split
+from_at : {names last : List (List ℕ)} {place : Place} {bytes : List ℕ} {tokens : List Token} → Splits names place bytes tokens last
+    → (i : ℕ) (d : Token) → i < length tokens → place.at ≤ (get_or tokens i d).from
+from_at ends zero d there = omega arith
+from_at ends (suc i) d there = absurd (omega arith)
+from_at {place = place} (gap {b = b} {bs = bs} n e s) i d there = omega (arith, from_at s i d there, after-at (take n (b ∷ bs)) place)
+from_at {place = place} (line_mark {b = b} {bs = bs} n mark e s) i d there = omega (arith, from_at s i d there, after-at (take n (b ∷ bs)) place)
+from_at (token n kind e s) zero d there = omega arith
+from_at {place = place} (token {b = b} {bs = bs} n kind e s) (suc i) d there =
+    omega (arith, from_at s i d (omega arith), after-at (take n (b ∷ bs)) place)
+
+-- tokens stand in their order, apart from one another
+splits_apart : {names last : List (List ℕ)} {place : Place} {bytes : List ℕ} {tokens : List Token} → Splits names place bytes tokens last → AllPairs (λ first later. first.to ≤ later.from) tokens
+splits_apart (ends {place = place}) = λ i j d before there. absurd (omega arith)
+splits_apart (gap n e s) = splits_apart s
+splits_apart (line_mark n mark e s) = splits_apart s
+splits_apart {place = place} (token {b = b} {bs = bs} {tokens = tokens} n kind e s) =
+    AllPairs-cons (λ first later. first.to ≤ later.from) (token_at place (after place (take n (b ∷ bs))) kind) tokens (λ i d there. from_at s i d there) (splits_apart s)
+
+ended_token : (bytes : ℕ) (first : Token) (tokens : List Token) → is_end first.kind ≡ false → IsEnded bytes tokens → IsEnded bytes (first ∷ tokens)
+ended_token bytes first tokens plain is = record {
+  before = first ∷ is.before;
+  last = is.last;
+  all = ap (λ others. first ∷ others) is.all;
+  only = all_front;
+  end = is.end;
+  from = is.from;
+  to = is.to;
+}
+  where
+    all_front : All (λ token. is_end token.kind ≡ false) (first ∷ is.before)
+    all_front zero d there = plain
+    all_front (suc i) d there = is.only i d (omega arith)
+
+-- the last token is End
+splits_ended : {names last : List (List ℕ)} {place : Place} {bytes : List ℕ} {tokens : List Token} (all : ℕ) → Splits names place bytes tokens last → place.at + length bytes ≡ all → IsEnded all tokens
+splits_ended {place = place} all ends left = record {
+  before = [];
+  last = token_at place place k.End;
+  all = refl;
+  only = λ i d there. absurd (omega arith);
+  end = refl;
+  from = omega (arith, left);
+  to = omega (arith, left);
+}
+splits_ended {place = place} all (gap {b = b} {bs = bs} n e s) left = splits_ended all s (whole place n (b ∷ bs) ∙ left)
+splits_ended {place = place} all (line_mark {b = b} {bs = bs} n mark e s) left = splits_ended all s (whole place n (b ∷ bs) ∙ left)
+splits_ended {place = place} all (token {b = b} {bs = bs} {tokens = tokens} n kind e s) left =
+    ended_token all (token_at place (after place (take n (b ∷ bs))) kind) tokens (token_read place.fresh (b ∷ bs) n kind e).not_end (splits_ended all s (whole place n (b ∷ bs) ∙ left))
+
+-- a token takes a byte
+splits_few : {names last : List (List ℕ)} {place : Place} {bytes : List ℕ} {tokens : List Token} → Splits names place bytes tokens last → length tokens ≤ length bytes + 1
+splits_few ends = omega arith
+splits_few (gap {b = b} {bs = bs} n e s) = omega (arith, splits_few s, length-drop n (b ∷ bs))
+splits_few (line_mark {b = b} {bs = bs} n mark e s) = omega (arith, splits_few s, length-drop n (b ∷ bs))
+splits_few {place = place} (token {b = b} {bs = bs} n kind e s) = omega (arith, splits_few s, length-drop n (b ∷ bs), (token_read place.fresh (b ∷ bs) n kind e).some)
 
 -- the files of a place have names
 record IsFiled (names : List (List ℕ)) (place : Place) : Type 0 where
@@ -234,3 +245,15 @@ splits_filed there s i d below = filed_at s (record { spot = there; next = there
 pub stops_filed : {names last : List (List ℕ)} {own : ℕ} {bytes : List ℕ} {code : Code} {spot : Spot} → own < length names → Stops names (start_of own) bytes code spot last
     → spot.file < length last
 stops_filed there s = stop_filed s (record { spot = there; next = there })
+
+-- what is known of a list that a source is answered with
+pub are_tokens_of : {names last : List (List ℕ)} {own : ℕ} {bytes : List ℕ} {tokens : List Token} → own < length names → AreTokens names own bytes last tokens → AreTokensOf bytes last tokens
+are_tokens_of {names} {last} {own} {bytes} {tokens} there are = record {
+  answered = (names, own, are);
+  inside = splits_inside are.split;
+  spelled = splits_spelled are.split;
+  filed = splits_filed there are.split;
+  apart = splits_apart are.split;
+  ended = splits_ended (length bytes) are.split (omega arith);
+  few = splits_few are.split;
+}

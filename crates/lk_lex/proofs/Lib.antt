@@ -3,9 +3,15 @@ mod Counts
 mod FileNames
 mod Firsts
 mod Fronts
+mod InFront
 mod Inside
+mod Local
 mod Longest
+mod Nothing
+mod OneAnswer
 mod OneSplit
 mod Quoting
+mod ReadNumbers
 mod Splitting
+mod Tables
 mod Telling

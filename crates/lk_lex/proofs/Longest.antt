@@ -1,34 +1,22 @@
 -- A word, a number or a punctuator in front is the longest that can stand there.
-use Rattle.std.proofs.Common.{◌≡◌, ℕ, zero, suc, ◌+◌, ◌<◌, ◌≤◌, Bool, true, false, ◌&&◌, ◌||◌, ◌==◌, cond, nat_eq, nat_le, nat_lt, if◌then◌else◌, List, [], ◌∷◌, ◌++◌, length, take, drop, codes, get_or, Option, Some, None, refl, sym, ap, subst, ◌∙◌, ⊎_elim, append_assoc, arith}
+use Rattle.std.proofs.Common.{◌≡◌, ℕ, zero, suc, ◌+◌, ◌≤◌, Bool, true, false, ◌&&◌, ◌||◌, ◌==◌, cond, nat_eq, nat_le, nat_lt, if◌then◌else◌, List, [], ◌∷◌, ◌++◌, length, take, Some, None, refl, sym, ap, subst, ◌∙◌, ⊎_elim, append_assoc, arith}
 use Rattle.std.specs.Char.{is_ascii_digit}
-use Rattle.std.specs.Cmp.Lexicographic.{pointwise}
 use Rattle.std.specs.List.{find, list_all, prefix_len, starts_with}
-use Rattle.std.specs.Option.{option_map_or}
 use Rattle.std.specs.Str.{bytes_eq}
 use Rattle.std.proofs.lemmas.Bool.{and_parts, and_from, or_cases, leb-true, true≢false}
 use Rattle.std.proofs.lemmas.Bool.Decides.{nat_tests}
 use Rattle.std.proofs.lemmas.List.{append-nil}
+use Rattle.std.proofs.lemmas.List.Sums.{prefix_len-le-length}
 use Rattle.std.proofs.lemmas.Slice.Eq.{bytes_eq-Decides}
 use Rattle.std.proofs.Math.Numerals.{one-add}
-use Rattle.lk_lex.specs.declared.front.Front.{Front}
-use Rattle.lk_lex.specs.declared.front.Front.TheVariants as f
-use Rattle.lk_lex.specs.declared.keyword.Keyword.{Keyword}
-use Rattle.lk_lex.specs.declared.mark.Directive.{Directive}
-use Rattle.lk_lex.specs.declared.mark.Directive.TheVariants as d
-use Rattle.lk_lex.specs.declared.number.Number.{Number}
+use Rattle.lk_lex.specs.declared.base.Base.TheVariants as b
 use Rattle.lk_lex.specs.declared.punct.Punct.{Punct}
 use Rattle.lk_lex.specs.declared.punct.Punct.TheVariants as p
-use Rattle.lk_lex.specs.declared.quoted.Item.{Item}
-use Rattle.lk_lex.specs.declared.quoted.Quotation.TheVariants as q
-use Rattle.lk_lex.specs.declared.token.TokenKind.TheVariants as k
-use Rattle.lk_lex.specs.Bytes.{is_blank, is_word_byte, word_len, line_len}
-use Rattle.lk_lex.specs.Characters.{as_signed, character, quoted_len}
-use Rattle.lk_lex.specs.Front.{cut, piece, word_front, word_kind, is_wide, number_front, character_front, text_front, comment_front, punct_front, hash_front, directive_front, begins_number, comment_len}
-use Rattle.lk_lex.specs.Laws.{IsNumberText, digit, dot_digit, longer, IsLongestWord, IsLongestNumber, IsLongestPunct, IsLongest, AreLongest}
-use Rattle.lk_lex.specs.Marks.{directive}
-use Rattle.lk_lex.specs.Numbers.{goes_on, number_len, number_of}
-use Rattle.lk_lex.specs.Punctuators.{spelling, beginning_with, is_digraph_in_front, punct_in_front}
-use Rattle.lk_lex.specs.Words.{keyword_of}
+use Rattle.lk_lex.specs.Bytes.{is_word_byte, word_len}
+use Rattle.lk_lex.specs.Front.{begins_number}
+use Rattle.lk_lex.specs.Laws.{IsNumberText, digit, dot_digit, longer, IsLongestWord, IsLongestNumber, IsLongestPunct}
+use Rattle.lk_lex.specs.Numbers.{digits_len, goes_on, number_len}
+use Rattle.lk_lex.specs.Punctuators.{spelling, punctuators, is_digraph_in_front, punct_in_front}
 use Rattle.lk_lex.proofs.Fronts.{find-passes}
 
 -- words
@@ -47,8 +35,21 @@ pass_below t [] (suc m) within all = absurd (omega arith)
 pass_below t (b ∷ bs) (suc m) within all =
     let parts = and_parts (t b) (list_all t (take m bs)) all in let here : t b ≡ true = parts.0 in rw here (omega (arith, pass_below t bs m (omega arith) parts.1))
 
-longest_word : (bytes : List ℕ) → nat_lt 0 (word_len bytes) ≡ true → IsLongestWord bytes (word_len bytes)
-longest_word bytes some = record { some = grind (arith, nat_tests); word = fronts_pass is_word_byte bytes; longest = pass_below is_word_byte bytes }
+pub longest_word : (bytes : List ℕ) → nat_lt 0 (word_len bytes) ≡ true → digits_len b.Decimal bytes ≡ 0 → IsLongestWord bytes (word_len bytes)
+longest_word bytes some none = record { some = grind (arith, nat_tests); within = prefix_len-le-length is_word_byte bytes; word = fronts_pass is_word_byte bytes; no_digit = none; longest = pass_below is_word_byte bytes }
+
+-- a part in front of bytes that begin with no digit begins with none
+pub no_digit_taken : (bytes : List ℕ) (n : ℕ) → digits_len b.Decimal bytes ≡ 0 → digits_len b.Decimal (take n bytes) ≡ 0
+no_digit_taken bytes zero none = refl
+no_digit_taken [] (suc n) none = refl
+no_digit_taken (c ∷ cs) (suc n) none = by (is_ascii_digit c) none
+  where
+    by : (is : Bool) → cond is (1 + prefix_len is_ascii_digit cs) 0 ≡ 0 → cond is (1 + prefix_len is_ascii_digit (take n cs)) 0 ≡ 0
+    by true none = absurd (omega arith)
+    by false none = refl
+
+pub word_passes : (bytes : List ℕ) → list_all is_word_byte (take (word_len bytes) bytes) ≡ true
+word_passes bytes = fronts_pass is_word_byte bytes
 
 -- numbers
 
@@ -129,8 +130,17 @@ first_number (c ∷ cs) begins = ⊎_elim (λ some. from_digit c cs (some_digit 
     behind [] dot some = absurd (true≢false (sym some))
     behind (d ∷ ds) dot some = subst (λ x. (before : ℕ) × IsNumberText (take (number_len 0 (x ∷ d ∷ ds)) (x ∷ d ∷ ds)) before) dot (from_dot d ds (some_digit d ds some))
 
-longest_number : (bytes : List ℕ) → begins_number bytes ≡ true → IsLongestNumber bytes (number_len 0 bytes)
-longest_number bytes begins = record { number = first_number bytes begins; longest = λ m before within is. runs_below 0 bytes m within (number_runs is).0 }
+pub number_len-within : (before : ℕ) (bytes : List ℕ) → number_len before bytes ≤ length bytes
+unfolding number_len
+number_len-within before [] = omega arith
+number_len-within before (b ∷ bs) = by (goes_on before b) (number_len-within b bs)
+  where
+    by : (on : Bool) → number_len b bs ≤ length bs → (if on then 1 + number_len b bs else 0) ≤ length (b ∷ bs)
+    by true others = omega (arith, others)
+    by false others = omega arith
+
+pub longest_number : (bytes : List ℕ) → begins_number bytes ≡ true → IsLongestNumber bytes (number_len 0 bytes)
+longest_number bytes begins = record { within = number_len-within 0 bytes; number = first_number bytes begins; longest = λ m before within is. runs_below 0 bytes m within (number_runs is).0 }
 
 -- punctuators
 
@@ -170,126 +180,44 @@ first_longest bytes (x ∷ xs) found other order among fits e = by (starts bytes
     by false s others e =
         ⊎_elim (λ here. absurd (true≢false (sym fits ∙ ap (λ t. starts_with nat_eq bytes t) (sym ((bytes_eq-Decides (spelling x) (spelling other)).0 here)) ∙ s))) (others e) (or_cases _ _ among)
 
--- the row of a punctuator's first byte
-row_has : (punct : Punct) → is_among punct (beginning_with (get_or (spelling punct) 0 0)) ≡ true
-unfolding is_among beginning_with
-row_has p.Comma = refl
-row_has _ = refl
+-- where one of a list is in front, one of it is found
+found_among : (bytes : List ℕ) (xs : List Punct) (other : Punct) → is_among other xs ≡ true → starts bytes other ≡ true → find (starts bytes) xs ≡ None → ⊥
+unfolding is_among starts
+found_among bytes [] other among fits e = absurd cc
+found_among bytes (x ∷ xs) other among fits e = by (starts bytes x) refl (λ others there. found_among bytes xs other there fits others) e
+  where
+    by : (here : Bool) → starts bytes x ≡ here → (find (starts bytes) xs ≡ None → is_among other xs ≡ true → ⊥) → cond here (Some x) (find (starts bytes) xs) ≡ None → ⊥
+    by true s others e = absurd cc
+    by false s others e =
+        ⊎_elim (λ here. absurd (true≢false (sym fits ∙ ap (λ t. starts_with nat_eq bytes t) (sym ((bytes_eq-Decides (spelling x) (spelling other)).0 here)) ∙ s))) (others e) (or_cases _ _ among)
 
-row_falls : (punct : Punct) → falls (beginning_with (get_or (spelling punct) 0 0)) ≡ true
-unfolding falls beginning_with
-row_falls p.Comma = refl
-row_falls _ = refl
+all_there : (punct : Punct) → is_among punct punctuators ≡ true
+unfolding is_among
+all_there p.Comma = refl
+all_there _ = refl
 
-same_first : (needle : List ℕ) (b : ℕ) (bs : List ℕ) → 0 < length needle → starts_with nat_eq (b ∷ bs) needle ≡ true → b ≡ get_or needle 0 0
-same_first [] b bs some fits = absurd (omega arith)
-same_first (x ∷ xs) b bs some fits = let same : nat_eq x b ≡ true = (and_parts (nat_eq x b) (pointwise nat_eq xs (take (length xs) bs)) fits).0 in grind (arith, nat_tests)
+all_fall : falls punctuators ≡ true
+unfolding falls
+all_fall = refl
 
-some_bytes : (punct : Punct) → 0 < length (spelling punct)
-some_bytes p.Comma = omega arith
-some_bytes _ = omega arith
-
-longest_punct : (bytes : List ℕ) (found : Punct) → punct_in_front bytes ≡ Some found → is_digraph_in_front bytes ≡ false → IsLongestPunct bytes (length (spelling found)) found
+pub longest_punct : (bytes : List ℕ) (found : Punct) → punct_in_front bytes ≡ Some found → is_digraph_in_front bytes ≡ false → IsLongestPunct bytes (length (spelling found)) found
 unfolding punct_in_front starts
-longest_punct [] found e none = absurd cc
-longest_punct (b ∷ bs) found e none = record {
+longest_punct bytes found e none = record {
   len = refl;
-  front = find-passes (starts (b ∷ bs)) (beginning_with b) found e;
-  longest = λ other fits.
-      let row : b ≡ get_or (spelling other) 0 0 = same_first (spelling other) b bs (some_bytes other) fits in
-      first_longest (b ∷ bs) (beginning_with b) found other (ap (λ x. falls (beginning_with x)) row ∙ row_falls other) (ap (λ x. is_among other (beginning_with x)) row ∙ row_has other) fits e;
+  front = find-passes (starts bytes) punctuators found e;
+  longest = λ other fits. first_longest bytes punctuators found other all_fall (all_there other) fits e;
   no_digraph = none;
 }
 
--- what stands in front
+-- a punctuator in front is found
+pub some_punct : (bytes : List ℕ) (other : Punct) → starts_with nat_eq bytes (spelling other) ≡ true → punct_in_front bytes ≡ None → ⊥
+unfolding punct_in_front starts
+some_punct bytes other fits none = found_among bytes punctuators other (all_there other) fits none
 
-IsGood : List ℕ → Front → Type 0
-IsGood bytes f.Nothing = Unit {0}
-IsGood bytes f.Broken = Unit {0}
-IsGood bytes (f.Gap n) = Unit {0}
-IsGood bytes (f.Mark n mark) = Unit {0}
-IsGood bytes (f.Token n kind) = IsLongest bytes n kind
+pub punct_starts : (bytes : List ℕ) (found : Punct) → punct_in_front bytes ≡ Some found → starts_with nat_eq bytes (spelling found) ≡ true
+unfolding punct_in_front
+punct_starts bytes found e = find-passes (λ punct. starts_with nat_eq bytes (spelling punct)) punctuators found e
 
-either : (bytes : List ℕ) (b : Bool) (x y : Front) → (b ≡ true → IsGood bytes x) → (b ≡ false → IsGood bytes y) → IsGood bytes (if b then x else y)
-either bytes true x y first second = first refl
-either bytes false x y first second = second refl
-
-good_word : (bytes : List ℕ) → nat_lt 0 (word_len bytes) ≡ true → IsGood bytes (word_front bytes)
-unfolding word_front IsGood
-good_word bytes some = either bytes (nat_lt 255 n || is_wide (take n bytes) (drop n bytes)) f.Broken (f.Token n (word_kind (take n bytes))) (λ _. tt) (λ _. by (keyword_of (take n bytes)))
-  where
-    n : ℕ
-    n = word_len bytes
-
-    by : (o : Option Keyword) → IsLongest bytes (word_len bytes) (option_map_or k.Key o k.Word)
-    by None = longest_word bytes some
-    by (Some keyword) = longest_word bytes some
-
-good_number : (bytes : List ℕ) → begins_number bytes ≡ true → IsGood bytes (number_front bytes)
-unfolding number_front IsGood
-good_number bytes begins = by (number_of (take (number_len 0 bytes) bytes))
-  where
-    by : (o : Option Number) → IsGood bytes (option_map_or (λ number. f.Token (number_len 0 bytes) (k.Number number.kind number.value)) o f.Broken)
-    by None = tt
-    by (Some number) = longest_number bytes begins
-
-good_character : (bytes : List ℕ) (o : Option Item) → IsGood bytes (option_map_or (λ first. f.Token (first.len + 2) (k.Char (as_signed first.value))) o f.Broken)
-unfolding IsGood
-good_character bytes None = tt
-good_character bytes (Some first) = tt
-
-good_text : (bytes : List ℕ) (o : Option ℕ) → IsGood bytes (option_map_or (λ n. f.Token (n + 1) k.Text) o f.Broken)
-unfolding IsGood
-good_text bytes None = tt
-good_text bytes (Some n) = tt
-
-good_comment : (bytes : List ℕ) (o : Option ℕ) → IsGood bytes (option_map_or (λ n. f.Gap (n + 2)) o f.Broken)
-unfolding IsGood
-good_comment bytes None = tt
-good_comment bytes (Some n) = tt
-
-good_directive : (bytes : List ℕ) (n : ℕ) (o : Option Directive) → IsGood bytes (directive_front n o)
-unfolding IsGood
-good_directive bytes n None = tt
-good_directive bytes n (Some d.Pragma) = tt
-good_directive bytes n (Some (d.Mark mark)) = tt
-
-good_gap : (bytes : List ℕ) (n : ℕ) → IsGood bytes (f.Gap n)
-unfolding IsGood
-good_gap bytes n = tt
-
-good_nothing : (bytes : List ℕ) → IsGood bytes f.Nothing
-unfolding IsGood
-good_nothing bytes = tt
-
-good_punct : (bytes : List ℕ) → IsGood bytes (punct_front bytes)
-unfolding punct_front IsGood
-good_punct bytes = either bytes (is_digraph_in_front bytes) f.Broken _ (λ _. tt) (λ none. by (punct_in_front bytes) refl none)
-  where
-    by : (o : Option Punct) → punct_in_front bytes ≡ o → is_digraph_in_front bytes ≡ false → IsGood bytes (option_map_or (λ punct. f.Token (length (spelling punct)) (k.Punct punct)) o f.Nothing)
-    by None e none = tt
-    by (Some punct) e none = longest_punct bytes punct e none
-
-good_piece : (bytes : List ℕ) → IsGood bytes (piece bytes)
-unfolding piece character_front text_front comment_front
-good_piece bytes =
-    either bytes (begins_number bytes) _ _ (good_number bytes) (λ _.
-    either bytes (nat_lt 0 (word_len bytes)) _ _ (good_word bytes) (λ _.
-    either bytes (starts_with nat_eq bytes (codes "'")) _ _ (λ _. good_character bytes (character (drop 1 bytes))) (λ _.
-    either bytes (starts_with nat_eq bytes (codes "\"")) _ _ (λ _. good_text bytes (quoted_len q.Text 0 (drop 1 bytes))) (λ _.
-    either bytes (starts_with nat_eq bytes (codes "//")) _ _ (λ _. good_gap bytes (line_len bytes)) (λ _.
-    either bytes (starts_with nat_eq bytes (codes "/*")) _ _ (λ _. good_comment bytes (comment_len 0 (drop 2 bytes))) (λ _.
-    good_punct bytes))))))
-
-good_cut : (fresh : Bool) (bytes : List ℕ) → IsGood bytes (cut fresh bytes)
-unfolding cut hash_front
-good_cut fresh [] = good_nothing []
-good_cut fresh (c ∷ cs) =
-    either (c ∷ cs) (is_blank c) _ _ (λ _. good_gap (c ∷ cs) 1) (λ _.
-    either (c ∷ cs) (c == 35) _ _ (λ _.
-    either (c ∷ cs) fresh _ _ (λ _. good_directive (c ∷ cs) (line_len cs + 1) (directive (take (line_len cs) cs))) (λ _. good_nothing (c ∷ cs))) (λ _.
-    good_piece (c ∷ cs)))
-
-pub are_longest : AreLongest
-unfolding IsGood
-are_longest fresh bytes n kind e = subst (IsGood bytes) e (good_cut fresh bytes)
+-- the bytes that a punctuator in front takes are its spelling
+pub punct_taken : (bytes : List ℕ) (found : Punct) → starts_with nat_eq bytes (spelling found) ≡ true → take (length (spelling found)) bytes ≡ spelling found
+punct_taken bytes found fits = sym ((bytes_eq-Decides (spelling found) (take (length (spelling found)) bytes)).0 fits)

@@ -1,11 +1,13 @@
 -- How the characters between quotes are passed, one by one.
-use Rattle.std.proofs.Common.{◌≡◌, ℕ, zero, suc, ◌+◌, ◌-◌, ◌<◌, ◌≤◌, List, [], ◌∷◌, length, drop, Option, Some, None, slice_get, refl, ap, ◌∙◌, arith}
+use Rattle.std.proofs.Common.{◌≡◌, ℕ, zero, suc, ◌+◌, ◌-◌, ◌<◌, ◌≤◌, List, [], ◌∷◌, ◌++◌, length, drop, Option, Some, None, slice_get, refl, sym, ap, ◌∙◌, append_assoc, arith}
 use Rattle.std.proofs.Math.Numerals.{sub-one}
 use Rattle.std.specs.Option.{option_map}
+use Rattle.std.proofs.lemmas.List.{append-nil}
 use Rattle.lk_lex.specs.declared.quoted.Item.{Item}
 use Rattle.lk_lex.specs.declared.quoted.Quotation.{Quotation}
 use Rattle.lk_lex.specs.declared.quoted.Quotation.TheVariants as q
-use Rattle.lk_lex.specs.Characters.{item, quoted_len, file_name}
+use Rattle.lk_lex.specs.Answer.{Extends}
+use Rattle.lk_lex.specs.Characters.{item, quoted_len, quoted_bytes}
 use Rattle.lk_lex.proofs.Firsts.{not_34, is_34}
 
 abbrev pub more : ℕ → Option ℕ → Option ℕ
@@ -55,33 +57,42 @@ pub quoted_len-end : (quotation : Quotation) (bytes : List ℕ) → bytes ≡ []
 unfolding quoted_len
 quoted_len-end quotation bytes empty = rw empty refl
 
-file_name-skip : (k : ℕ) (bytes : List ℕ) → file_name k bytes ≡ file_name 0 (drop k bytes)
-unfolding file_name
-file_name-skip zero bytes = refl
-file_name-skip (suc k) [] = refl
-file_name-skip (suc k) (b ∷ bs) = file_name-skip k bs
+quoted_bytes-skip : (quotation : Quotation) (k : ℕ) (bytes : List ℕ) → quoted_bytes quotation k bytes ≡ quoted_bytes quotation 0 (drop k bytes)
+unfolding quoted_bytes
+quoted_bytes-skip quotation zero bytes = refl
+quoted_bytes-skip quotation (suc k) [] = refl
+quoted_bytes-skip quotation (suc k) (b ∷ bs) = quoted_bytes-skip quotation k bs
 
-pub file_name-close : (bytes : List ℕ) (b : ℕ) → Some b ≡ slice_get bytes 0 → b ≡ 34 → file_name 0 bytes ≡ []
-unfolding file_name
-file_name-close [] b first quote = refl
-file_name-close (c ∷ cs) b first quote = let same : c ≡ 34 = cc in rw (is_34 c same) refl
+pub quoted_bytes-close : (quotation : Quotation) (bytes : List ℕ) (b : ℕ) → Some b ≡ slice_get bytes 0 → b ≡ 34 → quoted_bytes quotation 0 bytes ≡ []
+unfolding quoted_bytes
+quoted_bytes-close quotation [] b first quote = refl
+quoted_bytes-close quotation (c ∷ cs) b first quote = let same : c ≡ 34 = cc in rw (is_34 c same) refl
 
-pub file_name-bad : (bytes : List ℕ) (b : ℕ) → Some b ≡ slice_get bytes 0 → (b ≡ 34 → ⊥) → item q.FileName bytes ≡ None → file_name 0 bytes ≡ []
-unfolding file_name
-file_name-bad [] b first other bad = refl
-file_name-bad (c ∷ cs) b first other bad = let same : b ≡ c = cc in rw (not_34 c (λ quote. other (same ∙ quote)), bad) refl
+pub quoted_bytes-bad : (quotation : Quotation) (bytes : List ℕ) (b : ℕ) → Some b ≡ slice_get bytes 0 → (b ≡ 34 → ⊥) → item quotation bytes ≡ None → quoted_bytes quotation 0 bytes ≡ []
+unfolding quoted_bytes
+quoted_bytes-bad quotation [] b first other bad = refl
+quoted_bytes-bad quotation (c ∷ cs) b first other bad = let same : b ≡ c = cc in rw (not_34 c (λ quote. other (same ∙ quote)), bad) refl
 
-pub file_name-on : (bytes : List ℕ) (b : ℕ) (found : Item) → Some b ≡ slice_get bytes 0 → (b ≡ 34 → ⊥) → item q.FileName bytes ≡ Some found → 0 < found.len
-    → file_name 0 bytes ≡ found.value ∷ file_name 0 (drop found.len bytes)
-unfolding file_name
-file_name-on [] b found first other is some = absurd cc
-file_name-on (c ∷ cs) b found first other is some =
+pub quoted_bytes-on : (quotation : Quotation) (bytes : List ℕ) (b : ℕ) (found : Item) → Some b ≡ slice_get bytes 0 → (b ≡ 34 → ⊥) → item quotation bytes ≡ Some found → 0 < found.len
+    → quoted_bytes quotation 0 bytes ≡ found.value ∷ quoted_bytes quotation 0 (drop found.len bytes)
+unfolding quoted_bytes
+quoted_bytes-on quotation [] b found first other is some = absurd cc
+quoted_bytes-on quotation (c ∷ cs) b found first other is some =
     let same : b ≡ c = cc in rw (not_34 c (λ quote. other (same ∙ quote)), is) (ap (λ more. found.value ∷ more) (by found.len some))
   where
-    by : (n : ℕ) → 0 < n → file_name (n - 1) cs ≡ file_name 0 (drop n (c ∷ cs))
+    by : (n : ℕ) → 0 < n → quoted_bytes quotation (n - 1) cs ≡ quoted_bytes quotation 0 (drop n (c ∷ cs))
     by zero some = absurd (omega arith)
-    by (suc n) some = rw sub-one (file_name-skip n cs)
+    by (suc n) some = rw sub-one (quoted_bytes-skip quotation n cs)
 
-pub file_name-end : (bytes : List ℕ) → bytes ≡ [] → file_name 0 bytes ≡ []
-unfolding file_name
-file_name-end bytes empty = rw empty refl
+pub quoted_bytes-end : (quotation : Quotation) (bytes : List ℕ) → bytes ≡ [] → quoted_bytes quotation 0 bytes ≡ []
+unfolding quoted_bytes
+quoted_bytes-end quotation bytes empty = rw empty refl
+
+-- nothing behind the quote of no bytes
+pub quoted_bytes-none : (out text : List ℕ) → length text ≡ 0 → out ≡ out ++ quoted_bytes q.Text 0 (drop 1 text)
+unfolding quoted_bytes
+quoted_bytes-none out [] none = sym (append-nil out)
+quoted_bytes-none out (b ∷ bs) none = absurd (omega (arith, none))
+
+pub extends_more : (before now : List ℕ) (value : ℕ) → Extends before now → Extends before (now ++ value ∷ [])
+extends_more before now value (others, is) = (others ++ value ∷ [], ap (λ front. front ++ value ∷ []) is ∙ append_assoc before others (value ∷ []))

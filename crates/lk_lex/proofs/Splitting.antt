@@ -5,27 +5,27 @@ use Rattle.std.proofs.lemmas.List.{length-take-le, length-drop}
 use Rattle.lk_base.specs.declared.code.Code.{Code}
 use Rattle.lk_base.specs.declared.code.Code.TheVariants as c
 use Rattle.lk_base.specs.declared.spot.Spot.{Spot}
-use Rattle.lk_lex.specs.declared.fault.LexFault.{LexFault}
-use Rattle.lk_lex.specs.declared.fault.LexFault.TheVariants as e
+use Rattle.lk_base.specs.declared.fault.Fault.{Fault}
+use Rattle.lk_base.specs.declared.fault.Fault.TheVariants as e
 use Rattle.lk_lex.specs.declared.front.Front.TheVariants as f
 use Rattle.lk_lex.specs.declared.mark.Mark.{Mark}
 use Rattle.lk_lex.specs.declared.place.Place.{Place}
 use Rattle.lk_lex.specs.declared.token.Token.{Token}
 use Rattle.lk_lex.specs.declared.token.TokenKind.{TokenKind}
 use Rattle.lk_lex.specs.declared.token.TokenKind.TheVariants as k
-use Rattle.lk_lex.specs.Answer.{Extends}
+use Rattle.lk_lex.specs.Answer.{Extends, refusal}
 use Rattle.lk_lex.specs.Front.{cut}
-use Rattle.lk_lex.specs.Lengths.{IsWithin, IsBounded, IsFaultOf, IsStop, refusal_of}
-use Rattle.lk_lex.specs.Tokens.{Splits, ends, gap, line_mark, token, Stops, nothing, broken, past_gap, past_mark, past_token, start_of, after, after_byte, after_line, after_column, names_with, marked, token_at}
-use Rattle.lk_lex.proofs.FileNames.{names_with-few, names_with-extends, extends-extends, extends_self}
+use Rattle.lk_lex.specs.Lengths.{IsWithin, IsBounded, IsFaultOf, IsStop}
+use Rattle.lk_lex.specs.Tokens.{Splits, ends, gap, line_mark, token, Stops, nothing, broken, past_gap, past_mark, past_token, after, after_byte, after_line, after_column, names_with, marked, token_at}
+use Rattle.lk_lex.proofs.FileNames.{names_with-few, names_with-extends, extends-extends}
 
 -- The bytes from the first place on are these tokens, and then what the rest is split into from this place on; and the split stops where that of the rest stops
 pub record Upto (first_names : List (List ℕ)) (first : Place) (source : List ℕ) (names : List (List ℕ)) (place : Place) (rest : List ℕ) (found : List Token) : Type 0 where
   pub splits : (tokens : List Token) (last : List (List ℕ)) → Splits names place rest tokens last → Splits first_names first source (found ++ tokens) last
   pub stops : (code : Code) (spot : Spot) (last : List (List ℕ)) → Stops names place rest code spot last → Stops first_names first source code spot last
   pub bounded : IsBounded place
-  pub left : place.at + length rest ≤ 1048576
-  pub few : length names < 2147483648 + place.at
+  pub left : place.at + length rest ≤ length source
+  pub few : length names ≤ length first_names + place.at
   pub extends : Extends first_names names
 
 line_bounded : (place : Place) → IsBounded place → IsBounded (after_line place)
@@ -100,18 +100,6 @@ broken_here : {names : List (List ℕ)} {place : Place} (rest : List ℕ) → 0 
 broken_here [] some e = absurd (omega arith)
 broken_here (b ∷ bs) some e = broken e
 
--- the start of a source
-pub upto_start : (names : List (List ℕ)) (own : ℕ) (source : List ℕ) → length source ≤ 1048576 → length names < 2147483648
-    → Upto names (start_of own) source names (start_of own) source []
-upto_start names own source few some = record {
-  splits = λ tokens last s. s;
-  stops = λ code spot last s. s;
-  bounded = record { line = omega arith; col = omega arith; next_line = omega arith; next_col = omega arith };
-  left = omega arith;
-  few = omega arith;
-  extends = extends_self names;
-}
-
 module _ {first_names names : List (List ℕ)} {first place : Place} {source rest : List ℕ} {found : List Token} (upto : Upto first_names first source names place rest found) where
   -- behind a blank, a comment or a pragma
   pub upto_gap : (n : ℕ) → IsWithin (length rest) n → cut place.fresh rest ≡ f.Gap n → Upto first_names first source names (after place (take n rest)) (drop n rest) found
@@ -162,10 +150,10 @@ module _ {first_names names : List (List ℕ)} {first place : Place} {source res
   upto_broken some e = upto.stops c.Token place.spot names (broken_here rest some e)
 
 -- a fault that tells of a stop
-pub stop_told : {names last : List (List ℕ)} {place : Place} {bytes : List ℕ} {code : Code} {spot : Spot} (fault : LexFault) → IsFaultOf (refusal_of code spot []) fault
+pub stop_told : {names last : List (List ℕ)} {place : Place} {bytes : List ℕ} {code : Code} {spot : Spot} (fault : Fault) → IsFaultOf (refusal code spot []) fault
     → Stops names place bytes code spot last → IsStop names place bytes last fault
 stop_told e.NoMemory told s = tt
-stop_told {code = code} {spot = spot} (e.Refused refusal) told s = (code, spot, told, s)
+stop_told {code = code} {spot = spot} (e.Refused other) told s = (code, spot, told, s)
 
 pub not_empty : (rest : List ℕ) (empty : Bool) → empty ≡ (length rest == 0) → empty ≡ false → 0 < length rest
 not_empty [] empty is full = absurd cc

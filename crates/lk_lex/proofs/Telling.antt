@@ -5,22 +5,23 @@ use Rattle.std.proofs.lemmas.Bool.{and_parts}
 use Rattle.std.proofs.lemmas.List.{length-take}
 use Rattle.lk_base.specs.declared.code.Code.TheVariants as c
 use Rattle.lk_base.specs.declared.refusal.Refusal.{Refusal}
-use Rattle.lk_lex.specs.declared.fault.LexFault.{LexFault}
-use Rattle.lk_lex.specs.declared.fault.LexFault.TheVariants as e
+use Rattle.lk_base.specs.declared.fault.Fault.{Fault}
+use Rattle.lk_base.specs.declared.fault.Fault.TheVariants as e
 use Rattle.lk_lex.specs.declared.token.Token.{Token}
-use Rattle.lk_lex.specs.Answer.{IsRefused, stopped, unsupported, IsFault, IsInside, is_refused, first_refused, text_of}
-use Rattle.lk_lex.specs.Lengths.{IsStop, IsFaultOf, refusal_of}
+use Rattle.lk_lex.specs.Answer.{IsRefused, stopped, unsupported, IsFault, is_refused, first_refused, text_of, refusal}
+use Rattle.lk_lex.specs.Lengths.{IsStop, IsFaultOf}
+use Rattle.lk_lex.specs.TokenList.{IsInside}
 use Rattle.lk_lex.specs.Tokens.{Splits, start_of}
 use Rattle.lk_lex.proofs.Fronts.{find-passes}
 use Rattle.lk_lex.proofs.Inside.{splits_filed, stops_filed}
 
 -- a stop as a fault
-pub stop_fault : (names last : List (List ℕ)) (own : ℕ) (bytes : List ℕ) (fault : LexFault) → own < length names → IsStop names (start_of own) bytes last fault → IsFault names own bytes last fault
+pub stop_fault : (names last : List (List ℕ)) (own : ℕ) (bytes : List ℕ) (fault : Fault) → own < length names → IsStop names (start_of own) bytes last fault → IsFault names own bytes last fault
 stop_fault names last own bytes e.NoMemory there stop = tt
 stop_fault names last own bytes (e.Refused told) there (code, spot, same, stops) =
     subst (λ r. IsRefused names own bytes last r × (r.spot.file < length last)) (sym same) (stopped code spot stops, stops_filed there stops)
 
-fault_told : (names last : List (List ℕ)) (own : ℕ) (bytes : List ℕ) (told : Refusal) (fault : LexFault) → IsFaultOf told fault → IsRefused names own bytes last told
+fault_told : (names last : List (List ℕ)) (own : ℕ) (bytes : List ℕ) (told : Refusal) (fault : Fault) → IsFaultOf told fault → IsRefused names own bytes last told
     → told.spot.file < length last → IsFault names own bytes last fault
 fault_told names last own bytes told e.NoMemory is refused there = tt
 fault_told names last own bytes told (e.Refused refusal) is refused there =
@@ -35,8 +36,8 @@ found_in {A} P p (y ∷ ys) x all found = by (p y) (found_in P p ys x (λ k d th
     by false others found = others found
 
 -- a refused word as a fault
-pub word_fault : (names last : List (List ℕ)) (own : ℕ) (bytes : List ℕ) (tokens : List Token) (token : Token) (fault : LexFault) → own < length names
-    → Splits names (start_of own) bytes tokens last → first_refused bytes tokens ≡ Some token → IsFaultOf (refusal_of c.UnsupportedWord token.spot (text_of bytes token)) fault
+pub word_fault : (names last : List (List ℕ)) (own : ℕ) (bytes : List ℕ) (tokens : List Token) (token : Token) (fault : Fault) → own < length names
+    → Splits names (start_of own) bytes tokens last → first_refused bytes tokens ≡ Some token → IsFaultOf (refusal c.UnsupportedWord token.spot (text_of bytes token)) fault
     → IsFault names own bytes last fault
 word_fault names last own bytes tokens token fault there split found is =
     fault_told names last own bytes _ fault is (unsupported tokens token split found)

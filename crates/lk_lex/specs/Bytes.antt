@@ -3,17 +3,18 @@ use Rattle.std.specs.Prelude.{ℕ, Bool, ◌||◌, ◌==◌, not, List, drop}
 use Rattle.std.specs.Char.{is_ascii_alphanumeric}
 use Rattle.std.specs.Int.{is_in_range}
 use Rattle.std.specs.List.{prefix_len}
+use Rattle.lk_lex.specs.Ascii.{tab, new_line, carriage_return, space, underscore}
 
 -- horizontal tab, new line, vertical tab, form feed, carriage return and space (C99 5.2.1)
 abbrev pub is_blank : ℕ → Bool
-is_blank b = is_in_range 9 13 b || (b == 32)
+is_blank b = is_in_range tab carriage_return b || (b == space)
 
 -- a letter, a digit or `_` (C99 6.4.2.1)
 abbrev pub is_word_byte : ℕ → Bool
-is_word_byte b = is_ascii_alphanumeric b || (b == 95)
+is_word_byte b = is_ascii_alphanumeric b || (b == underscore)
 
 abbrev pub is_in_line : ℕ → Bool
-is_in_line b = not (b == 10)
+is_in_line b = not (b == new_line)
 
 -- how many bytes there are before the line's end
 abbrev pub line_len : List ℕ → ℕ

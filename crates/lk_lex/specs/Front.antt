@@ -11,6 +11,7 @@ use Rattle.lk_lex.specs.declared.front.Front.TheVariants as f
 use Rattle.lk_lex.specs.declared.mark.Directive.{Directive}
 use Rattle.lk_lex.specs.declared.mark.Directive.TheVariants as d
 use Rattle.lk_lex.specs.declared.quoted.Quotation.TheVariants as q
+use Rattle.lk_lex.specs.Ascii.{hash, star, slash}
 use Rattle.lk_lex.specs.Bytes.{is_blank, word_len, line_len}
 use Rattle.lk_lex.specs.Characters.{quoted_len, character, as_signed}
 use Rattle.lk_lex.specs.Marks.{directive}
@@ -44,7 +45,7 @@ unfoldable pub text_front : List ℕ → Front
 text_front bytes = option_map_or (λ n. f.Token (n + 1) k.Text) (quoted_len q.Text 0 bytes) f.Broken
 
 abbrev pub closes : ℕ → ℕ → Bool
-closes before c = before == 42 && (c == 47)
+closes before c = before == star && (c == slash)
 
 -- how many bytes there are up to the first `*/` and with it, by the byte before them
 unfoldable pub comment_len : ℕ → List ℕ → Option ℕ
@@ -85,7 +86,7 @@ piece bytes =
 
 -- what stands in front; `fresh` says that only blanks stand before it on its line
 abbrev pub cut_by : Bool → ℕ → List ℕ → Front
-cut_by fresh c bytes = if is_blank c then f.Gap 1 else if c == 35 then (if fresh then hash_front (drop 1 bytes) else f.Nothing) else piece bytes
+cut_by fresh c bytes = if is_blank c then f.Gap 1 else if c == hash then (if fresh then hash_front (drop 1 bytes) else f.Nothing) else piece bytes
 
 unfoldable pub cut : Bool → List ℕ → Front
 cut fresh [] = f.Nothing

@@ -7,10 +7,11 @@ use Rattle.lk_lex.specs.declared.mark.Directive.TheVariants as d
 use Rattle.lk_base.specs.declared.code.Code.{Code}
 use Rattle.lk_base.specs.declared.spot.Spot.{Spot}
 use Rattle.lk_base.specs.declared.refusal.Refusal.{Refusal}
-use Rattle.lk_lex.specs.declared.fault.LexFault.{LexFault}
-use Rattle.lk_lex.specs.declared.fault.LexFault.TheVariants as e
-use Rattle.lk_lex.specs.Tokens.{Stops}
+use Rattle.lk_base.specs.declared.fault.Fault.{Fault}
+use Rattle.lk_base.specs.declared.fault.Fault.TheVariants as e
 use Rattle.lk_lex.specs.declared.place.Place.{Place}
+use Rattle.lk_lex.specs.Answer.{refusal}
+use Rattle.lk_lex.specs.Tokens.{Stops}
 
 -- what stands in front has at least one byte, and at most so many
 pub record IsWithin (most len : ℕ) : Type 0 where
@@ -37,14 +38,11 @@ IsLineSmall (Some d.Pragma) = Unit {0}
 IsLineSmall (Some (d.Mark mark)) = mark.line ≤ 2147483647
 
 -- want of memory, or this refusal
-abbrev pub IsFaultOf : Refusal → LexFault → Type 0
-IsFaultOf refusal e.NoMemory = Unit {0}
-IsFaultOf refusal (e.Refused told) = told ≡ refusal
-
-abbrev pub refusal_of : Code → Spot → List ℕ → Refusal
-refusal_of code spot name = record { code = code; spot = spot; name = name }
+abbrev pub IsFaultOf : Refusal → Fault → Type 0
+IsFaultOf right e.NoMemory = Unit {0}
+IsFaultOf right (e.Refused told) = told ≡ right
 
 -- want of memory, or the split stops there
-abbrev pub IsStop : List (List ℕ) → Place → List ℕ → List (List ℕ) → LexFault → Type 0
+abbrev pub IsStop : List (List ℕ) → Place → List ℕ → List (List ℕ) → Fault → Type 0
 IsStop names place bytes last e.NoMemory = Unit {0}
-IsStop names place bytes last (e.Refused told) = (code : Code) × (spot : Spot) × (told ≡ refusal_of code spot []) × Stops names place bytes code spot last
+IsStop names place bytes last (e.Refused told) = (code : Code) × (spot : Spot) × (told ≡ refusal code spot []) × Stops names place bytes code spot last

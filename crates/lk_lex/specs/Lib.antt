@@ -1,4 +1,5 @@
 pub mod Answer
+pub mod Ascii
 pub mod Bytes
 pub mod Characters
 pub mod Front
@@ -7,5 +8,7 @@ pub mod Lengths
 pub mod Marks
 pub mod Numbers
 pub mod Punctuators
+pub mod Texts
+pub mod TokenList
 pub mod Tokens
 pub mod Words

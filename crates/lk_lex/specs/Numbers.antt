@@ -13,11 +13,12 @@ use Rattle.lk_lex.specs.declared.number.Length.{Length}
 use Rattle.lk_lex.specs.declared.number.Length.TheVariants as l
 use Rattle.lk_lex.specs.declared.number.Suffix.{Suffix}
 use Rattle.lk_lex.specs.declared.number.Number.{Number}
+use Rattle.lk_lex.specs.Ascii.{plus, minus, dot, digit_0, digit_7, letter_e, capital_E, letter_p, capital_P}
 use Rattle.lk_lex.specs.Bytes.{is_word_byte}
 
 -- whether a preprocessing number goes on with this byte, by the byte before it
 abbrev pub goes_on : ℕ → ℕ → Bool
-goes_on before b = is_word_byte b || (b == 46) || ((b == 43 || (b == 45)) && (before == 101 || (before == 69) || (before == 112) || (before == 80)))
+goes_on before b = is_word_byte b || (b == dot) || ((b == plus || (b == minus)) && (before == letter_e || (before == capital_E) || (before == letter_p) || (before == capital_P)))
 
 -- how many bytes a preprocessing number has from here on, by the byte before them
 unfoldable pub number_len : ℕ → List ℕ → ℕ
@@ -30,7 +31,7 @@ radix b.Decimal = 10
 radix b.Hexadecimal = 16
 
 abbrev pub is_digit_of : Base → ℕ → Bool
-is_digit_of b.Octal c = is_in_range 48 55 c
+is_digit_of b.Octal c = is_in_range digit_0 digit_7 c
 is_digit_of b.Decimal c = is_ascii_digit c
 is_digit_of b.Hexadecimal c = is_ascii_hexdigit c
 
@@ -53,7 +54,7 @@ with_suffix unsigned length = Some (record { unsigned = unsigned; length = lengt
 -- the suffix that these bytes are, where they are one: both letters of `ll` have one case
 unfoldable pub suffix_of : List ℕ → Option Suffix
 suffix_of bytes =
-    if is_one_of bytes (codes "" ∷ []) then with_suffix false l.Plain
+    if length bytes == 0 then with_suffix false l.Plain
     else if is_one_of bytes (codes "u" ∷ codes "U" ∷ []) then with_suffix true l.Plain
     else if is_one_of bytes (codes "l" ∷ codes "L" ∷ []) then with_suffix false l.Long
     else if is_one_of bytes (codes "ll" ∷ codes "LL" ∷ []) then with_suffix false l.LongLong
@@ -61,27 +62,32 @@ suffix_of bytes =
     else if is_one_of bytes (codes "ull" ∷ codes "uLL" ∷ codes "Ull" ∷ codes "ULL" ∷ codes "llu" ∷ codes "llU" ∷ codes "LLu" ∷ codes "LLU" ∷ []) then with_suffix true l.LongLong
     else None
 
--- the greatest value of a kind that a constant can have
+-- the greatest value of a kind (C99 5.2.4.2.1)
 abbrev pub greatest : Kind → ℕ
+greatest k.Bool = 1
+greatest k.Char = 127
+greatest k.SChar = 127
+greatest k.UChar = 255
+greatest k.Short = 32767
+greatest k.UShort = 65535
 greatest k.Int = 2147483647
 greatest k.UInt = 4294967295
 greatest k.Long = 9223372036854775807
 greatest k.ULong = 18446744073709551615
 greatest k.LLong = 9223372036854775807
 greatest k.ULLong = 18446744073709551615
-greatest _ = 0
 
 -- the list of C99 6.4.4.1, 5: by whether a suffix says unsigned, by the suffix's length, and by whether the base is decimal
 abbrev pub kinds : Bool → Length → Bool → List Kind
 kinds false l.Plain true = k.Int ∷ k.Long ∷ k.LLong ∷ []
 kinds false l.Plain false = k.Int ∷ k.UInt ∷ k.Long ∷ k.ULong ∷ k.LLong ∷ k.ULLong ∷ []
-kinds true l.Plain _ = k.UInt ∷ k.ULong ∷ k.ULLong ∷ []
+kinds true l.Plain decimal = k.UInt ∷ k.ULong ∷ k.ULLong ∷ []
 kinds false l.Long true = k.Long ∷ k.LLong ∷ []
 kinds false l.Long false = k.Long ∷ k.ULong ∷ k.LLong ∷ k.ULLong ∷ []
-kinds true l.Long _ = k.ULong ∷ k.ULLong ∷ []
+kinds true l.Long decimal = k.ULong ∷ k.ULLong ∷ []
 kinds false l.LongLong true = k.LLong ∷ []
 kinds false l.LongLong false = k.LLong ∷ k.ULLong ∷ []
-kinds true l.LongLong _ = k.ULLong ∷ []
+kinds true l.LongLong decimal = k.ULLong ∷ []
 
 abbrev pub is_decimal : Base → Bool
 is_decimal b.Decimal = true

@@ -1,7 +1,6 @@
 -- Punctuators (C99 6.4.6).
-use Rattle.std.specs.Prelude.{ℕ, Bool, ◌==◌, nat_eq, if◌then◌else◌, List, [], ◌∷◌, codes, Option, slice_get}
+use Rattle.std.specs.Prelude.{ℕ, Bool, nat_eq, List, [], ◌∷◌, codes, Option}
 use Rattle.std.specs.List.{list_any, find, starts_with}
-use Rattle.std.specs.Option.{option_and_then}
 use Rattle.lk_lex.specs.declared.punct.Punct.{Punct}
 use Rattle.lk_lex.specs.declared.punct.Punct.TheVariants as p
 
@@ -54,38 +53,20 @@ spelling p.CaretEqual = codes "^="
 spelling p.BarEqual = codes "|="
 spelling p.Comma = codes ","
 
--- those that begin with a byte, longer ones first
-unfoldable pub beginning_with : ℕ → List Punct
-beginning_with b =
-    if b == 91 then p.OpenBracket ∷ []
-    else if b == 93 then p.CloseBracket ∷ []
-    else if b == 40 then p.OpenParen ∷ []
-    else if b == 41 then p.CloseParen ∷ []
-    else if b == 123 then p.OpenBrace ∷ []
-    else if b == 125 then p.CloseBrace ∷ []
-    else if b == 46 then p.Ellipsis ∷ p.Dot ∷ []
-    else if b == 45 then p.Arrow ∷ p.MinusMinus ∷ p.MinusEqual ∷ p.Minus ∷ []
-    else if b == 43 then p.PlusPlus ∷ p.PlusEqual ∷ p.Plus ∷ []
-    else if b == 38 then p.AndAnd ∷ p.AmpersandEqual ∷ p.Ampersand ∷ []
-    else if b == 42 then p.StarEqual ∷ p.Star ∷ []
-    else if b == 126 then p.Tilde ∷ []
-    else if b == 33 then p.BangEqual ∷ p.Bang ∷ []
-    else if b == 47 then p.SlashEqual ∷ p.Slash ∷ []
-    else if b == 37 then p.PercentEqual ∷ p.Percent ∷ []
-    else if b == 60 then p.ShiftLeftEqual ∷ p.ShiftLeft ∷ p.LessEqual ∷ p.Less ∷ []
-    else if b == 62 then p.ShiftRightEqual ∷ p.ShiftRight ∷ p.GreaterEqual ∷ p.Greater ∷ []
-    else if b == 61 then p.EqualEqual ∷ p.Equal ∷ []
-    else if b == 94 then p.CaretEqual ∷ p.Caret ∷ []
-    else if b == 124 then p.BarBar ∷ p.BarEqual ∷ p.Bar ∷ []
-    else if b == 63 then p.Question ∷ []
-    else if b == 58 then p.Colon ∷ []
-    else if b == 59 then p.Semicolon ∷ []
-    else if b == 44 then p.Comma ∷ []
-    else []
+-- all of them, longer ones first
+abbrev pub punctuators : List Punct
+punctuators =
+    p.Ellipsis ∷ p.ShiftLeftEqual ∷ p.ShiftRightEqual ∷
+    p.Arrow ∷ p.PlusPlus ∷ p.MinusMinus ∷ p.ShiftLeft ∷ p.ShiftRight ∷ p.LessEqual ∷ p.GreaterEqual ∷ p.EqualEqual ∷
+    p.BangEqual ∷ p.AndAnd ∷ p.BarBar ∷ p.StarEqual ∷ p.SlashEqual ∷ p.PercentEqual ∷ p.PlusEqual ∷ p.MinusEqual ∷
+    p.AmpersandEqual ∷ p.CaretEqual ∷ p.BarEqual ∷
+    p.OpenBracket ∷ p.CloseBracket ∷ p.OpenParen ∷ p.CloseParen ∷ p.OpenBrace ∷ p.CloseBrace ∷ p.Dot ∷ p.Ampersand ∷
+    p.Star ∷ p.Plus ∷ p.Minus ∷ p.Tilde ∷ p.Bang ∷ p.Slash ∷ p.Percent ∷ p.Less ∷ p.Greater ∷ p.Caret ∷ p.Bar ∷
+    p.Question ∷ p.Colon ∷ p.Semicolon ∷ p.Equal ∷ p.Comma ∷ []
 
 -- the longest that the bytes begin with
 unfoldable pub punct_in_front : List ℕ → Option Punct
-punct_in_front bytes = option_and_then (λ b. find (λ punct. starts_with nat_eq bytes (spelling punct)) (beginning_with b)) (slice_get bytes 0)
+punct_in_front bytes = find (λ punct. starts_with nat_eq bytes (spelling punct)) punctuators
 
 -- other spellings of `[ ] { }` and `#` (C99 6.4.6, 3)
 abbrev pub digraphs : List (List ℕ)

@@ -13,6 +13,7 @@ use Rattle.lk_lex.specs.declared.token.TokenKind.TheVariants as k
 use Rattle.lk_lex.specs.declared.front.Front.TheVariants as f
 use Rattle.lk_lex.specs.declared.mark.Mark.{Mark}
 use Rattle.lk_lex.specs.declared.place.Place.{Place}
+use Rattle.lk_lex.specs.Ascii.{new_line}
 use Rattle.lk_lex.specs.Bytes.{is_blank}
 use Rattle.lk_lex.specs.Front.{cut}
 
@@ -25,7 +26,7 @@ abbrev pub after_column : Place → ℕ → Place
 after_column place b = record { spot = record place.spot { col = place.spot.col + 1 }; next = place.next; at = place.at + 1; fresh = place.fresh && is_blank b }
 
 abbrev pub after_byte : Place → ℕ → Place
-after_byte place b = if b == 10 then after_line place else after_column place b
+after_byte place b = if b == new_line then after_line place else after_column place b
 
 abbrev pub after : Place → List ℕ → Place
 after place bytes = fold after_byte place bytes

@@ -5,7 +5,7 @@ ghost use Rattle.std.specs.Char.{digit_value};
 ghost use Rattle.lk_lex.specs.Numbers.{radix, is_digit_of, digits_len, value_of};
 
 /// The base of an integer constant (C99 6.4.4.1) or of an escape (C99 6.4.4.4).
-#[derive(Clone, Copy, Debug, PartialEq, Eq)]
+#[derive(Clone, Copy)]
 pub enum Base {
     /// 8.
     Octal,

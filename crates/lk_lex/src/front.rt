@@ -5,7 +5,7 @@ ghost use Rattle.lk_lex.specs.Front as spec;
 ghost use Rattle.lk_lex.specs.Lengths.{IsFrontWithin};
 
 use crate::base::Base;
-use crate::bytes::{is_among, is_blank, line_len, word_len};
+use crate::bytes::{is_blank, line_len, word_len};
 use crate::keyword::Keyword;
 use crate::mark::{Directive, Mark, directive_of};
 use crate::number::{number_len, number_of};
@@ -16,7 +16,7 @@ use lk_base::{LONGEST_NAME, NoMemory};
 use std::alloc::Global;
 
 /// What stands in front of bytes.
-#[derive(Debug, Drop)]
+#[derive(Drop)]
 pub enum Front {
     /// A byte that begins no blank, comment, mark or token.
     Nothing,
@@ -44,7 +44,7 @@ fn word_kind(text: &[u8]) -> TokenKind
 fn is_wide(word: &[u8], rest: &[u8]) -> bool
     ensures { result ≡ spec.is_wide word.now rest.now }
 {
-    is_among(word, &["L"]) && (rest.starts_with(b"'") || rest.starts_with(b"\""))
+    word == "L".as_bytes() && (rest.starts_with(b"'") || rest.starts_with(b"\""))
 }
 
 /// The word in front.

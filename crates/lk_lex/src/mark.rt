@@ -9,8 +9,8 @@ ghost use Rattle.lk_lex.specs.Marks.{is_flag_byte, line_number, named_mark, numb
 ghost use Rattle.lk_lex.specs.Lengths.{IsLineSmall};
 
 use crate::base::Base;
-use crate::bytes::{is_among, is_blank, past_blanks, word_len};
-use crate::quoted::{Quotation, file_name, quoted_len};
+use crate::bytes::{is_blank, past_blanks, word_len};
+use crate::quoted::{Quotation, push_quoted, quoted_len};
 use lk_base::{Name, NameFault, NoMemory};
 use std::alloc::Global;
 
@@ -18,7 +18,7 @@ use std::alloc::Global;
 const GREATEST_LINE: u64 = 2_147_483_647;
 
 /// A line mark: the next line is the line of this number in the file of this name, or in the same file.
-#[derive(Debug, Drop)]
+#[derive(Drop)]
 pub struct Mark {
     /// At most 2,147,483,647.
     pub line: u32,
@@ -26,7 +26,7 @@ pub struct Mark {
 }
 
 /// A line that begins with `#`.
-#[derive(Debug, Drop)]
+#[derive(Drop)]
 pub enum Directive {
     /// `#pragma`, which is ignored.
     Pragma,
@@ -100,7 +100,8 @@ fn named_mark(alloc: Global, line: u32, bytes: &[u8]) -> Result<Option<Mark>, No
     if !are_flags(flags) {
         return Ok(None);
     }
-    let name = file_name(alloc, bytes)?;
+    let mut name = Vec::new(alloc);
+    push_quoted(Quotation::FileName, bytes, &mut name)?;
     with_name(alloc, line, &name)
 }
 
@@ -150,10 +151,10 @@ pub fn directive_of(alloc: Global, line: &[u8]) -> Result<Option<Directive>, NoM
 {
     let rest = past_blanks(line);
     let (word, others) = rest.split_at(word_len(rest));
-    if is_among(word, &["pragma"]) {
+    if word == "pragma".as_bytes() {
         return Ok(Some(Directive::Pragma));
     }
-    if is_among(word, &["line"]) {
+    if word == "line".as_bytes() {
         return mark_directive(alloc, past_blanks(others));
     }
     mark_directive(alloc, rest)

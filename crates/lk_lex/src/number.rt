@@ -9,7 +9,7 @@ use crate::bytes::{is_among, is_word_byte};
 use lk_base::Kind;
 
 /// The length that a suffix gives a constant.
-#[derive(Clone, Copy, Debug, PartialEq, Eq)]
+#[derive(Clone, Copy)]
 pub enum Length {
     /// No `l`.
     Plain,
@@ -20,7 +20,7 @@ pub enum Length {
 }
 
 /// The suffix of an integer constant (C99 6.4.4.1).
-#[derive(Clone, Copy, Debug, PartialEq, Eq)]
+#[derive(Clone, Copy)]
 pub struct Suffix {
     /// Whether it has a `u` or `U`.
     pub unsigned: bool,
@@ -28,7 +28,7 @@ pub struct Suffix {
 }
 
 /// An integer constant's kind and value.
-#[derive(Clone, Copy, Debug, PartialEq, Eq)]
+#[derive(Clone, Copy)]
 pub struct Number {
     pub kind: Kind,
     pub value: u64,
@@ -63,7 +63,7 @@ pub fn number_len(bytes: &[u8]) -> usize
 fn suffix_of(bytes: &[u8]) -> Option<Suffix>
     ensures { result ≡ suffix_of bytes.now }
 {
-    if is_among(bytes, &[""]) {
+    if bytes.is_empty() {
         return with_suffix(false, Length::Plain);
     }
     if is_among(bytes, &["u", "U"]) {
@@ -94,16 +94,20 @@ fn with_suffix(unsigned: bool, length: Length) -> Option<Suffix>
     Some(Suffix { unsigned, length })
 }
 
-/// The greatest value that a constant of a kind can have.
+/// The greatest value of a kind.
 fn greatest(kind: Kind) -> u64
     ensures { result ≡ greatest kind }
 {
     match kind {
+        Kind::Bool => 1,
+        Kind::Char | Kind::SChar => 127,
+        Kind::UChar => 255,
+        Kind::Short => 32_767,
+        Kind::UShort => 65_535,
         Kind::Int => 2_147_483_647,
         Kind::UInt => 4_294_967_295,
         Kind::Long | Kind::LLong => 9_223_372_036_854_775_807,
         Kind::ULong | Kind::ULLong => 18_446_744_073_709_551_615,
-        _ => 0,
     }
 }
 
@@ -115,13 +119,13 @@ fn kinds(suffix: Suffix, decimal: bool) -> &'static [Kind]
     match (suffix.unsigned, suffix.length, decimal) {
         (false, Length::Plain, true) => &[Int, Long, LLong],
         (false, Length::Plain, false) => &[Int, UInt, Long, ULong, LLong, ULLong],
-        (true, Length::Plain, _) => &[UInt, ULong, ULLong],
+        (true, Length::Plain, true | false) => &[UInt, ULong, ULLong],
         (false, Length::Long, true) => &[Long, LLong],
         (false, Length::Long, false) => &[Long, ULong, LLong, ULLong],
-        (true, Length::Long, _) => &[ULong, ULLong],
+        (true, Length::Long, true | false) => &[ULong, ULLong],
         (false, Length::LongLong, true) => &[LLong],
         (false, Length::LongLong, false) => &[LLong, ULLong],
-        (true, Length::LongLong, _) => &[ULLong],
+        (true, Length::LongLong, true | false) => &[ULLong],
     }
 }
 
@@ -137,7 +141,8 @@ fn first_that_holds(kinds: &[Kind], value: u64) -> Option<Kind>
 fn kind_of(base: Base, suffix: Suffix, value: u64) -> Option<Kind>
     ensures { result ≡ kind_of base suffix value }
 {
-    first_that_holds(kinds(suffix, base == Base::Decimal), value)
+    let decimal = matches!(base, Base::Decimal);
+    first_that_holds(kinds(suffix, decimal), value)
 }
 
 /// The constant of these digits and this suffix.

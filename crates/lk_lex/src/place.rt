@@ -7,7 +7,7 @@ use crate::bytes::is_blank;
 use lk_base::Spot;
 
 /// A place in a source.
-#[derive(Clone, Copy, Debug, PartialEq, Eq)]
+#[derive(Clone, Copy)]
 pub struct Place {
     /// The place of the byte.
     pub spot: Spot,

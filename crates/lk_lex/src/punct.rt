@@ -1,6 +1,5 @@
 //! The punctuators.
-ghost use Rattle.std.specs.Prelude.{◌≡◌, nat_eq};
-ghost use Rattle.std.specs.List.{find, starts_with};
+ghost use Rattle.std.specs.Prelude.{◌≡◌};
 ghost use Rattle.lk_lex.specs.Punctuators as spec;
 ghost use Rattle.lk_lex.specs.Punctuators.{spelling};
 
@@ -101,6 +100,56 @@ pub enum Punct {
     Comma,
 }
 
+/// The punctuators, longer ones first.
+const PUNCTUATORS: [Punct; 46] = [
+    Punct::Ellipsis,
+    Punct::ShiftLeftEqual,
+    Punct::ShiftRightEqual,
+    Punct::Arrow,
+    Punct::PlusPlus,
+    Punct::MinusMinus,
+    Punct::ShiftLeft,
+    Punct::ShiftRight,
+    Punct::LessEqual,
+    Punct::GreaterEqual,
+    Punct::EqualEqual,
+    Punct::BangEqual,
+    Punct::AndAnd,
+    Punct::BarBar,
+    Punct::StarEqual,
+    Punct::SlashEqual,
+    Punct::PercentEqual,
+    Punct::PlusEqual,
+    Punct::MinusEqual,
+    Punct::AmpersandEqual,
+    Punct::CaretEqual,
+    Punct::BarEqual,
+    Punct::OpenBracket,
+    Punct::CloseBracket,
+    Punct::OpenParen,
+    Punct::CloseParen,
+    Punct::OpenBrace,
+    Punct::CloseBrace,
+    Punct::Dot,
+    Punct::Ampersand,
+    Punct::Star,
+    Punct::Plus,
+    Punct::Minus,
+    Punct::Tilde,
+    Punct::Bang,
+    Punct::Slash,
+    Punct::Percent,
+    Punct::Less,
+    Punct::Greater,
+    Punct::Caret,
+    Punct::Bar,
+    Punct::Question,
+    Punct::Colon,
+    Punct::Semicolon,
+    Punct::Equal,
+    Punct::Comma,
+];
+
 impl Punct {
     /// The punctuator's text.
     pub fn text(self) -> &'static str
@@ -157,74 +206,15 @@ impl Punct {
     }
 }
 
-/// The punctuators that begin with this byte, longer ones first.
-#[tactic(auto, unfolding(crate::specs::Punctuators::beginning_with))]
-fn beginning_with(first: u8) -> &'static [Punct]
-    ensures { result.now ≡ spec.beginning_with first }
-{
-    match first {
-        b'[' => &[Punct::OpenBracket],
-        b']' => &[Punct::CloseBracket],
-        b'(' => &[Punct::OpenParen],
-        b')' => &[Punct::CloseParen],
-        b'{' => &[Punct::OpenBrace],
-        b'}' => &[Punct::CloseBrace],
-        b'.' => &[Punct::Ellipsis, Punct::Dot],
-        b'-' => &[
-            Punct::Arrow,
-            Punct::MinusMinus,
-            Punct::MinusEqual,
-            Punct::Minus,
-        ],
-        b'+' => &[Punct::PlusPlus, Punct::PlusEqual, Punct::Plus],
-        b'&' => &[Punct::AndAnd, Punct::AmpersandEqual, Punct::Ampersand],
-        b'*' => &[Punct::StarEqual, Punct::Star],
-        b'~' => &[Punct::Tilde],
-        b'!' => &[Punct::BangEqual, Punct::Bang],
-        b'/' => &[Punct::SlashEqual, Punct::Slash],
-        b'%' => &[Punct::PercentEqual, Punct::Percent],
-        b'<' => &[
-            Punct::ShiftLeftEqual,
-            Punct::ShiftLeft,
-            Punct::LessEqual,
-            Punct::Less,
-        ],
-        b'>' => &[
-            Punct::ShiftRightEqual,
-            Punct::ShiftRight,
-            Punct::GreaterEqual,
-            Punct::Greater,
-        ],
-        b'=' => &[Punct::EqualEqual, Punct::Equal],
-        b'^' => &[Punct::CaretEqual, Punct::Caret],
-        b'|' => &[Punct::BarBar, Punct::BarEqual, Punct::Bar],
-        b'?' => &[Punct::Question],
-        b':' => &[Punct::Colon],
-        b';' => &[Punct::Semicolon],
-        b',' => &[Punct::Comma],
-        _ => &[],
-    }
-}
-
-/// The first of the punctuators that the bytes begin with.
-fn first_of(bytes: &[u8], puncts: &[Punct]) -> Option<Punct>
-    ensures { result ≡ find (λ punct. starts_with nat_eq bytes.now (spelling punct)) puncts.now }
-{
-    puncts
-        .iter()
-        .copied()
-        .find(|punct| bytes.starts_with(punct.text().as_bytes()))
-}
-
 /// The longest punctuator that the bytes begin with.
 #[tactic(auto, unfolding(crate::specs::Punctuators::punct_in_front))]
 pub fn punct_in_front(bytes: &[u8]) -> Option<Punct>
     ensures { result ≡ spec.punct_in_front bytes.now }
 {
-    match bytes.first() {
-        Some(first) => first_of(bytes, beginning_with(*first)),
-        None => None,
-    }
+    PUNCTUATORS
+        .iter()
+        .copied()
+        .find(|punct| bytes.starts_with(punct.text().as_bytes()))
 }
 
 /// Whether the bytes begin with a digraph.

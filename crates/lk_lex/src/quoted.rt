@@ -1,15 +1,30 @@
 //! Escapes, characters and texts, and the names of files in line marks.
-ghost use Rattle.std.specs.Prelude.{◌≡◌, ◌+◌, ◌<◌, ◌≤◌, length, IfSome, IfOk};
+ghost use Rattle.std.specs.Prelude.{◌≡◌, ◌+◌, ◌<◌, ◌≤◌, ◌++◌, length, IfSome, OnOk, OnErr};
+ghost use Rattle.lk_lex.specs.Answer.{Extends};
 ghost use Rattle.lk_lex.specs.Characters as spec;
-ghost use Rattle.lk_lex.specs.Characters.{byte_of, octal_escape, hexadecimal_escape, escape_by, escape, octal_name_escape, name_escape_by, name_escape, escape_in, is_plain, quoted_len, file_name, character, as_signed};
+ghost use Rattle.lk_lex.specs.Characters.{byte_of, octal_escape, hexadecimal_escape, escape_by, escape, octal_name_escape, name_escape_by, name_escape, escape_in, is_plain, quoted_len, quoted_bytes, character, as_signed};
 ghost use Rattle.lk_lex.specs.Lengths.{IsWithin};
 
 use crate::base::Base;
 use lk_base::NoMemory;
-use std::alloc::Global;
+
+/// The code of `\a` (C99 5.2.2).
+const ALERT: u8 = 7;
+
+/// The code of `\b`.
+const BACKSPACE: u8 = 8;
+
+/// The code of `\v`.
+const VERTICAL_TAB: u8 = 11;
+
+/// The code of `\f`.
+const FORM_FEED: u8 = 12;
+
+/// The greatest value of a character.
+const GREATEST_BYTE: u64 = 255;
 
 /// What double quotes enclose.
-#[derive(Clone, Copy, Debug, PartialEq, Eq)]
+#[derive(Clone, Copy)]
 pub enum Quotation {
     /// A string literal.
     Text,
@@ -18,7 +33,7 @@ pub enum Quotation {
 }
 
 /// One character between quotes.
-#[derive(Clone, Copy, Debug, PartialEq, Eq)]
+#[derive(Clone, Copy)]
 pub struct Item {
     /// How many bytes it is written with.
     pub len: usize,
@@ -32,7 +47,7 @@ fn byte_of(base: Base, digits: &[u8]) -> Option<u8>
     ensures { result ≡ byte_of base digits.now }
 {
     let value = base.value_of(digits)?;
-    if value > 255 {
+    if value > GREATEST_BYTE {
         return None;
     }
     Some(value as u8)
@@ -47,13 +62,13 @@ fn simple_escape(byte: u8) -> Option<u8>
         b'"' => Some(b'"'),
         b'?' => Some(b'?'),
         b'\\' => Some(b'\\'),
-        b'a' => Some(7),
-        b'b' => Some(8),
-        b'f' => Some(12),
-        b'n' => Some(10),
-        b'r' => Some(13),
-        b't' => Some(9),
-        b'v' => Some(11),
+        b'a' => Some(ALERT),
+        b'b' => Some(BACKSPACE),
+        b'f' => Some(FORM_FEED),
+        b'n' => Some(b'\n'),
+        b'r' => Some(b'\r'),
+        b't' => Some(b'\t'),
+        b'v' => Some(VERTICAL_TAB),
         _ => None,
     }
 }
@@ -233,24 +248,24 @@ pub fn quoted_len(quotation: Quotation, bytes: &[u8]) -> Option<usize>
     None
 }
 
-/// The values of the characters of a file's name, up to the closing quote.
-pub fn file_name(alloc: Global, bytes: &[u8]) -> Result<Vec<u8>, NoMemory>
-    ensures { IfOk result (λ name. name.items ≡ file_name 0 bytes.now) }
+/// Puts the values of the characters up to the closing quote at the end of `out`.
+pub fn push_quoted(quotation: Quotation, bytes: &[u8], out: &mut Vec<u8>) -> Result<(), NoMemory>
+    ensures ok { OnOk result (out.new.items ≡ out.old.items ++ quoted_bytes quotation 0 bytes.now) }
+    ensures err { OnErr result (Extends out.old.items out.new.items) }
 {
-    let mut name = Vec::new(alloc);
     let mut rest = bytes;
     while let Some(byte) = rest.first() {
         if *byte == b'"' {
-            return Ok(name);
+            return Ok(());
         }
-        let Some(item) = item_in_front(Quotation::FileName, rest) else {
-            return Ok(name);
+        let Some(item) = item_in_front(quotation, rest) else {
+            return Ok(());
         };
-        name.push(item.value)?;
+        out.push(item.value)?;
         let (_, others) = rest.split_at(item.len);
         rest = others;
     }
-    Ok(name)
+    Ok(())
 }
 
 /// The one character between single quotes, by what stands behind the first of them.

@@ -1,26 +1,25 @@
 //! The split of a source into tokens, with blanks, comments and line marks between them.
-ghost use Rattle.std.specs.Prelude.{◌≡◌, ◌<◌, ◌≤◌, length, IfOk, IfErr, OnOk, OnErr};
+ghost use Rattle.std.specs.Prelude.{◌≡◌, ◌+◌, ◌<◌, ◌≤◌, length, IfOk, IfErr, OnOk, OnErr};
 ghost use Rattle.lk_lex.specs.Tokens as spec;
 ghost use Rattle.lk_lex.specs.Tokens.{Splits, start_of, names_with};
-ghost use Rattle.lk_lex.specs.Lengths.{IsFaultOf, refusal_of, IsStop};
-ghost use Rattle.lk_lex.specs.Answer.{Extends};
+ghost use Rattle.lk_lex.specs.Lengths.{IsFaultOf, IsStop};
+ghost use Rattle.lk_lex.specs.Answer.{Extends, refusal};
 
-use crate::fault::LexFault;
 use crate::front::{Front, cut};
 use crate::mark::Mark;
 use crate::place::{Place, after, start_of};
 use crate::token::{Token, TokenKind};
-use lk_base::{Code, Files, Name, NoMemory, Refusal, Spot};
+use lk_base::{Code, Fault, Files, Name, NoMemory, Refusal, Spot};
 use std::alloc::Global;
 
 /// The refusal with this code at this place, which has this name of at most 255 bytes.
-pub fn refused(alloc: Global, code: Code, spot: Spot, name: &[u8]) -> LexFault
+pub fn refused(alloc: Global, code: Code, spot: Spot, name: &[u8]) -> Fault
     requires { length name.now ≤ 255 }
-    ensures { IsFaultOf (refusal_of code spot name.now) result }
+    ensures { IsFaultOf (refusal code spot name.now) result }
 {
     match Name::from_bytes(alloc, name) {
-        Ok(name) => LexFault::Refused(Refusal { code, spot, name }),
-        Err(_) => LexFault::NoMemory,
+        Ok(name) => Fault::Refused(Refusal { code, spot, name }),
+        Err(_) => Fault::NoMemory,
     }
 }
 
@@ -59,18 +58,14 @@ fn token_at(first: Place, behind: Place, kind: TokenKind) -> Token
     }
 }
 
-/// The tokens of a source, up to the code 12. The names of its line marks are put into `files`.
-pub fn split(
-    alloc: Global,
-    source: &[u8],
-    own: u32,
-    files: &mut Files,
-) -> Result<Vec<Token>, LexFault>
+/// The tokens of a source, refused words among them. The names of its line marks are put into `files`.
+pub fn split(alloc: Global, source: &[u8], own: u32, files: &mut Files) -> Result<Vec<Token>, Fault>
     requires few { length source.now ≤ 1048576 }
     requires names { length files.old < 2147483648 }
     ensures ok { IfOk result (λ list. Splits files.old (start_of own) source.now list.items files.new) }
     ensures err { IfErr result (IsStop files.old (start_of own) source.now files.new) }
     ensures names { Extends files.old files.new }
+    ensures few_names { length files.new ≤ length files.old + length source.now }
 {
     let mut found = Vec::new(alloc);
     let mut place = start_of(own);

@@ -24,7 +24,7 @@ pub enum TokenKind {
 }
 
 /// A token, by what it is and where it stands.
-#[derive(Clone, Copy, Debug, PartialEq, Eq)]
+#[derive(Clone, Copy)]
 pub struct Token {
     pub kind: TokenKind,
     /// The number of bytes before the token.

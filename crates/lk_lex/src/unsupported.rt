@@ -1,10 +1,11 @@
 //! The words that are refused.
 ghost use Rattle.std.specs.Prelude.{◌≡◌, length, All, IfSome};
 ghost use Rattle.lk_lex.specs.Answer as answer;
-ghost use Rattle.lk_lex.specs.Answer.{IsInside};
+ghost use Rattle.lk_lex.specs.TokenList.{IsInside};
 ghost use Rattle.lk_lex.specs.Words as spec;
 
 use crate::bytes::is_among;
+use crate::text::text_of;
 use crate::token::{Token, TokenKind};
 
 /// Keywords of C99 for types that are left out, words of C11, and words of compilers.
@@ -64,14 +65,6 @@ fn is_word(kind: TokenKind) -> bool
     ensures { result ≡ answer.is_word kind }
 {
     matches!(kind, TokenKind::Word | TokenKind::Key(_))
-}
-
-/// The bytes of a token of the source.
-pub fn text_of<'a>(source: &'a [u8], token: &Token) -> &'a [u8]
-    requires { IsInside (length source.now) token.now }
-    ensures { result.now ≡ answer.text_of source.entry.now token.now }
-{
-    &source[token.from as usize..token.to as usize]
 }
 
 /// Whether a token of the source is a word that is refused.

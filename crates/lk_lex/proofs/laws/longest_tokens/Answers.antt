@@ -1,4 +1,4 @@
-use Rattle.lk_lex.proofs.Longest.{are_longest}
+use Rattle.lk_lex.proofs.InFront.{are_longest}
 use Rattle.lk_lex.proofs.laws.longest_tokens.Goals as goal
 
 pub returns : goal.returns

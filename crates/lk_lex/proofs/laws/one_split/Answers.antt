@@ -1,4 +1,5 @@
 use Rattle.lk_lex.proofs.Always.{always_one}
+use Rattle.lk_lex.proofs.OneAnswer.{has_one_answer}
 use Rattle.lk_lex.proofs.OneSplit.{has_one_list, never_both, has_one_stop}
 use Rattle.lk_lex.proofs.laws.one_split.Goals as goal
 
@@ -13,3 +14,6 @@ returns-clause-never_both c = never_both
 
 pub returns-clause-stop : goal.returns-clause-stop
 returns-clause-stop c = has_one_stop
+
+pub returns-clause-answer : goal.returns-clause-answer
+returns-clause-answer c = has_one_answer

@@ -1,0 +1,7 @@
+//! Tests of what the crates that read sources offer.
+#![tactic(auto)]
+
+#[cfg(test)]
+mod lex;
+#[cfg(test)]
+mod texts;

@@ -1,0 +1,2 @@
+//! Initialisers and declarations from tokens.
+#![tactic(auto)]

@@ -1,0 +1,10 @@
+pub mod Input
+pub mod Words
+pub mod Heads
+pub mod Front
+pub mod Readers
+pub mod Reading
+pub mod Grammar
+pub mod Declarations
+pub mod Statements
+pub mod Tree
