@@ -1,8 +1,8 @@
 -- What tables of items have, and lists that are joined from others.
-use Rattle.std.proofs.Common.{◌≡◌, ◌<◌, ◌+◌, ◌&&◌, ◌||◌, ◌++◌, ◌⊎◌, ◌↔◌, ℕ, Bool, true, false, eqb, cond, List, [], ◌∷◌, length, get_or, take, All, Contains, Option, Some, None, refl, sym, ap, ◌∙◌, subst, ⊎_elim, inl, inr}
+use Rattle.std.proofs.Common.{◌≡◌, ◌<◌, ◌+◌, ◌&&◌, ◌++◌, ◌⊎◌, ◌↔◌, ℕ, Bool, true, false, eqb, cond, List, [], ◌∷◌, get_or, take, All, Contains, Option, Some, None, refl, sym, ap, ◌∙◌, subst, ⊎_elim, inl, inr}
 use Rattle.std.specs.List.{flat_map, slice_get}
 use Rattle.std.specs.Option.{is_some, option_map}
-use Rattle.std.proofs.lemmas.Bool.{and_from, and_parts, cases_Bool, eqb-true, eq-eqb, false≢true, or_cases, or_left, or_right}
+use Rattle.std.proofs.lemmas.Bool.{cases_Bool, eqb-true, eq-eqb, false≢true, or_cases, or_left, or_right}
 use Rattle.std.proofs.lemmas.List.{append-nil, take_more}
 use Rattle.std.proofs.lemmas.List.Concat.{flat_map-append}
 use Rattle.std.proofs.lemmas.List.Elements.{All-head, All-tail}
@@ -12,10 +12,10 @@ use Rattle.lk_sets.proofs.Rising.{has_id-append}
 use Rattle.lk_rise.specs.declared.correlations.Item.{Item}
 use Rattle.lk_rise.specs.Correlations.{is_same, item_of, has_of, has_item, set_of}
 use Rattle.lk_rise.proofs.ItemLemmas.{same_from_equal, same_item, same_itself}
-use Rattle.lk_rise.proofs.SetLemmas.{has_id-one}
+use Rattle.lk_links.proofs.SetLemmas.{has_id-one}
 use Rattle.lk_conflict.specs.Listing.{access_in, accesses_in}
 use Rattle.lk_conflict.specs.Places.{AreLocksBelow}
-use Rattle.lk_conflict.proofs.ListLemmas.{head_or_tail, head_there, none_there, tail_there}
+use Rattle.lk_rise.proofs.ListLemmas.{head_or_tail, head_there, none_there, tail_there}
 
 -- the first entry of a table is there
 pub first_there : (e : Item × List ℕ) (es : List (Item × List ℕ)) → has_of (e ∷ es) e.0.function e.0.child e.0.subject e.0.access ≡ true

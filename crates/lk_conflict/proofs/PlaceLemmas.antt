@@ -1,15 +1,15 @@
 -- The lock places that are held at each racing item of an access.
-use Rattle.std.proofs.Common.{◌≡◌, ◌&&◌, ◌⊎◌, ◌↔◌, ℕ, Bool, true, false, not, List, Option, Some, None, refl, sym, ◌∙◌, subst, inl, inr}
+use Rattle.std.proofs.Common.{◌≡◌, ◌&&◌, ◌⊎◌, ◌↔◌, ℕ, Bool, true, false, not, List, Some, None, refl, sym, ◌∙◌, subst, inl, inr}
 use Rattle.std.specs.Option.{is_some, option_map_or}
 use Rattle.std.proofs.lemmas.Bool.{and_from, and_parts, false≢true}
-use Rattle.lk_facts.specs.Flow.{Flow, MeansOnly}
+use Rattle.lk_facts.specs.Basis.{Basis}
+use Rattle.lk_facts.specs.Flow.{MeansOnly}
 use Rattle.lk_facts.specs.Lists.{Lists}
-use Rattle.lk_facts.specs.Program.{Program}
-use Rattle.lk_facts.specs.Verdicts.{IsLockPlace, IsLockedBy, InLockSet}
+use Rattle.lk_facts.specs.Verdicts.{InLockSet}
 use Rattle.lk_sets.specs.Ids.{has_id, IsSetOf}
 use Rattle.lk_rise.specs.declared.correlations.Item.{Item}
 use Rattle.lk_rise.specs.Correlations.{set_of, item_of, has_of, locks_of}
-use Rattle.lk_conflict.specs.Places.{IsPlaceBy, IsPlaceOf}
+use Rattle.lk_conflict.specs.Places.{IsPlaceOf}
 
 same_or_other : (c d : Bool) → (c ≡ d) ⊎ (c ≡ not d)
 same_or_other true true = inl refl
@@ -24,12 +24,12 @@ set_lists P members ids is set = record {
   members = λ x. (λ there. (is x).0 (sym (set.members x) ∙ there), λ holds. set.members x ∙ (is x).1 holds);
 }
 
-module _ (program : Program) (flow : Flow) (linear : ℕ → Bool) (entries : List (Item × List ℕ)) (o a : ℕ) where
+module _ (basis : Basis) (linear : ℕ → Bool) (entries : List (Item × List ℕ)) (o a : ℕ) where
   -- what an own and a child item of the access have in common
   pub both_held : (own child places others ids : List ℕ) →
-      Some own ≡ set_of entries (item_of program.main false o a) → Some child ≡ set_of entries (item_of program.main true o a) →
-      Lists (IsPlaceOf program flow linear own) places → Lists (IsPlaceOf program flow linear child) others → IsSetOf (λ x. has_id places x && has_id others x) ids →
-      Lists (InLockSet program flow (has_of entries) (locks_of entries) linear o a) ids
+      Some own ≡ set_of entries (item_of basis.program.main false o a) → Some child ≡ set_of entries (item_of basis.program.main true o a) →
+      Lists (IsPlaceOf basis linear own) places → Lists (IsPlaceOf basis linear child) others → IsSetOf (λ x. has_id places x && has_id others x) ids →
+      Lists (InLockSet basis (has_of entries) (locks_of entries) linear o a) ids
   both_held own child places others ids at_own at_child are are' set = record {
     sorted = set.sorted;
     members = λ q. (
@@ -40,7 +40,7 @@ module _ (program : Program) (flow : Flow) (linear : ℕ → Bool) (entries : Li
           record {
             is_place = first.2.is_place;
             is_linear = first.2.is_linear;
-            is_locked = λ c. elim c as (λ c. has_of entries program.main c o a ≡ true → (x : ℕ) × (locks_of entries program.main c o a x ≡ true) × MeansOnly flow x q) [
+            is_locked = λ c. elim c as (λ c. has_of entries basis.program.main c o a ≡ true → (x : ℕ) × (locks_of entries basis.program.main c o a x ≡ true) × MeansOnly basis.flow x q) [
               | true ↦ λ has. (second.0, subst (λ s. option_map_or (λ (t : List ℕ). has_id t second.0) s false ≡ true) at_child second.1, second.2.means)
               | false ↦ λ has. (first.0, subst (λ s. option_map_or (λ (t : List ℕ). has_id t first.0) s false ≡ true) at_own first.1, first.2.means)
             ];
@@ -55,9 +55,9 @@ module _ (program : Program) (flow : Flow) (linear : ℕ → Bool) (entries : Li
   }
 
   -- what the one item of the access holds
-  pub one_held : (child : Bool) (locks ids : List ℕ) → Some locks ≡ set_of entries (item_of program.main child o a) →
-      None ≡ set_of entries (item_of program.main (not child) o a) →
-      Lists (IsPlaceOf program flow linear locks) ids → Lists (InLockSet program flow (has_of entries) (locks_of entries) linear o a) ids
+  pub one_held : (child : Bool) (locks ids : List ℕ) → Some locks ≡ set_of entries (item_of basis.program.main child o a) →
+      None ≡ set_of entries (item_of basis.program.main (not child) o a) →
+      Lists (IsPlaceOf basis linear locks) ids → Lists (InLockSet basis (has_of entries) (locks_of entries) linear o a) ids
   one_held child locks ids at none are = record {
     sorted = are.sorted;
     members = λ q. (
@@ -67,8 +67,8 @@ module _ (program : Program) (flow : Flow) (linear : ℕ → Bool) (entries : Li
             is_place = found.2.is_place;
             is_linear = found.2.is_linear;
             is_locked = λ c has. elim (same_or_other c child) [
-              | inl same ↦ (found.0, subst (λ d. locks_of entries program.main d o a found.0 ≡ true) (sym same) (subst (λ s. option_map_or (λ (t : List ℕ). has_id t found.0) s false ≡ true) at found.1), found.2.means)
-              | inr other ↦ absurd (false≢true (subst (λ s. is_some s ≡ true) (sym none) (subst (λ d. has_of entries program.main d o a ≡ true) other has)))
+              | inl same ↦ (found.0, subst (λ d. locks_of entries basis.program.main d o a found.0 ≡ true) (sym same) (subst (λ s. option_map_or (λ (t : List ℕ). has_id t found.0) s false ≡ true) at found.1), found.2.means)
+              | inr other ↦ absurd (false≢true (subst (λ s. is_some s ≡ true) (sym none) (subst (λ d. has_of entries basis.program.main d o a ≡ true) other has)))
             ];
           },
       λ locked.

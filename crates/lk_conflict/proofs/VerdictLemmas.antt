@@ -1,16 +1,15 @@
 -- What the lock sets of racing accesses say of a location.
-use Rattle.std.proofs.Common.{◌≡◌, ◌<◌, ◌≤◌, ◌+◌, ◌&&◌, ◌++◌, ◌⊎◌, ◌↔◌, ℕ, zero, suc, Bool, true, false, eqb, List, [], ◌∷◌, length, get_or, take, All, Contains, map, Some, refl, sym, ap, ◌∙◌, subst, inl, inr, arith}
+use Rattle.std.proofs.Common.{◌≡◌, ◌<◌, ◌+◌, ◌&&◌, ◌++◌, ◌⊎◌, ℕ, zero, suc, Bool, true, false, eqb, List, [], ◌∷◌, length, get_or, take, Contains, map, Some, refl, sym, ap, ◌∙◌, subst, inl, inr, arith}
 use Rattle.std.specs.List.{slice_get}
 use Rattle.std.proofs.lemmas.Bool.{eq-eqb, eqb-true, false≢true, or_cases, or_left, or_right}
 use Rattle.std.proofs.lemmas.List.Elements.{All-contains, All-contains_itself, All-weaker, Contains-append_left, Contains-append_right, Contains-append_cases, Contains-push, Contains-push_cases}
 use Rattle.std.proofs.lemmas.List.Folds.{list_all_more}
 use Rattle.std.proofs.lemmas.List.Sums.{AllPass-from_list_all, list_all-from_AllPass}
 use Rattle.std.proofs.lemmas.Option.{none-some}
-use Rattle.lk_facts.specs.Flow.{Flow}
+use Rattle.lk_facts.specs.Basis.{Basis}
 use Rattle.lk_facts.specs.Items.{ItemTest, LockTest}
 use Rattle.lk_facts.specs.Lists.{Lists}
-use Rattle.lk_facts.specs.Program.{Program}
-use Rattle.lk_facts.specs.Verdicts.{IsRacing, InLockSet, Guards, IsVerdict, AreRacing, AreNamed, IsVerdictOf}
+use Rattle.lk_facts.specs.Verdicts.{InLockSet, Guards, IsVerdict, AreRacing, AreNamed, IsVerdictOf}
 use Rattle.lk_facts.specs.Verdicts.IsVerdict.{unshared, guarded, suspect}
 use Rattle.lk_facts.specs.declared.verdict.Racing.{Racing}
 use Rattle.lk_facts.specs.declared.verdict.Verdict.{Verdict}
@@ -53,28 +52,28 @@ mapped_there (s ∷ rs) r there =
     one_is : (s r : Racing) → Contains (s ∷ []) r → s ≡ r
     one_is s r there = elim (Contains-push_cases [] s r there) [ inl none ↦ absurd (omega (arith, none.1)) | inr same ↦ same ]
 
-module _ (program : Program) (flow : Flow) (races : ItemTest) (locks : LockTest) (linear : ℕ → Bool) (o : ℕ) where
+module _ (basis : Basis) (races : ItemTest) (locks : LockTest) (linear : ℕ → Bool) (o : ℕ) where
   -- what is in all lock sets guards the location
-  guards : (accesses : List Racing) → AreRacing program flow races locks linear o accesses → (q : ℕ) → in_all accesses q ≡ true → Guards program flow races locks linear o q
+  guards : (accesses : List Racing) → AreRacing basis races locks linear o accesses → (q : ℕ) → in_all accesses q ≡ true → Guards basis races locks linear o q
   guards accesses are q passes a racing =
       let found = mapped accesses a ((are.each.members a).1 racing) in
       let there = All-contains (λ (r : Racing). has_id r.locks q ≡ true) accesses found.0 (AllPass-from_list_all (λ (r : Racing). has_id r.locks q) accesses passes) found.1 in
-      let set = All-contains (λ (r : Racing). Lists (InLockSet program flow races locks linear o r.access) r.locks) accesses found.0 are.sets found.1 in
-      subst (λ b. InLockSet program flow races locks linear o b q) found.2 ((set.members q).0 there)
+      let set = All-contains (λ (r : Racing). Lists (InLockSet basis races locks linear o r.access) r.locks) accesses found.0 are.sets found.1 in
+      subst (λ b. InLockSet basis races locks linear o b q) found.2 ((set.members q).0 there)
 
   -- and what guards it is in all
-  guarding : (accesses : List Racing) → AreRacing program flow races locks linear o accesses → (q : ℕ) → Guards program flow races locks linear o q → in_all accesses q ≡ true
+  guarding : (accesses : List Racing) → AreRacing basis races locks linear o accesses → (q : ℕ) → Guards basis races locks linear o q → in_all accesses q ≡ true
   guarding accesses are q guards =
       list_all-from_AllPass (λ (r : Racing). has_id r.locks q) accesses
       (All-weaker (Contains accesses) (λ (r : Racing). has_id r.locks q ≡ true)
       (λ r there.
-      let set = All-contains (λ (s : Racing). Lists (InLockSet program flow races locks linear o s.access) s.locks) accesses r are.sets there in
+      let set = All-contains (λ (s : Racing). Lists (InLockSet basis races locks linear o s.access) s.locks) accesses r are.sets there in
       (set.members q).1 (guards r.access ((are.each.members r.access).0 (mapped_there accesses r there))))
       accesses (All-contains_itself accesses))
 
   -- the state and the locks that are named
-  by_accesses : (accesses : List Racing) (named : List ℕ) → AreRacing program flow races locks linear o accesses → IsCommon accesses named →
-      IsVerdict program flow races locks linear o (state_of accesses named) × AreNamed program flow races locks linear o (state_of accesses named) named
+  by_accesses : (accesses : List Racing) (named : List ℕ) → AreRacing basis races locks linear o accesses → IsCommon accesses named →
+      IsVerdict basis races locks linear o (state_of accesses named) × AreNamed basis races locks linear o (state_of accesses named) named
   by_accesses [] named are common = (unshared (λ a racing. absurd (false≢true ((are.each.members a).1 racing))), common)
   by_accesses (r ∷ rs) [] are common = (
     suspect ((are.each.members r.access).0 (or_left _ _ (eq-eqb r.access r.access refl)))
@@ -91,15 +90,15 @@ module _ (program : Program) (flow : Flow) (races : ItemTest) (locks : LockTest)
   )
 
   -- the verdict from the accesses, what their lock sets have in common, and the state
-  pub verdict_is : (verdict : Verdict) → verdict.location ≡ o → AreRacing program flow races locks linear o verdict.accesses → IsCommon verdict.accesses verdict.locks → verdict.state ≡ state_of verdict.accesses verdict.locks →
-      IsVerdictOf program flow races locks linear o verdict
+  pub verdict_is : (verdict : Verdict) → verdict.location ≡ o → AreRacing basis races locks linear o verdict.accesses → IsCommon verdict.accesses verdict.locks → verdict.state ≡ state_of verdict.accesses verdict.locks →
+      IsVerdictOf basis races locks linear o verdict
   verdict_is verdict at are common state =
       let found = by_accesses verdict.accesses verdict.locks are common in
       record {
         location = at;
         racing = are;
-        state = subst (IsVerdict program flow races locks linear o) (sym state) found.0;
-        named = subst (λ s. AreNamed program flow races locks linear o s verdict.locks) (sym state) found.1;
+        state = subst (IsVerdict basis races locks linear o) (sym state) found.0;
+        named = subst (λ s. AreNamed basis races locks linear o s verdict.locks) (sym state) found.1;
       }
 
 -- what a list has that was made one longer

@@ -2,3 +2,4 @@ pub mod Bases
 pub mod Facts
 pub mod Listing
 pub mod Places
+pub mod Settings

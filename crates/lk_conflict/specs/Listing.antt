@@ -1,20 +1,18 @@
 -- Lists as the code makes them. Private contracts alone cite these words.
-use Rattle.std.specs.Prelude.{◌≡◌, ◌==◌, ◌&&◌, ◌||◌, ℕ, Bool, true, false, List, [], ◌∷◌, if◌then◌else◌, map, IsTrue}
+use Rattle.std.specs.Prelude.{◌≡◌, ◌==◌, ◌&&◌, ◌||◌, ℕ, Bool, false, List, [], ◌∷◌, if◌then◌else◌, map}
 use Rattle.std.specs.List.{filter, flat_map, list_all, list_any}
-use Rattle.std.specs.List.Sorted.{IsStrictlyIncreasing}
 use Rattle.lk_facts.specs.declared.verdict.Racing.{Racing}
 use Rattle.lk_facts.specs.declared.verdict.VerdictState.{VerdictState}
 use Rattle.lk_facts.specs.declared.verdict.VerdictState.TheVariants.{Guarded, Unshared, Suspect}
 use Rattle.lk_facts.specs.Origins.{OriginTable}
-use Rattle.lk_facts.specs.Program.{Program}
+use Rattle.lk_facts.specs.declared.program.Program.{Program}
 use Rattle.lk_facts.specs.declared.source.Source.{Source}
 use Rattle.lk_facts.specs.declared.source.Source.TheVariants.{OwnAccess, ItemBelow}
 use Rattle.lk_facts.specs.declared.way.Way.{Way}
-use Rattle.lk_facts.specs.declared.way.Way.TheVariants.{Through}
 use Rattle.lk_conflict.specs.Facts.{are_in_conflict}
 use Rattle.lk_conflict.specs.declared.item_at.ItemAt.{ItemAt}
-use Rattle.lk_rise.specs.declared.links.Link.{Link}
-use Rattle.lk_rise.specs.Only.{over_list}
+use Rattle.lk_links.specs.declared.link.Link.{Link}
+use Rattle.lk_links.specs.Only.{over_list}
 use Rattle.lk_rise.specs.declared.correlations.Item.{Item}
 use Rattle.lk_sets.specs.Ids.{has_id, IsSetOf}
 use Rattle.lk_sets.specs.Rows.{has}
@@ -55,11 +53,15 @@ abbrev pub risen_by : Link → Item → Source → ℕ → ItemAt
 risen_by link item source subject = record { point = link.point; source = source; child = item.child || link.starts; subject = subject; access = item.access }
 
 abbrev pub risen_item_of : Link → Item → ℕ → ItemAt
-risen_item_of link item = risen_by link item (source_of item (Through link.site))
+risen_item_of link item = risen_by link item (source_of item link.way)
 
 -- the items of a call or creation from an item, where it is one of the function below
 abbrev pub items_through : OriginTable → Link → Item → List ItemAt
-items_through origins link item = if item.function == link.below then map (risen_item_of link item) (over_list origins link.site item.subject) else []
+items_through origins link item = if item.function == link.below then map (risen_item_of link item) (over_list origins link.way item.subject) else []
+
+-- the items of a call or creation from all items
+abbrev pub items_by : OriginTable → List (Item × List ℕ) → Link → List ItemAt
+items_by origins entries link = flat_map (λ entry. items_through origins link entry.0) entries
 
 -- the items that may be at a location
 abbrev pub at_location : OriginTable → ℕ → List ItemAt → List ItemAt

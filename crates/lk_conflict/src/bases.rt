@@ -1,4 +1,6 @@
 //! What racing items begin with.
+ghost use Rattle.lk_conflict.specs.Settings.{setting};
+ghost use Rattle.lk_facts.specs.Facts.{basis_of};
 ghost use Rattle.std.specs.Prelude.{◌≡◌, ◌<◌, ◌⊎◌, ◌↔◌, ℕ, Bool, false, true, Contains, length, All, IfOk, OnOk};
 ghost use Rattle.lk_conflict.specs.Bases.{IsInConflict, MayBeAt, IsBasis, Adds};
 ghost use Rattle.lk_conflict.specs.Facts.{IsItemOf, IsItemInRange};
@@ -9,24 +11,25 @@ ghost use Rattle.lk_facts.specs.Flow.{RisesAs};
 ghost use Rattle.lk_facts.specs.Items.{HasLock};
 ghost use Rattle.lk_facts.specs.LockSets.{keep_of};
 ghost use Rattle.lk_facts.specs.Origins.{flow_of, IsSetBelow};
-ghost use Rattle.lk_facts.specs.declared.way.Way.TheVariants.{Through};
+ghost use Rattle.lk_links.specs.Links.{AreLinks};
 ghost use Rattle.lk_rise.specs.Correlations.{has_of, has_lock, locks_of};
 ghost use Rattle.lk_sets.specs.Ids.{has_id};
 ghost use Rattle.lk_sets.specs.Rows.{has};
 
-use crate::facts::Facts;
+use crate::grounds::Grounds;
 use crate::item_at::ItemAt;
 use lk_base::NoMemory;
-use lk_facts::{Site, Source, Way};
-use lk_rise::{Item, risen};
+use lk_facts::{Source, Way};
+use lk_links::risen;
+use lk_rise::Item;
 use lk_sets::IdSet;
 use std::alloc::Global;
 
-impl Facts<'_> {
+impl Grounds<'_> {
     /// The locks that are held at an item of a function, and none where it has no such item.
     fn locks_below(&self, item: Item) -> &[u32]
         ensures members { (x : ℕ) → has_id result.now x ≡ has_lock self.now.items.now item x }
-        ensures in_range { All (λ x. x < self.now.origins.now.all.size) result.now }
+        ensures in_range { All (λ x. x < length self.now.facts.now.labels.entries) result.now }
     {
         match self.items.find(item) {
             Some(locks) => locks,
@@ -34,46 +37,37 @@ impl Facts<'_> {
         }
     }
 
-    /// The locks that a point keeps for an own item, and none for a child item.
-    fn kept(&self, point: u32, child: bool) -> &[u32]
-        requires { point < length self.now.points.now.points }
-        ensures members { (x : ℕ) → (has_id result.now x ≡ true) ↔ ((child ≡ false) × (has_id (keep_of self.now.held.now point) x ≡ true)) }
-        ensures in_range { All (λ x. x < length self.now.labels.now.entries) result.now }
-    {
-        if child {
-            return &[];
-        }
-        self.held.keep(point)
-    }
-
-    /// The locks with which an item below rises to a call or creation.
+    /// The locks with which an item below rises to a point that goes into its function by this way.
     fn risen_locks(
         &self,
         alloc: Global,
         point: u32,
-        site: Site,
+        way: &Way,
         below: Item,
         child: bool,
     ) -> Result<IdSet, NoMemory>
-        requires { point < length self.now.points.now.points }
+        requires { point < length self.now.facts.now.program.points }
         ensures members { IfOk result (λ set. (x : ℕ) → (has_id set x ≡ true)
-            ↔ (((y : ℕ) × (has_lock self.now.items.now below y ≡ true) × RisesAs (flow_of self.now.origins.now) (Through site) y x)
+            ↔ (((y : ℕ) × (has_lock self.now.items.now below y ≡ true) × RisesAs (flow_of self.now.facts.now.origins) way.now y x)
             ⊎ ((child ≡ false) × (has_id (keep_of self.now.held.now point) x ≡ true)))) }
-        ensures in_range { IfOk result (IsSetBelow (length self.now.labels.now.entries)) }
+        ensures in_range { IfOk result (IsSetBelow (length self.now.facts.now.labels.entries)) }
     {
-        let mut ids = risen(alloc, self.origins, site, self.locks_below(below))?;
-        ids.extend_from_slice(self.kept(point, child))?;
-        let set = IdSet::from_list(alloc, &ids)?;
-        Ok(set)
+        let risen = risen(alloc, self.facts, way, self.locks_below(below))?;
+        if child {
+            return Ok(risen);
+        }
+        let kept = IdSet::from_list(alloc, self.held.keep(point))?;
+        let all = risen.union(&kept)?;
+        Ok(all)
     }
 
     /// The locks that are held at an item of a point.
     fn locks(&self, alloc: Global, function: u32, item: &ItemAt) -> Result<IdSet, NoMemory>
-        requires in_range { IsItemInRange self.now.points.now self.now.labels.now item.now }
-        requires item { IsItemOf self.now.points.now self.now.labels.now (flow_of self.now.origins.now) (has_of self.now.items.now) function item.now }
+        requires in_range { IsItemInRange self.now.facts.now item.now }
+        requires item { IsItemOf (basis_of self.now.facts.now) (has_of self.now.items.now) function item.now }
         ensures members { IfOk result (λ set. (x : ℕ) → (has_id set x ≡ true)
-            ↔ HasLock self.now.points.now self.now.labels.now (flow_of self.now.origins.now) (held_table self.now.held.now) (locks_of self.now.items.now) item.now.point item.now.source item.now.child item.now.access x) }
-        ensures in_range { IfOk result (IsSetBelow (length self.now.labels.now.entries)) }
+            ↔ HasLock (basis_of self.now.facts.now) (setting self.now).held (setting self.now).locks item.now.point item.now.source item.now.child item.now.access x) }
+        ensures in_range { IfOk result (IsSetBelow (length self.now.facts.now.labels.entries)) }
     {
         match item.source {
             Source::OwnAccess => {
@@ -86,16 +80,13 @@ impl Facts<'_> {
                 child,
                 subject,
             } => {
-                let Way::Through(site) = way else {
-                    unreachable!()
-                };
                 let below = Item {
                     function,
                     child,
                     subject,
                     access: item.access,
                 };
-                let set = self.risen_locks(alloc, item.point, site, below, item.child)?;
+                let set = self.risen_locks(alloc, item.point, &way, below, item.child)?;
                 Ok(set)
             }
         }
@@ -110,11 +101,11 @@ impl Facts<'_> {
         item: &ItemAt,
         based: &mut Vec<(Item, IdSet)>,
     ) -> Result<(), NoMemory>
-        requires function { function < length self.now.points.now.functions }
-        requires location { location < self.now.points.now.locations }
-        requires in_range { IsItemInRange self.now.points.now self.now.labels.now item.now }
-        requires item { IsItemOf self.now.points.now self.now.labels.now (flow_of self.now.origins.now) (has_of self.now.items.now) function item.now }
-        ensures { OnOk result (Adds self.now.points.now self.now.labels.now (flow_of self.now.origins.now) (has self.now.after.now) (has_of self.now.items.now) (held_table self.now.held.now) (locks_of self.now.items.now)
+        requires function { function < length self.now.facts.now.program.functions }
+        requires location { location < self.now.facts.now.program.locations }
+        requires in_range { IsItemInRange self.now.facts.now item.now }
+        requires item { IsItemOf (basis_of self.now.facts.now) (has_of self.now.items.now) function item.now }
+        ensures { OnOk result (Adds self.now.facts.now (setting self.now)
             (λ f o i. (f ≡ function) × (o ≡ location) × (i ≡ item.now)) based.old.items based.new.items) }
     {
         let locks = self.locks(alloc, function, item)?;
@@ -138,13 +129,13 @@ impl Facts<'_> {
         others: &[ItemAt],
         based: &mut Vec<(Item, IdSet)>,
     ) -> Result<(), NoMemory>
-        requires function { function < length self.now.points.now.functions }
-        requires location { location < self.now.points.now.locations }
-        requires in_range { IsItemInRange self.now.points.now self.now.labels.now item.now }
-        requires item { IsItemOf self.now.points.now self.now.labels.now (flow_of self.now.origins.now) (has_of self.now.items.now) function item.now }
-        requires others { All (IsItemInRange self.now.points.now self.now.labels.now) others.now }
-        ensures { OnOk result (Adds self.now.points.now self.now.labels.now (flow_of self.now.origins.now) (has self.now.after.now) (has_of self.now.items.now) (held_table self.now.held.now) (locks_of self.now.items.now)
-            (λ f o i. (f ≡ function) × (o ≡ location) × (i ≡ item.now) × (is_in_conflict self.now.points.now (has self.now.after.now) others.now i ≡ true)) based.old.items based.new.items) }
+        requires function { function < length self.now.facts.now.program.functions }
+        requires location { location < self.now.facts.now.program.locations }
+        requires in_range { IsItemInRange self.now.facts.now item.now }
+        requires item { IsItemOf (basis_of self.now.facts.now) (has_of self.now.items.now) function item.now }
+        requires others { All (IsItemInRange self.now.facts.now) others.now }
+        ensures { OnOk result (Adds self.now.facts.now (setting self.now)
+            (λ f o i. (f ≡ function) × (o ≡ location) × (i ≡ item.now) × (is_in_conflict self.now.facts.now.program (has self.now.after.now) others.now i ≡ true)) based.old.items based.new.items) }
     {
         if !self.is_in_conflict(item, others) {
             return Ok(());
@@ -162,12 +153,12 @@ impl Facts<'_> {
         items: &[ItemAt],
         based: &mut Vec<(Item, IdSet)>,
     ) -> Result<(), NoMemory>
-        requires function { function < length self.now.points.now.functions }
-        requires location { location < self.now.points.now.locations }
-        requires in_range { All (IsItemInRange self.now.points.now self.now.labels.now) items.now }
-        requires items { All (IsItemOf self.now.points.now self.now.labels.now (flow_of self.now.origins.now) (has_of self.now.items.now) function) items.now }
-        ensures { OnOk result (Adds self.now.points.now self.now.labels.now (flow_of self.now.origins.now) (has self.now.after.now) (has_of self.now.items.now) (held_table self.now.held.now) (locks_of self.now.items.now)
-            (λ f o i. (f ≡ function) × (o ≡ location) × Contains items.now i × (is_in_conflict self.now.points.now (has self.now.after.now) items.now i ≡ true)) based.old.items based.new.items) }
+        requires function { function < length self.now.facts.now.program.functions }
+        requires location { location < self.now.facts.now.program.locations }
+        requires in_range { All (IsItemInRange self.now.facts.now) items.now }
+        requires items { All (IsItemOf (basis_of self.now.facts.now) (has_of self.now.items.now) function) items.now }
+        ensures { OnOk result (Adds self.now.facts.now (setting self.now)
+            (λ f o i. (f ≡ function) × (o ≡ location) × Contains items.now i × (is_in_conflict self.now.facts.now.program (has self.now.after.now) items.now i ≡ true)) based.old.items based.new.items) }
     {
         for item in items {
             self.push_conflict(alloc, function, location, item, items, based)?;
@@ -184,13 +175,13 @@ impl Facts<'_> {
         items: &[ItemAt],
         based: &mut Vec<(Item, IdSet)>,
     ) -> Result<(), NoMemory>
-        requires function { function < length self.now.points.now.functions }
-        requires location { location < self.now.points.now.locations }
-        requires in_range { All (IsItemInRange self.now.points.now self.now.labels.now) items.now }
-        requires label { location < length self.now.labels.now.entries }
-        requires items { (i : ItemAt) → Contains items.now i ↔ IsItemOf self.now.points.now self.now.labels.now (flow_of self.now.origins.now) (has_of self.now.items.now) function i }
-        ensures { OnOk result (Adds self.now.points.now self.now.labels.now (flow_of self.now.origins.now) (has self.now.after.now) (has_of self.now.items.now) (held_table self.now.held.now) (locks_of self.now.items.now)
-            (λ f o i. (f ≡ function) × (o ≡ location) × IsInConflict self.now.points.now self.now.labels.now (flow_of self.now.origins.now) (has self.now.after.now) (has_of self.now.items.now) f o i) based.old.items based.new.items) }
+        requires function { function < length self.now.facts.now.program.functions }
+        requires location { location < self.now.facts.now.program.locations }
+        requires in_range { All (IsItemInRange self.now.facts.now) items.now }
+        requires label { location < length self.now.facts.now.labels.entries }
+        requires items { (i : ItemAt) → Contains items.now i ↔ IsItemOf (basis_of self.now.facts.now) (has_of self.now.items.now) function i }
+        ensures { OnOk result (Adds self.now.facts.now (setting self.now)
+            (λ f o i. (f ≡ function) × (o ≡ location) × IsInConflict self.now.facts.now (setting self.now) f o i) based.old.items based.new.items) }
     {
         let here = self.at_location(alloc, location, items)?;
         self.push_each(alloc, function, location, &here, based)?;
@@ -204,12 +195,13 @@ impl Facts<'_> {
         function: u32,
         based: &mut Vec<(Item, IdSet)>,
     ) -> Result<(), NoMemory>
-        requires { function < length self.now.points.now.functions }
-        ensures { OnOk result (Adds self.now.points.now self.now.labels.now (flow_of self.now.origins.now) (has self.now.after.now) (has_of self.now.items.now) (held_table self.now.held.now) (locks_of self.now.items.now)
-            (λ f o i. (f ≡ function) × IsInConflict self.now.points.now self.now.labels.now (flow_of self.now.origins.now) (has self.now.after.now) (has_of self.now.items.now) f o i) based.old.items based.new.items) }
+        requires links { AreLinks (basis_of self.now.facts.now) self.now.links.now }
+        requires function { function < length self.now.facts.now.program.functions }
+        ensures { OnOk result (Adds self.now.facts.now (setting self.now)
+            (λ f o i. (f ≡ function) × IsInConflict self.now.facts.now (setting self.now) f o i) based.old.items based.new.items) }
     {
         let items = self.items_in(alloc, function)?;
-        let locations = self.points.locations().min(self.origins.labels());
+        let locations = self.facts.points().locations();
         for location in 0..locations {
             self.push_at_location(alloc, function, location, &items, based)?;
         }

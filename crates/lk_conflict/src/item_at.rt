@@ -1,19 +1,21 @@
 //! The items of points.
+ghost use Rattle.lk_facts.specs.Facts.{basis_of};
 ghost use Rattle.std.specs.Prelude.{◌≡◌, ◌<◌, ◌⊎◌, ◌↔◌, ◌++◌, ℕ, Some, Contains, length, map, All, IfOk, OnOk};
 ghost use Rattle.std.specs.List.{flat_map};
 ghost use Rattle.lk_conflict.specs.Facts.{IsItemInRange, IsItemOf};
-ghost use Rattle.lk_rise.specs.Links.{IsLink};
-ghost use Rattle.lk_conflict.specs.Listing.{own_access_of, source_of, risen_by, risen_item_of, items_through};
+ghost use Rattle.lk_conflict.specs.Listing.{own_access_of, source_of, risen_by, risen_item_of, items_through, items_by};
 ghost use Rattle.lk_conflict.specs.declared.item_at.ItemAt.{ItemAt};
 ghost use Rattle.lk_facts.specs.Origins.{flow_of};
 ghost use Rattle.lk_facts.specs.Program.{function_at};
+ghost use Rattle.lk_links.specs.Links.{AreLinks};
 ghost use Rattle.lk_rise.specs.Correlations.{has_of};
-ghost use Rattle.lk_rise.specs.Only.{over_list};
+ghost use Rattle.lk_links.specs.Only.{over_list};
 
-use crate::facts::Facts;
+use crate::grounds::Grounds;
 use lk_base::NoMemory;
 use lk_facts::{Source, Way};
-use lk_rise::{Item, Link, link_of, push_over};
+use lk_links::{Link, push_over};
+use lk_rise::Item;
 use std::alloc::Global;
 
 /// An item of a point: what it accesses, itself or in what it runs or starts.
@@ -69,7 +71,7 @@ fn risen_item(link: &Link, item: &Item, source: Source, subject: u32) -> ItemAt
     }
 }
 
-impl Facts<'_> {
+impl Grounds<'_> {
     /// Puts the items of a call or creation that rise from an item of the function below behind those that were found.
     fn push_risen(
         &self,
@@ -78,14 +80,13 @@ impl Facts<'_> {
         item: &Item,
         found: &mut Vec<ItemAt>,
     ) -> Result<(), NoMemory>
-        requires { item.now.subject < self.now.origins.now.all.size }
-        ensures { OnOk result (found.new.items ≡ found.old.items ++ map (risen_item_of link.now item.now) (over_list self.now.origins.now link.now.site item.now.subject)) }
+        requires { item.now.subject < length self.now.facts.now.labels.entries }
+        ensures { OnOk result (found.new.items ≡ found.old.items ++ map (risen_item_of link.now item.now) (over_list self.now.facts.now.origins link.now.way item.now.subject)) }
     {
         let mut subjects = Vec::new(alloc);
-        push_over(self.origins, link.site, item.subject, &mut subjects)?;
+        push_over(self.facts, &link.way, item.subject, &mut subjects)?;
         for subject in &subjects {
-            let way = Way::Through(link.site);
-            let source = source_below(item, way);
+            let source = source_below(item, link.way);
             found.push(risen_item(link, item, source, *subject))?;
         }
         Ok(())
@@ -99,8 +100,8 @@ impl Facts<'_> {
         item: &Item,
         found: &mut Vec<ItemAt>,
     ) -> Result<(), NoMemory>
-        requires { item.now.subject < self.now.origins.now.all.size }
-        ensures { OnOk result (found.new.items ≡ found.old.items ++ items_through self.now.origins.now link.now item.now) }
+        requires { item.now.subject < length self.now.facts.now.labels.entries }
+        ensures { OnOk result (found.new.items ≡ found.old.items ++ items_through self.now.facts.now.origins link.now item.now) }
     {
         if item.function != link.below {
             return Ok(());
@@ -111,7 +112,7 @@ impl Facts<'_> {
 
     /// The items of a call or creation.
     fn items_of_link(&self, alloc: Global, link: &Link) -> Result<Vec<ItemAt>, NoMemory>
-        ensures { IfOk result (λ found. found.items ≡ flat_map (λ entry. items_through self.now.origins.now link.now entry.0) self.now.items.now) }
+        ensures { IfOk result (λ found. found.items ≡ items_by self.now.facts.now.origins self.now.items.now link.now) }
     {
         let mut found = Vec::new(alloc);
         for i in 0..self.items.count() {
@@ -121,21 +122,31 @@ impl Facts<'_> {
         Ok(found)
     }
 
+    /// The items of all links of a point.
+    fn items_of_links(&self, alloc: Global, links: &[Link]) -> Result<Vec<ItemAt>, NoMemory>
+        ensures { IfOk result (λ found. found.items ≡ flat_map (items_by self.now.facts.now.origins self.now.items.now) links.now) }
+    {
+        let mut found = Vec::new(alloc);
+        for link in links {
+            let items = self.items_of_link(alloc, link)?;
+            found.extend_from_slice(&items)?;
+        }
+        Ok(found)
+    }
+
     /// The items of a point of a function.
     fn items_at(&self, alloc: Global, point: u32, function: u32) -> Result<Vec<ItemAt>, NoMemory>
-        requires point { point < length self.now.points.now.points }
-        requires function { function_at self.now.points.now point ≡ Some function }
+        requires links { AreLinks (basis_of self.now.facts.now) self.now.links.now }
+        requires point { point < length self.now.facts.now.program.points }
+        requires function { function_at self.now.facts.now.program point ≡ Some function }
         ensures { IfOk result (λ found. (i : ItemAt) → Contains found.items i
-            ↔ ((i.point ≡ point) × IsItemOf self.now.points.now self.now.labels.now (flow_of self.now.origins.now) (has_of self.now.items.now) function i)) }
+            ↔ ((i.point ≡ point) × IsItemOf (basis_of self.now.facts.now) (has_of self.now.items.now) function i)) }
     {
         if let Some(label) = self.accessed(point) {
             return Ok(vec![in alloc; own_access(point, label.0)]?);
         }
-        if let Some(link) = link_of(self.points, point) {
-            let found = self.items_of_link(alloc, &link)?;
-            return Ok(found);
-        }
-        Ok(Vec::new(alloc))
+        let found = self.items_of_links(alloc, self.links.at(point))?;
+        Ok(found)
     }
 
     /// Puts the items of a point behind those that were found, where it is a point of the function.
@@ -146,11 +157,12 @@ impl Facts<'_> {
         function: u32,
         found: &mut Vec<ItemAt>,
     ) -> Result<(), NoMemory>
-        requires { point < length self.now.points.now.points }
+        requires links { AreLinks (basis_of self.now.facts.now) self.now.links.now }
+        requires point { point < length self.now.facts.now.program.points }
         ensures { OnOk result ((i : ItemAt) → Contains found.new.items i
-            ↔ (Contains found.old.items i ⊎ ((i.point ≡ point) × IsItemOf self.now.points.now self.now.labels.now (flow_of self.now.origins.now) (has_of self.now.items.now) function i))) }
+            ↔ (Contains found.old.items i ⊎ ((i.point ≡ point) × IsItemOf (basis_of self.now.facts.now) (has_of self.now.items.now) function i))) }
     {
-        if self.points.function(point) != function {
+        if self.facts.points().function(point) != function {
             return Ok(());
         }
         let items = self.items_at(alloc, point, function)?;
@@ -160,13 +172,14 @@ impl Facts<'_> {
 
     /// The items of all points of a function.
     pub(crate) fn items_in(&self, alloc: Global, function: u32) -> Result<Vec<ItemAt>, NoMemory>
-        ensures in_range { IfOk result (λ found. All (IsItemInRange self.now.points.now self.now.labels.now) found.items) }
+        requires { AreLinks (basis_of self.now.facts.now) self.now.links.now }
+        ensures in_range { IfOk result (λ found. All (IsItemInRange self.now.facts.now) found.items) }
         ensures members { IfOk result (λ found. (i : ItemAt) → Contains found.items i
-            ↔ IsItemOf self.now.points.now self.now.labels.now (flow_of self.now.origins.now) (has_of self.now.items.now) function i) }
+            ↔ IsItemOf (basis_of self.now.facts.now) (has_of self.now.items.now) function i) }
     {
-        prove!(self.origins.labels() == self.labels.count());
+        prove!(self.facts.origins().labels() == self.facts.labels().count());
         let mut found = Vec::new(alloc);
-        for point in 0..self.points.count() {
+        for point in 0..self.facts.points().count() {
             self.push_items(alloc, point, function, &mut found)?;
         }
         Ok(found)

@@ -1,18 +1,19 @@
 //! What racing accesses say of each location.
+ghost use Rattle.lk_facts.specs.Facts.{basis_of};
 ghost use Rattle.std.specs.Prelude.{◌≡◌, ◌<◌, ◌&&◌, ℕ, true, List, [], ◌++◌, All, IfOk, OnOk, if◌then◌else◌, length, map};
 ghost use Rattle.std.specs.List.{list_all};
 ghost use Rattle.lk_conflict.specs.Places.{AreLocksBelow};
 ghost use Rattle.lk_conflict.specs.Listing.{IsCommon, access_in, in_all, state_of};
 ghost use Rattle.lk_facts.specs.Lists.{Lists};
-ghost use Rattle.lk_facts.specs.Origins.{flow_of};
 ghost use Rattle.lk_facts.specs.Verdicts.{AreRacing, AreVerdicts, IsRacing, IsVerdictOf};
 ghost use Rattle.lk_rise.specs.Correlations.{has_of, locks_of};
 ghost use Rattle.lk_sets.specs.Ids.{has_id, IsSetOf};
 
 use crate::places::Races;
-use lk_base::{Items, NoMemory};
-use lk_facts::{Origins, Points, Racing, Verdict, VerdictState};
-use lk_rise::{Correlations, Item, empty_set};
+use lk_base::{NoMemory, Seq};
+use lk_facts::{Facts, Racing, Verdict, VerdictState};
+use lk_links::empty_set;
+use lk_rise::{Correlations, Item};
 use lk_sets::IdSet;
 use std::alloc::Global;
 
@@ -22,23 +23,21 @@ use std::alloc::Global;
 /// item can mean alone.
 pub fn verdicts(
     alloc: Global,
-    points: &Points,
-    origins: &Origins,
+    facts: &Facts<'_>,
     races: &Correlations,
     linear: &IdSet,
 ) -> Result<Vec<Verdict>, NoMemory>
-    requires { AreLocksBelow origins.now.all.size races.now }
-    ensures { IfOk result (λ v. AreVerdicts points.now (flow_of origins.now) (has_of races.now) (locks_of races.now) (has_id linear.now) v.items) }
+    requires { AreLocksBelow (length facts.now.labels.entries) races.now }
+    ensures { IfOk result (λ v. AreVerdicts (basis_of facts.now) (has_of races.now) (locks_of races.now) (has_id linear.now) v.items) }
 {
-    let facts = Races {
-        points,
-        origins,
+    let judged = Races {
+        facts,
         items: races,
         linear,
     };
     let mut verdicts = Vec::new(alloc);
-    for location in 0..points.locations() {
-        verdicts.push(facts.verdict(alloc, location)?)?;
+    for location in 0..facts.points().locations() {
+        verdicts.push(judged.verdict(alloc, location)?)?;
     }
     Ok(verdicts)
 }
@@ -101,9 +100,9 @@ fn push_access(
 impl Races<'_> {
     /// The racing accesses of `main` for a location.
     fn accesses(&self, alloc: Global, location: u32) -> Result<IdSet, NoMemory>
-        ensures { IfOk result (Lists (IsRacing self.now.points.now (flow_of self.now.origins.now) (has_of self.now.items.now) (locks_of self.now.items.now) location)) }
+        ensures { IfOk result (Lists (IsRacing (basis_of self.now.facts.now) (has_of self.now.items.now) (locks_of self.now.items.now) location)) }
     {
-        let main = self.points.main();
+        let main = self.facts.points().main();
         let mut accesses = Vec::new(alloc);
         for i in 0..self.items.count() {
             push_access(self.items.item(i), main, location, &mut accesses)?;
@@ -114,7 +113,7 @@ impl Races<'_> {
 
     /// The racing accesses of `main` for a location, each with its lock set.
     fn racing(&self, alloc: Global, location: u32) -> Result<Vec<Racing>, NoMemory>
-        ensures { IfOk result (λ v. AreRacing self.now.points.now (flow_of self.now.origins.now) (has_of self.now.items.now) (locks_of self.now.items.now) (has_id self.now.linear.now) location v.items) }
+        ensures { IfOk result (λ v. AreRacing (basis_of self.now.facts.now) (has_of self.now.items.now) (locks_of self.now.items.now) (has_id self.now.linear.now) location v.items) }
     {
         let accesses = self.accesses(alloc, location)?;
         let mut racing = Vec::new(alloc);
@@ -130,7 +129,7 @@ impl Races<'_> {
 
     /// The verdict of a location.
     fn verdict(&self, alloc: Global, location: u32) -> Result<Verdict, NoMemory>
-        ensures { IfOk result (IsVerdictOf self.now.points.now (flow_of self.now.origins.now) (has_of self.now.items.now) (locks_of self.now.items.now) (has_id self.now.linear.now) location) }
+        ensures { IfOk result (IsVerdictOf (basis_of self.now.facts.now) (has_of self.now.items.now) (locks_of self.now.items.now) (has_id self.now.linear.now) location) }
     {
         let accesses = self.racing(alloc, location)?;
         let locks = common(alloc, &accesses)?;
@@ -139,7 +138,7 @@ impl Races<'_> {
             location,
             state,
             locks,
-            accesses: Items::new(accesses),
+            accesses: Seq::new(accesses),
         })
     }
 }

@@ -2,7 +2,7 @@
 #![tactic(auto)]
 
 mod bases;
-mod facts;
+mod grounds;
 mod item_at;
 mod judging;
 mod pairs;
@@ -11,6 +11,3 @@ mod racing;
 
 pub use judging::verdicts;
 pub use racing::conflicts;
-
-#[cfg(test)]
-mod tests;

@@ -1,18 +1,50 @@
 //! The racing items of a program.
-ghost use Rattle.std.specs.Prelude.{◌≡◌, length, IfOk};
+ghost use Rattle.std.specs.Prelude.{◌≡◌, [], length, IfOk};
+ghost use Rattle.lk_conflict.specs.Bases.{Adds, IsInConflict};
+ghost use Rattle.lk_conflict.specs.Facts.{AreOfOneProgram, setting_of};
 ghost use Rattle.lk_conflict.specs.Places.{AreLocksBelow};
-ghost use Rattle.lk_facts.specs.Analysis.{held_table};
-ghost use Rattle.lk_facts.specs.Origins.{flow_of};
+ghost use Rattle.lk_facts.specs.Facts.{basis_of};
 ghost use Rattle.lk_facts.specs.Racing.{AreRaces};
+ghost use Rattle.lk_links.specs.Links.{AreLinks};
 ghost use Rattle.lk_rise.specs.Correlations.{AreInRange, has_of, locks_of};
-ghost use Rattle.lk_sets.specs.Rows.{has};
 
-use crate::facts::Facts;
+use crate::grounds::Grounds;
 use lk_base::NoMemory;
-use lk_facts::{Held, Labels, Origins, Points};
-use lk_rise::{Correlations, Subjects, rise};
-use lk_sets::BitRows;
+use lk_facts::{Facts, Held};
+use lk_links::Links;
+use lk_rise::{Correlations, Item, Subjects, rise};
+use lk_sets::{BitRows, IdSet};
 use std::alloc::Global;
+
+/// What racing items begin with: the items of all functions that are in conflict, each for its location, with the locks
+/// that are held there.
+fn begun(
+    alloc: Global,
+    facts: &Facts<'_>,
+    held: &Held,
+    links: &Links,
+    items: &Correlations,
+    after: &BitRows,
+) -> Result<Vec<(Item, IdSet)>, NoMemory>
+    requires links { AreLinks (basis_of facts.now) links.now }
+    requires of_one_program { AreOfOneProgram facts.now held.now items.now after.now }
+    ensures { IfOk result (λ based. Adds facts.now (setting_of after.now items.now held.now)
+        (IsInConflict facts.now (setting_of after.now items.now held.now)) [] based.items) }
+{
+    prove!(facts.points().count() == after.size());
+    let grounds = Grounds {
+        facts,
+        held,
+        links,
+        items,
+        after,
+    };
+    let mut based = Vec::new(alloc);
+    for function in 0..facts.points().functions() {
+        grounds.push_conflicts(alloc, function, &mut based)?;
+    }
+    Ok(based)
+}
 
 /// The racing items of all functions, with the locks that are held at each.
 ///
@@ -21,43 +53,21 @@ use std::alloc::Global;
 /// The items, lock sets and order are those of the points.
 pub fn conflicts(
     alloc: Global,
-    points: &Points,
-    labels: &Labels,
-    origins: &Origins,
+    facts: &Facts<'_>,
     held: &Held,
     items: &Correlations,
     after: &BitRows,
 ) -> Result<Correlations, NoMemory>
-    requires origins { origins.now.all.size ≡ length labels.now.entries }
-    requires held_points { length held.now.at ≡ length points.now.points }
-    requires held_labels { held.now.labels ≡ length labels.now.entries }
-    requires after { after.now.size ≡ length points.now.points }
-    requires items { AreInRange points.now labels.now (length labels.now.entries) items.now }
-    ensures races { IfOk result (λ r. AreRaces points.now labels.now (flow_of origins.now) (has after.now) (has_of items.now) (held_table held.now) (locks_of items.now) (has_of r) (locks_of r)) }
-    ensures in_range { IfOk result (AreInRange points.now labels.now points.now.locations) }
-    ensures locks_in_range { IfOk result (AreLocksBelow origins.now.all.size) }
+    requires held_points { length held.now.at ≡ length facts.now.program.points }
+    requires held_labels { held.now.labels ≡ length facts.now.labels.entries }
+    requires after { after.now.size ≡ length facts.now.program.points }
+    requires items { AreInRange facts.now (length facts.now.labels.entries) items.now }
+    ensures races { IfOk result (λ r. AreRaces (basis_of facts.now) (setting_of after.now items.now held.now) (has_of r) (locks_of r)) }
+    ensures in_range { IfOk result (AreInRange facts.now facts.now.program.locations) }
+    ensures locks_in_range { IfOk result (AreLocksBelow (length facts.now.labels.entries)) }
 {
-    prove!(points.count() == after.size());
-    let facts = Facts {
-        points,
-        labels,
-        origins,
-        held,
-        items,
-        after,
-    };
-    let mut based = Vec::new(alloc);
-    for function in 0..points.functions() {
-        facts.push_conflicts(alloc, function, &mut based)?;
-    }
-    let races = rise(
-        alloc,
-        points,
-        labels,
-        origins,
-        held,
-        &based,
-        Subjects::AsTheyAre,
-    )?;
+    let links = Links::new(alloc, facts)?;
+    let based = begun(alloc, facts, held, &links, items, after)?;
+    let races = rise(alloc, facts, held, &links, &based, Subjects::AsTheyAre)?;
     Ok(races)
 }

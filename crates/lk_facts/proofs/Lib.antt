@@ -1,7 +1,11 @@
-pub mod HeldLemmas
-pub mod LawLemmas
-pub mod MoreRaces
-pub mod OneAnalysis
+pub mod ContentLaw
+pub mod FactLemmas
+pub mod LiveLemmas
+pub mod Numbers
+pub mod PathClosing
 pub mod Ranges
+pub mod Same
+pub mod Segments
 pub mod Sets
-pub mod Sorted
+pub mod TableLemmas
+pub mod WalkLaws

@@ -6,7 +6,8 @@ use Rattle.std.proofs.lemmas.Bool.{false≢true}
 use Rattle.std.proofs.lemmas.Option.{slice_get_within, none-some, same_Some}
 use Rattle.lk_facts.specs.InRange.{IsInRange, IsPointInRange, IsFunctionInRange, sizes_of}
 use Rattle.lk_facts.specs.Labels.{LabelTable, target_at, is_lock_at, AreLabelsInRange}
-use Rattle.lk_facts.specs.Program.{Program, live_at, function_at, entry_of, exit_of}
+use Rattle.lk_facts.specs.Program.{live_at, function_at, entry_of, exit_of}
+use Rattle.lk_facts.specs.declared.program.Program.{Program}
 use Rattle.lk_facts.specs.declared.function.Function.{Function}
 use Rattle.lk_facts.specs.declared.label_entry.LabelEntry.{LabelEntry}
 use Rattle.lk_facts.specs.declared.point.Point.{Point}

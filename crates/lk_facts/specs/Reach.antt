@@ -1,6 +1,7 @@
 -- Where control may come from a point (C99 6.8: the order of execution).
 use Rattle.std.specs.Prelude.{◌≡◌, ℕ, true}
-use Rattle.lk_facts.specs.Program.{Program, next_of, live_at}
+use Rattle.lk_facts.specs.Program.{next_of, live_at}
+use Rattle.lk_facts.specs.declared.program.Program.{Program}
 use Rattle.lk_sets.specs.Ids.{has_id}
 
 -- the relation by one step or more

@@ -1,31 +1,28 @@
 -- What the rules say of a location.
-use Rattle.std.specs.Prelude.{◌≡◌, ℕ, ◌<◌, ◌≤◌, ◌+◌, Bool, true, List, [], map, length, slice_get, Some, All}
-use Rattle.lk_facts.specs.Flow.{Flow, MeansOnly}
+use Rattle.std.specs.Prelude.{◌≡◌, ℕ, Bool, true, List, [], map, length, slice_get, Some, All}
+use Rattle.lk_facts.specs.Basis.{Basis}
+use Rattle.lk_facts.specs.Flow.{MeansOnly}
 use Rattle.lk_facts.specs.Items.{ItemTest, LockTest}
 use Rattle.lk_facts.specs.Lists.{Lists}
-use Rattle.lk_facts.specs.Program.{Program}
+use Rattle.lk_facts.specs.Program.{IsLockPlace}
 use Rattle.lk_facts.specs.declared.verdict.Racing.{Racing}
 use Rattle.lk_facts.specs.declared.verdict.Verdict.{Verdict}
 use Rattle.lk_facts.specs.declared.verdict.VerdictState.{VerdictState}
 use Rattle.lk_facts.specs.declared.verdict.VerdictState.TheVariants.{Guarded, Unshared, Suspect}
 
--- the label is that of a lock place
-abbrev pub IsLockPlace : Program → ℕ → Type 0
-IsLockPlace program q = (program.locations ≤ q) × (q < program.locations + program.locks)
-
-module _ (program : Program) (flow : Flow) (races : ItemTest) (locks : LockTest) where
+module _ (basis : Basis) (races : ItemTest) (locks : LockTest) where
   -- the access is one of the racing accesses of main for o
   abbrev pub IsRacing : ℕ → ℕ → Type 0
-  IsRacing o a = (child : Bool) × (races program.main child o a ≡ true)
+  IsRacing o a = (child : Bool) × (races basis.program.main child o a ≡ true)
 
   -- each racing item of main for o and the access has a lock that can only be at the place q
   abbrev pub IsLockedBy : ℕ → ℕ → ℕ → Type 0
-  IsLockedBy o a q = (child : Bool) → races program.main child o a ≡ true → (x : ℕ) × (locks program.main child o a x ≡ true) × MeansOnly flow x q
+  IsLockedBy o a q = (child : Bool) → races basis.program.main child o a ≡ true → (x : ℕ) × (locks basis.program.main child o a x ≡ true) × MeansOnly basis.flow x q
 
   module _ (linear : ℕ → Bool) where
     -- LockSet: the linear lock places by which a racing access is locked
     pub record InLockSet (o a q : ℕ) : Type 0 where
-      pub is_place : IsLockPlace program q
+      pub is_place : IsLockPlace basis.program q
       pub is_linear : linear q ≡ true
       pub is_locked : IsLockedBy o a q
 
@@ -57,5 +54,5 @@ module _ (program : Program) (flow : Flow) (races : ItemTest) (locks : LockTest)
 
     -- a verdict for each location, in their order
     pub record AreVerdicts (verdicts : List Verdict) : Type 0 where
-      pub each : length verdicts ≡ program.locations
+      pub each : length verdicts ≡ basis.program.locations
       pub are : (o : ℕ) (verdict : Verdict) → slice_get verdicts o ≡ Some verdict → IsVerdictOf o verdict

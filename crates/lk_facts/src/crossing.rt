@@ -4,16 +4,17 @@ ghost use Rattle.std.specs.List.Sorted.{IsStrictlyIncreasing};
 
 use crate::edge::Label;
 use crate::id_lists::{are_sets_below, is_set_below, place_of};
-use lk_base::Items;
+use lk_base::Seq;
+use lk_sets::IdSet;
 
 /// What crosses one site: the labels inside that something outside flows to, and for each of them the labels
 /// outside.
-#[derive(Debug, Drop)]
+#[derive(Drop)]
 pub struct Crossing {
-    /// The labels inside, in ascending order.
-    pub inside: Items<u32>,
-    /// For each label inside the labels outside that flow to it, in ascending order.
-    pub outside: Items<Items<u32>>,
+    /// The labels inside.
+    pub inside: IdSet,
+    /// For each label inside, in ascending order, the labels outside that flow to it.
+    pub outside: Seq<IdSet>,
 }
 
 impl Crossing {
@@ -21,12 +22,11 @@ impl Crossing {
 
     /// The labels outside that flow to the label `l`, in ascending order.
     pub(crate) fn outside_of(&self, l: Label) -> &[u32]
-        requires { IsStrictlyIncreasing self.now.inside }
         ensures value { result.now ≡ outside_of self.now l }
         ensures in_range { (labels : ℕ) → AreSetsBelow labels self.now.outside → IsSetBelow labels result.now }
     {
-        match self.outside.get(place_of(self.inside.list(), l.0)) {
-            Some(outside) => outside.list(),
+        match self.outside.get(place_of(self.inside.ids(), l.0)) {
+            Some(outside) => outside.ids(),
             None => &[],
         }
     }
@@ -35,8 +35,8 @@ impl Crossing {
     pub(crate) fn fits(&self, labels: u32) -> bool
         ensures { IsTrue result ↔ IsCrossingInRange labels self.now }
     {
-        is_set_below(self.inside.list(), labels)
+        is_set_below(self.inside.ids(), labels)
             && are_sets_below(self.outside.list(), labels)
-            && self.outside.len() == self.inside.len()
+            && self.outside.len() == self.inside.ids().len()
     }
 }

@@ -3,7 +3,7 @@
 use std::marker::Model;
 
 /// The number of a label: what a pointer may point to, at one level of one type.
-#[derive(Clone, Copy, Debug, PartialEq, Eq, PartialOrd, Ord, Hash)]
+#[derive(Clone, Copy, Debug, PartialEq, Eq)]
 pub struct Label(pub u32);
 
 impl Model for Label {
@@ -17,7 +17,7 @@ impl Model for Label {
 }
 
 /// The number of a site: a live call or creation, or a function that is used as a value.
-#[derive(Clone, Copy, Debug, PartialEq, Eq, PartialOrd, Ord, Hash)]
+#[derive(Clone, Copy, Debug, PartialEq, Eq)]
 pub struct Site(pub u32);
 
 impl Model for Site {

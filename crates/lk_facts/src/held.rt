@@ -4,18 +4,18 @@ ghost use Rattle.lk_facts.specs.LockSets.{sets_of, at_of, keep_of, out_of, relea
 ghost use Rattle.lk_facts.specs.Origins.{IsSetBelow};
 
 use crate::id_lists::are_sets_below;
-use lk_base::Items;
+use lk_sets::IdSet;
 use std::marker::Model;
 
 /// The lock sets of a program: for each point the locks that are held there, and for each function those that
-/// it returns with and may release. Each is a list of labels in ascending order.
-#[derive(Debug, Drop)]
+/// it returns with and may release. Each is a set of labels.
+#[derive(Drop)]
 pub struct Held {
     labels: u32,
-    at: Vec<Items<u32>>,
-    keep: Vec<Items<u32>>,
-    out: Vec<Items<u32>>,
-    released: Vec<Items<u32>>,
+    at: Vec<IdSet>,
+    keep: Vec<IdSet>,
+    out: Vec<IdSet>,
+    released: Vec<IdSet>,
 }
 
 impl Model for Held {
@@ -32,10 +32,10 @@ impl Held {
     /// Whether there are as many sets of each kind, and all are sets of numbers below that of the labels, as `new` asks.
     pub fn fits(
         labels: u32,
-        at: &[Items<u32>],
-        keep: &[Items<u32>],
-        out: &[Items<u32>],
-        released: &[Items<u32>],
+        at: &[IdSet],
+        keep: &[IdSet],
+        out: &[IdSet],
+        released: &[IdSet],
     ) -> bool
         ensures { IsTrue result ↔ AreLockSetsInRange (sets_of labels at.now keep.now out.now released.now) }
     {
@@ -50,10 +50,10 @@ impl Held {
     /// These lock sets, over so many labels. It takes no memory.
     pub fn new(
         labels: u32,
-        at: Vec<Items<u32>>,
-        keep: Vec<Items<u32>>,
-        out: Vec<Items<u32>>,
-        released: Vec<Items<u32>>,
+        at: Vec<IdSet>,
+        keep: Vec<IdSet>,
+        out: Vec<IdSet>,
+        released: Vec<IdSet>,
     ) -> Held
         requires { AreLockSetsInRange (sets_of labels at.items keep.items out.items released.items) }
         ensures { result ≡ sets_of labels at.items keep.items out.items released.items }
@@ -95,7 +95,7 @@ impl Held {
         ensures value { result.now ≡ at_of self.now p }
         ensures in_range { IsSetBelow self.now.labels result.now }
     {
-        self.at[p as usize].list()
+        self.at[p as usize].ids()
     }
 
     /// The locks that are held at a point and that nothing it runs may release.
@@ -104,7 +104,7 @@ impl Held {
         ensures value { result.now ≡ keep_of self.now p }
         ensures in_range { IsSetBelow self.now.labels result.now }
     {
-        self.keep[p as usize].list()
+        self.keep[p as usize].ids()
     }
 
     /// The locks that are held at the exit of a function.
@@ -113,7 +113,7 @@ impl Held {
         ensures value { result.now ≡ out_of self.now f }
         ensures in_range { IsSetBelow self.now.labels result.now }
     {
-        self.out[f as usize].list()
+        self.out[f as usize].ids()
     }
 
     /// The locks that a function may release, itself or in what it runs.
@@ -122,6 +122,6 @@ impl Held {
         ensures value { result.now ≡ released_of self.now f }
         ensures in_range { IsSetBelow self.now.labels result.now }
     {
-        self.released[f as usize].list()
+        self.released[f as usize].ids()
     }
 }

@@ -4,7 +4,7 @@ ghost use Rattle.std.specs.List.{position_or_len};
 ghost use Rattle.std.specs.List.Sorted.{IsStrictlyIncreasing};
 ghost use Rattle.lk_facts.specs.Origins.{IsSetBelow, AreSetsBelow};
 
-use lk_base::Items;
+use lk_sets::IdSet;
 
 /// Whether the numbers ascend and are below the number of labels.
 pub fn is_set_below(ids: &[u32], labels: u32) -> bool
@@ -14,11 +14,11 @@ pub fn is_set_below(ids: &[u32], labels: u32) -> bool
 }
 
 /// Whether the numbers of each list ascend and are below the number of labels.
-pub fn are_sets_below(sets: &[Items<u32>], labels: u32) -> bool
+pub fn are_sets_below(sets: &[IdSet], labels: u32) -> bool
     ensures { IsTrue result ↔ AreSetsBelow labels sets.now }
 {
     for set in sets {
-        if !is_set_below(set.list(), labels) {
+        if !is_set_below(set.ids(), labels) {
             return false;
         }
     }

@@ -1,7 +1,19 @@
 //! What is known of one label.
 
-/// What is known of one label.
-#[derive(Clone, Copy, Debug, PartialEq, Eq)]
+use crate::root::Holder;
+use lk_types::NodeId;
+
+/// What a label names: a holder, and a node of its type.
+#[derive(Clone, Copy, PartialEq, Eq, Hash)]
+pub struct LabelName {
+    /// The holder.
+    pub holder: Holder,
+    /// The node of the holder's type.
+    pub node: NodeId,
+}
+
+/// What is known of one label beside its name.
+#[derive(Clone, Copy)]
 pub struct LabelEntry {
     /// The number of its holder; a root has its own number.
     pub root: u32,

@@ -2,40 +2,49 @@
 #![tactic(auto)]
 
 mod action;
+mod cell;
 mod crossing;
 mod edge;
+mod effect;
+mod facts;
 mod function;
 mod held;
 mod id_lists;
+mod initial;
 mod label_entry;
 mod labels;
-mod laws;
+mod live;
 mod origins;
+mod place;
 mod point;
 mod points;
+mod program;
 mod root;
 mod sizes;
 mod source;
+mod subject;
 mod verdict;
 mod way;
 
-pub use action::{Action, Op};
+pub use action::Action;
+pub use cell::CellStep;
 pub use crossing::Crossing;
 pub use edge::{Edge, Label, Mark, Site};
+pub use effect::Effect;
+pub use facts::Facts;
 pub use function::Function;
 pub use held::Held;
-pub use label_entry::LabelEntry;
+pub use initial::{Initial, InitialValue};
+pub use label_entry::{LabelEntry, LabelName};
 pub use labels::Labels;
-pub use laws::{
-    callees_lock_is_not_kept, guard_is_in_lock_sets, held_is_never_not_held, lock_sets_are_exact,
-    nothing_is_held_at_entries, races_come_in_pairs, released_is_not_held, suspect_stays_unguarded,
-    verdict_is_one, verdicts_are_one,
-};
+pub use live::live_points;
 pub use origins::Origins;
+pub use place::{Place, Places};
 pub use point::Point;
 pub use points::Points;
+pub use program::Program;
 pub use root::{Holder, Root, RootKind};
-pub use sizes::Sizes;
 pub use source::Source;
+pub use subject::Subject;
 pub use verdict::{Racing, Verdict, VerdictState};
 pub use way::Way;

@@ -2,15 +2,18 @@
 
 use crate::action::Action;
 use crate::edge::Site;
-use lk_base::{Items, Spot};
+use lk_base::{Seq, Spot};
+use lk_types::TypeId;
 
 /// A control point: a step of a function, or of a static initialiser.
-#[derive(Debug, Drop)]
+#[derive(Drop)]
 pub struct Point {
     /// What it does.
     pub action: Action,
+    /// The type of its value, where it gives one.
+    pub value: Option<TypeId>,
     /// Its successors, in the order that its action gives them. One is listed twice where two coincide.
-    pub next: Items<u32>,
+    pub next: Seq<u32>,
     /// The function that it is a step of; the number of functions where it is a step of none.
     pub function: u32,
     /// The place of the first token of the access, call or operator that it is a step of.

@@ -1,92 +1,63 @@
 //! A program as its control points.
-ghost use Rattle.std.specs.Prelude.{◌≡◌, ◌<◌, ◌≤◌, ◌+◌, ◌&&◌, length, All, IfSome, is_some, slice_get, true, ◌↔◌, IsTrue};
-ghost use Rattle.lk_facts.specs.Program.{program_of, action_at, next_of, live_at, function_at, site_at, entry_of, exit_of, value_site_of, parameter_of, spot_of, name_of, enters_at};
-ghost use Rattle.lk_facts.specs.InRange.{IsInRange, IsActionInRange, IsHolderInRange, IsRootInRange, sizes_of};
+ghost use Rattle.std.specs.Prelude.{◌≡◌, ◌<◌, ◌≤◌, ◌-◌, ◌&&◌, length, All, IfSome, is_some, slice_get, Some, true, ◌↔◌, IsTrue};
+ghost use Rattle.lk_facts.specs.Program.{action_at, effect_at, value_type_at, next_of, live_at, function_at, site_at, entry_of, exit_of, value_site_of, parameter_of, slots_of, result_of, root_of_function, spot_of, name_of, place_of, enters_at};
+ghost use Rattle.lk_facts.specs.InRange.{IsInRange, IsActionInRange, IsEffectInRange, IsHolderInRange, IsRootInRange, IsPlaceInRange, sizes_of};
+ghost use Rattle.lk_facts.specs.Places.{IsNumberOf};
 
 use crate::action::Action;
 use crate::edge::Site;
-use crate::function::Function;
-use crate::point::Point;
+use crate::effect::Effect;
+use crate::initial::Initial;
+use crate::place::Place;
+use crate::program::Program;
 use crate::root::{Holder, Root};
 use crate::sizes::Sizes;
 use lk_base::{MOST_LABELS, MOST_POINTS, Name, Spot};
+use lk_types::{NodeId, TypeId, TypeTable};
 use std::marker::Model;
 
 /// A program as its control points, functions and roots. All numbers in it are in range.
-#[derive(Debug, Drop)]
+#[derive(Drop)]
 pub struct Points {
-    points: Vec<Point>,
-    functions: Vec<Function>,
-    roots: Vec<Root>,
-    main: u32,
-    sites: u32,
-    locations: u32,
-    locks: u32,
+    program: Program,
 }
 
 impl Model for Points {
-    ghost use Rattle.lk_facts.specs.Program.{Program, program_of};
-    ghost use Rattle.lk_facts.specs.InRange.{IsInRange};
+    ghost use Rattle.lk_facts.specs.declared.program.Program.{Program};
 
     ghost Value = { Program };
 
-    ghost view = { λ a. program_of a.points.items a.functions.items a.roots.items a.main a.sites a.locations a.locks };
+    ghost use Rattle.lk_facts.specs.InRange.{IsInRange};
 
-    ghost invariant = { λ a. IsInRange (program_of a.points.items a.functions.items a.roots.items a.main a.sites a.locations a.locks) };
+    ghost view = { λ a. a.program };
+
+    ghost invariant = { λ a. IsInRange a.program };
 }
 
 impl Points {
-    /// Whether all numbers in these points, functions and roots are in range, as `new` asks.
-    pub fn fits(
-        points: &[Point],
-        functions: &[Function],
-        roots: &[Root],
-        main: u32,
-        sites: u32,
-        locations: u32,
-        locks: u32,
-    ) -> bool
-        ensures { IsTrue result ↔ IsInRange (program_of points.now functions.now roots.now main sites locations locks) }
+    /// Whether all numbers in these parts are in range, as `new` asks.
+    pub fn fits(program: &Program) -> bool
+        ensures { IsTrue result ↔ IsInRange program.now }
     {
-        if points.len() > MOST_POINTS as usize
-            || functions.len() > u32::MAX as usize
-            || roots.len() > u32::MAX as usize
+        if program.points.len() > MOST_POINTS as usize
+            || program.places.len() > MOST_LABELS as usize
+            || program.functions.len() > u32::MAX as usize
+            || program.roots.len() > u32::MAX as usize
         {
             return false;
         }
-        let sizes = Sizes {
-            points: points.len() as u32,
-            functions: functions.len() as u32,
-            roots: roots.len() as u32,
-            sites,
-        };
-        main < sizes.functions
-            && locations as u64 + locks as u64 <= MOST_LABELS as u64
-            && sizes.has_parts(points, functions, roots)
+        let sizes = Sizes::of(program);
+        program.main < sizes.functions
+            && program.locations as usize <= program.places.len()
+            && sizes.has_parts(program)
     }
 
-    /// A program of these points, functions and roots. It takes no memory.
-    pub fn new(
-        points: Vec<Point>,
-        functions: Vec<Function>,
-        roots: Vec<Root>,
-        main: u32,
-        sites: u32,
-        locations: u32,
-        locks: u32,
-    ) -> Points
-        requires { IsInRange (program_of points.items functions.items roots.items main sites locations locks) }
-        ensures { result ≡ program_of points.items functions.items roots.items main sites locations locks }
+    /// The program of these parts. It takes no memory.
+    pub fn new(program: Program) -> Points
+        requires { IsInRange program }
+        ensures { result ≡ program }
     {
-        Points {
-            points,
-            functions,
-            roots,
-            main,
-            sites,
-            locations,
-            locks,
-        }
+        Points { program }
     }
 
     /// The number of points, at most 65,536.
@@ -94,7 +65,7 @@ impl Points {
         ensures value { result ≡ length self.now.points }
         ensures in_range { IsInRange self.now }
     {
-        self.points.len() as u32
+        self.program.points.len() as u32
     }
 
     /// What a point does.
@@ -103,7 +74,25 @@ impl Points {
         ensures value { action_at self.now p ≡ Some result.now }
         ensures in_range { IsActionInRange (sizes_of self.now) result.now }
     {
-        &self.points[p as usize].action
+        &self.program.points.list()[p as usize].action
+    }
+
+    /// What a point's action is to the analysis.
+    pub fn effect(&self, p: u32) -> Effect
+        requires { p < length self.now.points }
+        ensures value { effect_at self.now p ≡ Some result }
+        ensures in_range { IsEffectInRange (sizes_of self.now) result }
+    {
+        self.action(p).effect()
+    }
+
+    /// The type of a point's value, or nothing where it gives none.
+    pub fn value_type(&self, p: u32) -> Option<TypeId>
+        requires { p < length self.now.points }
+        ensures value { result ≡ value_type_at self.now p }
+        ensures in_range { IfSome result (λ t. t < (sizes_of self.now).types) }
+    {
+        self.program.points.list()[p as usize].value
     }
 
     /// The successors of a point, in order. One is listed twice where two coincide.
@@ -112,7 +101,7 @@ impl Points {
         ensures value { result.now ≡ next_of self.now p }
         ensures in_range { All (λ q. q < length self.now.points) result.now }
     {
-        self.points[p as usize].next.list()
+        self.program.points.list()[p as usize].next.list()
     }
 
     /// The function that a point is a step of, or the number of functions where it is a step of none.
@@ -122,7 +111,7 @@ impl Points {
         ensures in_range { result ≤ length self.now.functions }
         ensures live_in_range { live_at self.now p ≡ true → result < length self.now.functions }
     {
-        self.points[p as usize].function
+        self.program.points.list()[p as usize].function
     }
 
     /// Whether successors lead to a point from the entry of its function.
@@ -130,7 +119,7 @@ impl Points {
         requires { p < length self.now.points }
         ensures { result ≡ live_at self.now p }
     {
-        self.points[p as usize].live
+        self.program.points.list()[p as usize].live
     }
 
     /// The place of a point in a source.
@@ -138,7 +127,7 @@ impl Points {
         requires { p < length self.now.points }
         ensures { spot_of self.now p ≡ Some result }
     {
-        self.points[p as usize].spot
+        self.program.points.list()[p as usize].spot
     }
 
     /// The site of a point, or nothing where it is no live call or creation.
@@ -148,22 +137,22 @@ impl Points {
         ensures sited { is_some result ≡ (live_at self.now p && enters_at self.now p) }
         ensures in_range { IfSome result (λ i. i < self.now.sites) }
     {
-        self.points[p as usize].site
+        self.program.points.list()[p as usize].site
     }
 
     /// The number of functions.
     pub fn functions(&self) -> u32
         ensures { result ≡ length self.now.functions }
     {
-        self.functions.len() as u32
+        self.program.functions.len() as u32
     }
 
-    /// The function `main`.
+    /// The function `main` of external linkage.
     pub fn main(&self) -> u32
         ensures value { result ≡ self.now.main }
         ensures in_range { result < length self.now.functions }
     {
-        self.main
+        self.program.main
     }
 
     /// What holds the parameter `k` of a function, counted from 1, or nothing where it has no such parameter.
@@ -173,10 +162,28 @@ impl Points {
         ensures in_range { IfSome result (IsHolderInRange (sizes_of self.now)) }
     {
         let place = k.checked_sub(1)?;
-        self.functions[f as usize]
+        self.program.functions.list()[f as usize]
             .parameters
             .get(place as usize)
             .copied()
+    }
+
+    /// The types of the slots of a function, by the numbers of the slots.
+    pub fn slots(&self, f: u32) -> &[TypeId]
+        requires { f < length self.now.functions }
+        ensures value { slots_of self.now f ≡ Some result.now }
+        ensures in_range { All (λ t. t < (sizes_of self.now).types) result.now }
+    {
+        self.program.functions.list()[f as usize].slots.list()
+    }
+
+    /// The type of the result of a function.
+    pub fn result(&self, f: u32) -> TypeId
+        requires { f < length self.now.functions }
+        ensures value { result_of self.now f ≡ Some result }
+        ensures in_range { result < (sizes_of self.now).types }
+    {
+        self.program.functions.list()[f as usize].result
     }
 
     /// The name of a function.
@@ -184,7 +191,16 @@ impl Points {
         requires { f < length self.now.functions }
         ensures { name_of self.now f ≡ Some result.now }
     {
-        &self.functions[f as usize].name
+        &self.program.functions.list()[f as usize].name
+    }
+
+    /// The root of a function.
+    pub fn function_root(&self, f: u32) -> u32
+        requires { f < length self.now.functions }
+        ensures value { root_of_function self.now f ≡ Some result }
+        ensures in_range { result < length self.now.roots }
+    {
+        self.program.functions.list()[f as usize].root
     }
 
     /// The point at which a function begins.
@@ -193,7 +209,7 @@ impl Points {
         ensures value { entry_of self.now f ≡ Some result }
         ensures in_range { result < length self.now.points }
     {
-        self.functions[f as usize].entry
+        self.program.functions.list()[f as usize].entry
     }
 
     /// The point to which the returns of a function lead.
@@ -202,7 +218,7 @@ impl Points {
         ensures value { exit_of self.now f ≡ Some result }
         ensures in_range { result < length self.now.points }
     {
-        self.functions[f as usize].exit
+        self.program.functions.list()[f as usize].exit
     }
 
     /// The own site of a function, or nothing where it isn't used as a value.
@@ -211,21 +227,21 @@ impl Points {
         ensures value { result ≡ value_site_of self.now f }
         ensures in_range { IfSome result (λ i. i < self.now.sites) }
     {
-        self.functions[f as usize].value_site
+        self.program.functions.list()[f as usize].value_site
     }
 
     /// The number of sites.
     pub fn sites(&self) -> u32
         ensures { result ≡ self.now.sites }
     {
-        self.sites
+        self.program.sites
     }
 
     /// The number of roots.
     pub fn roots(&self) -> u32
         ensures { result ≡ length self.now.roots }
     {
-        self.roots.len() as u32
+        self.program.roots.len() as u32
     }
 
     /// A root.
@@ -234,22 +250,53 @@ impl Points {
         ensures value { slice_get self.now.roots r ≡ Some result.now }
         ensures in_range { IsRootInRange (sizes_of self.now) result.now }
     {
-        &self.roots[r as usize]
+        &self.program.roots.list()[r as usize]
+    }
+
+    /// The types of the program.
+    pub fn types(&self) -> &TypeTable
+        ensures { result.now ≡ self.now.types }
+    {
+        &self.program.types
+    }
+
+    /// What objects of static storage begin with, where that is named.
+    pub fn initials(&self) -> &[Initial]
+        ensures { result.now ≡ self.now.initials }
+    {
+        self.program.initials.list()
     }
 
     /// The number of locations. They are the labels from 0 on.
     pub fn locations(&self) -> u32
         ensures value { result ≡ self.now.locations }
-        ensures few { result + self.now.locks ≤ 65536 }
+        ensures few { result ≤ length self.now.places }
     {
-        self.locations
+        self.program.locations
     }
 
     /// The number of lock places. They are the labels after the locations.
     pub fn locks(&self) -> u32
-        ensures value { result ≡ self.now.locks }
-        ensures few { self.now.locations + result ≤ 65536 }
+        ensures value { result ≡ length self.now.places - self.now.locations }
+        ensures few { length self.now.places ≤ 65536 }
     {
-        self.locks
+        self.program.places.len() as u32 - self.program.locations
+    }
+
+    /// The place of the location or lock place `n`, counted as labels count them.
+    pub fn place(&self, n: u32) -> Place
+        requires { n < length self.now.places }
+        ensures value { slice_get self.now.places n ≡ Some result }
+        ensures in_range { IsPlaceInRange (sizes_of self.now) result }
+    {
+        self.program.places.list()[n as usize]
+    }
+
+    /// The number of the location or lock place that is this part of a root, or nothing where it is neither.
+    pub fn place_number(&self, root: u32, node: NodeId) -> Option<u32>
+        ensures value { IsNumberOf self.now.places (place_of root node) result }
+        ensures in_range { IfSome result (λ n. n < length self.now.places) }
+    {
+        self.program.places.find(Place { root, node })
     }
 }

@@ -1,9 +1,10 @@
 //! Roots: what holds the objects of a program.
 
-use lk_base::{Name, Spot};
+use lk_base::{Name, Seq, Spot};
+use lk_types::TypeId;
 
 /// What kind of object a root stands for.
-#[derive(Clone, Copy, Debug, PartialEq, Eq)]
+#[derive(Clone, Copy)]
 pub enum RootKind {
     /// An object of external linkage.
     Global,
@@ -27,20 +28,26 @@ pub enum RootKind {
 }
 
 /// A root: what is declared or allocated at one place of the program.
-#[derive(Debug, Drop)]
+#[derive(Drop)]
 pub struct Root {
     /// What kind of object it stands for.
     pub kind: RootKind,
+    /// Its type. An array whose length is that of each object has no size.
+    pub ty: TypeId,
     /// The place of the name in its declarator, or of the first token of an allocating call.
     pub spot: Spot,
     /// Its name.
     pub name: Name,
-    /// The function that it belongs to, where it belongs to one.
+    /// The function that it belongs to, where it belongs to one; of a function its own number.
     pub function: Option<u32>,
+    /// The point that allocates it, where one does.
+    pub point: Option<u32>,
+    /// The bytes of a text, its closing zero too; of any other root none.
+    pub bytes: Seq<u8>,
 }
 
 /// What holds a pointer.
-#[derive(Clone, Copy, Debug, PartialEq, Eq)]
+#[derive(Clone, Copy, PartialEq, Eq, Hash)]
 pub enum Holder {
     /// A root.
     Root(u32),

@@ -1,6 +1,6 @@
 //! What the analysis says of a location.
 
-use lk_base::Items;
+use lk_base::Seq;
 use lk_sets::IdSet;
 
 /// Whether the accesses of a location may race.
@@ -31,5 +31,5 @@ pub struct Verdict {
     /// The locks that guard the location, and none unless it is guarded.
     pub locks: IdSet,
     /// The racing accesses in ascending order, each once.
-    pub accesses: Items<Racing>,
+    pub accesses: Seq<Racing>,
 }

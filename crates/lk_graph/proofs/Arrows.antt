@@ -1,14 +1,15 @@
 -- The arrows of a program's steps, and what rows are where they have passed on all that they can.
-use Rattle.std.proofs.Common.{◌≡◌, ◌<◌, ◌≤◌, ◌+◌, ◌-◌, ◌&&◌, ◌||◌, ◌++◌, ◌↔◌, ℕ, Bool, true, eqb, List, [], ◌∷◌, length, get_or, take, map, All, Contains, refl, sym, ap, ◌∙◌, subst, ◌⊎◌, ⊎_elim, inl, inr, arith}
+use Rattle.std.proofs.Common.{◌≡◌, ◌<◌, ◌+◌, ◌-◌, ◌&&◌, ◌||◌, ◌++◌, ◌↔◌, ℕ, Bool, true, eqb, List, [], ◌∷◌, length, get_or, take, drop, drop-cons, add-one, map, All, Contains, refl, sym, ap, ◌∙◌, subst, ◌⊎◌, ⊎_elim, inl, inr, arith}
 use Rattle.std.specs.List.{filter}
 use Rattle.std.specs.Option.{option_map_or}
-use Rattle.std.proofs.lemmas.Bool.{cases_eq, false≢true, and_from, and_parts, eqb-true, eq-eqb, or_cases, or_left, or_right}
+use Rattle.std.proofs.lemmas.Bool.{false≢true, and_from, and_parts, eqb-true, eq-eqb, or_cases, or_left, or_right}
 use Rattle.std.proofs.lemmas.List.{get_or-map, length-map, take_more}
 use Rattle.std.proofs.lemmas.List.Elements.{All-contains, All-contains_itself, All-weaker, Contains-append_cases, Contains-append_left, Contains-append_right, Contains-get_or, Contains-push, Contains-push_cases}
 use Rattle.std.proofs.lemmas.Option.{get_or_from_slice_get, slice_get_cases}
 use Rattle.lk_facts.specs.declared.point.Point.{Point}
 use Rattle.lk_facts.specs.InRange.{IsInRange, IsPointInRange, sizes_of}
-use Rattle.lk_facts.specs.Program.{Program, next_of}
+use Rattle.lk_facts.specs.declared.program.Program.{Program}
+use Rattle.lk_facts.specs.Program.{next_of}
 use Rattle.lk_facts.specs.Reach.{Plus, IsNext}
 use Rattle.lk_facts.specs.Reach.Plus.{one, more}
 use Rattle.lk_sets.specs.declared.spread.Arrow.{Arrow}
@@ -81,15 +82,22 @@ arrows_sound steps program old new point is before p q there =
       | inr now ↦ ((arrow_at steps program point p q).0 now).1
     ]
 
--- among them are all from this point on
-pub arrows_more : (steps : Steps) (program : Program) (old new : List Arrow) (end point : ℕ) → end ≡ point + 1 → new ≡ old ++ arrows_at steps program point → ((p q : ℕ) → end ≤ p → IsStep steps program p q → IsArrow old p q) → (p q : ℕ) → point ≤ p → IsStep steps program p q → IsArrow new p q
-arrows_more steps program old new end point next is before p q from step =
+-- among them are all of the points from this place of an order on
+pub arrows_behind : (steps : Steps) (program : Program) (order : List ℕ) (old new : List Arrow) (end index : ℕ) → end ≡ index + 1 → index < length order → new ≡ old ++ arrows_at steps program (get_or order index 0) →
+    ((p q : ℕ) → has_id (drop end order) p ≡ true → IsStep steps program p q → IsArrow old p q) → (p q : ℕ) → has_id (drop index order) p ≡ true → IsStep steps program p q → IsArrow new p q
+arrows_behind steps program order old new end index next within is before p q there step =
+    let point = get_or order index 0 in
     let more = arrows_at steps program point in
+    let there' : has_id (point ∷ drop end order) p ≡ true = subst (λ l. has_id l p ≡ true) (drop-cons order index 0 within ∙ ap (λ n. point ∷ drop n order) (sym (next ∙ add-one index))) there in
     subst (λ arrows. IsArrow arrows p q) (sym is)
-    (elim (cases_eq p point) [
-      | inl same ↦ Contains-append_right old more (arrow_of p q) ((arrow_at steps program point p q).1 (same, step))
-      | inr other ↦ Contains-append_left old more (arrow_of p q) (before p q (omega arith) step)
+    (elim (or_cases (eqb point p) (has_id (drop end order) p) there') [
+      | inl same ↦ Contains-append_right old more (arrow_of p q) ((arrow_at steps program point p q).1 (sym (eqb-true point p same), step))
+      | inr later ↦ Contains-append_left old more (arrow_of p q) (before p q later step)
     ])
+
+-- a step begins at a point
+pub steps_within : (steps : Steps) (program : Program) → IsInRange program → (p q : ℕ) → IsStep steps program p q → p < length program.points
+steps_within steps program ranged p q step = (step_within steps program ranged p q step).1
 
 -- rows with one more arrow
 pub put_more : (arrows : List Arrow) (i : ℕ) (d : Arrow) (old new : Rows) → i < length arrows → ((x y : ℕ) → has new x y ≡ (has old x y || (eqb x (get_or arrows i d).into && eqb y (get_or arrows i d).from))) → ((a b : ℕ) → (has old a b ≡ true) ↔ IsArrow (take i arrows) a b) → (a b : ℕ) → (has new a b ≡ true) ↔ IsArrow (take (i + 1) arrows) a b

@@ -1,7 +1,8 @@
 -- The steps of a program, and the arrows that pass rows back along them.
 use Rattle.std.specs.Prelude.{◌≡◌, ℕ, Bool, true, List, map, Contains}
 use Rattle.std.specs.List.{filter}
-use Rattle.lk_facts.specs.Program.{Program, next_of, live_at}
+use Rattle.lk_facts.specs.declared.program.Program.{Program}
+use Rattle.lk_facts.specs.Program.{next_of, live_at}
 use Rattle.lk_facts.specs.Reach.{IsNext, IsLiveNext}
 use Rattle.lk_sets.specs.declared.spread.Arrow.{Arrow}
 use Rattle.lk_graph.specs.declared.steps.Steps.{Steps}

@@ -7,6 +7,3 @@ mod steps;
 
 pub use order::in_order;
 pub use reach::{after, cycles};
-
-#[cfg(test)]
-mod tests;

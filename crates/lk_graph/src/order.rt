@@ -1,21 +1,38 @@
 //! An order of points in which loops over them end after few rounds.
-ghost use Rattle.std.specs.Prelude.{◌≡◌, ◌<◌, All, IfOk, OnOk, length};
+ghost use Rattle.std.specs.Prelude.{◌≡◌, ◌<◌, ◌↔◌, ℕ, true, All, IfOk, OnOk, length};
+ghost use Rattle.lk_graph.specs.Order.{AreMarked};
+ghost use Rattle.lk_sets.specs.Ids.{has_id};
 
 use lk_base::NoMemory;
 use lk_facts::Points;
 use std::alloc::Global;
 
-/// Points in an order in which control may come to them: those of each function from its entry on, one way of a branch
-/// before the other. It serves speed alone: no clause says which points it has, and in which order.
+/// Each point, in an order in which control may come to them: the points of each function from its entry on, one way of a
+/// branch before the other, and behind them those to which no entry leads. Their order serves speed alone.
 pub fn in_order(alloc: Global, points: &Points) -> Result<Vec<u32>, NoMemory>
-    ensures { IfOk result (λ order. All (λ p. p < length points.now.points) order.items) }
+    ensures { IfOk result (λ order. (p : ℕ) → (has_id order.items p ≡ true) ↔ (p < length points.now.points)) }
 {
     let mut seen = vec![in alloc; false; points.count() as usize]?;
     let mut order = Vec::new(alloc);
     for function in 0..points.functions() {
         walk(alloc, points, points.entry(function), &mut seen, &mut order)?;
     }
+    push_others(points, &seen, &mut order)?;
     Ok(order)
+}
+
+/// Puts the points that were not seen behind the others.
+fn push_others(points: &Points, seen: &[bool], order: &mut Vec<u32>) -> Result<(), NoMemory>
+    requires seen { length seen.now ≡ length points.now.points }
+    requires marked { AreMarked seen.now order.old.items }
+    ensures { OnOk result ((p : ℕ) → (has_id order.new.items p ≡ true) ↔ (p < length points.now.points)) }
+{
+    for point in 0..points.count() {
+        if !seen[point as usize] {
+            order.push(point)?;
+        }
+    }
+    Ok(())
 }
 
 /// Puts the points to which successors lead from this one, and which were not seen yet, behind the others.
@@ -28,22 +45,43 @@ fn walk(
 ) -> Result<(), NoMemory>
     requires entry { entry < length points.now.points }
     requires seen { length seen.old.items ≡ length points.now.points }
-    requires order { All (λ p. p < length points.now.points) order.old.items }
+    requires marked { AreMarked seen.old.items order.old.items }
     ensures seen { OnOk result (length seen.new.items ≡ length points.now.points) }
-    ensures order { OnOk result (All (λ p. p < length points.now.points) order.new.items) }
+    ensures marked { OnOk result (AreMarked seen.new.items order.new.items) }
 {
     let mut pending = vec![in alloc; entry]?;
     for _ in 0..u64::MAX {
         let Some(point) = pending.pop() else {
             return Ok(());
         };
-        if !seen[point as usize] {
-            seen[point as usize] = true;
-            order.push(point)?;
-            push_next(points, point, &mut pending)?;
-        }
+        visit(points, point, seen, order, &mut pending)?;
     }
     Ok(())
+}
+
+/// Puts a point behind the others, and its successors behind those that are still to be walked to, where it was not seen
+/// yet.
+fn visit(
+    points: &Points,
+    point: u32,
+    seen: &mut Vec<bool>,
+    order: &mut Vec<u32>,
+    pending: &mut Vec<u32>,
+) -> Result<(), NoMemory>
+    requires point { point < length points.now.points }
+    requires seen { length seen.old.items ≡ length points.now.points }
+    requires marked { AreMarked seen.old.items order.old.items }
+    requires pending { All (λ p. p < length points.now.points) pending.old.items }
+    ensures seen { OnOk result (length seen.new.items ≡ length points.now.points) }
+    ensures marked { OnOk result (AreMarked seen.new.items order.new.items) }
+    ensures pending { OnOk result (All (λ p. p < length points.now.points) pending.new.items) }
+{
+    if seen[point as usize] {
+        return Ok(());
+    }
+    seen[point as usize] = true;
+    order.push(point)?;
+    push_next(points, point, pending)
 }
 
 /// Puts the successors of a point behind those that are still to be walked to, the first one last, so that it is next.

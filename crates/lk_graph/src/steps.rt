@@ -1,10 +1,11 @@
 //! The steps of a program, as arrows along which what can come after a point is passed back to it.
-ghost use Rattle.std.specs.Prelude.{◌≡◌, ◌<◌, ◌++◌, ◌↔◌, ℕ, All, Contains, IfOk, OnOk, length};
+ghost use Rattle.std.specs.Prelude.{◌≡◌, ◌<◌, ◌++◌, ◌↔◌, ℕ, true, All, Contains, IfOk, OnOk, length};
+ghost use Rattle.lk_sets.specs.Ids.{has_id};
 ghost use Rattle.lk_sets.specs.Spread.{IsWithin};
 ghost use Rattle.lk_graph.specs.Steps.{counts, IsStep, arrows_at, arrow_of};
 
 use crate::order::in_order;
-use lk_base::NoMemory;
+use lk_base::{MOST_POINTS, NoMemory};
 use lk_facts::Points;
 use lk_sets::Arrow;
 use std::alloc::Global;
@@ -51,11 +52,17 @@ impl Steps {
         Ok(())
     }
 
-    /// Arrows of steps, from the last of the points in their order to the first.
-    fn arrows_in_order(self, alloc: Global, points: &Points) -> Result<Vec<Arrow>, NoMemory>
-        ensures { IfOk result (λ arrows. (p q : ℕ) → Contains arrows.items (arrow_of p q) → IsStep self points.now p q) }
+    /// An arrow for each step, from the last of the points in the order to the first.
+    fn arrows_in_order(
+        self,
+        alloc: Global,
+        points: &Points,
+        order: &[u32],
+    ) -> Result<Vec<Arrow>, NoMemory>
+        requires { (p : ℕ) → (has_id order.now p ≡ true) ↔ (p < length points.now.points) }
+        ensures { IfOk result (λ arrows. (p q : ℕ) → Contains arrows.items (arrow_of p q) ↔ IsStep self points.now p q) }
     {
-        let order = in_order(alloc, points)?;
+        prove!(points.count() <= MOST_POINTS);
         let mut arrows = Vec::new(alloc);
         for index in (0..order.len()).rev() {
             self.push_arrows(points, order[index], &mut arrows)?;
@@ -63,16 +70,14 @@ impl Steps {
         Ok(arrows)
     }
 
-    /// An arrow for each step, and before these arrows in an order in which a straight line of code has its rows passed on
-    /// in one round.
+    /// An arrow for each step, in an order in which a straight line of code has its rows passed on in one round.
     pub(crate) fn arrows(self, alloc: Global, points: &Points) -> Result<Vec<Arrow>, NoMemory>
         ensures within { IfOk result (λ arrows. All (IsWithin (length points.now.points)) arrows.items) }
         ensures steps { IfOk result (λ arrows. (p q : ℕ) → Contains arrows.items (arrow_of p q) ↔ IsStep self points.now p q) }
     {
-        let mut arrows = self.arrows_in_order(alloc, points)?;
-        for point in (0..points.count()).rev() {
-            self.push_arrows(points, point, &mut arrows)?;
-        }
+        prove!(points.count() <= MOST_POINTS);
+        let order = in_order(alloc, points)?;
+        let arrows = self.arrows_in_order(alloc, points, &order)?;
         Ok(arrows)
     }
 }

@@ -1,7 +1,9 @@
 -- Steps of a loop that goes on until nothing changes, one behind another.
-use Rattle.std.proofs.Common.{◌<◌, ◌≤◌, ◌+◌, ◌||◌, ℕ, Bool, true, false, refl, sym, ap, ◌∙◌, subst, inl, inr, arith, below_more}
+use Rattle.std.proofs.Common.{◌<◌, ◌≤◌, ◌+◌, ◌||◌, ◌≡◌, ℕ, Bool, true, false, List, length, take, get_or, ⊎_elim, refl, sym, ap, ◌∙◌, subst, inl, inr, arith, below_more}
 use Rattle.std.proofs.lemmas.Bool.{both_ways, or_cases, or_parts}
 use Rattle.lk_held.specs.Progress.{Progress}
+use Rattle.lk_links.proofs.SetLemmas.{some_more}
+use Rattle.lk_sets.specs.Ids.{has_id}
 
 module _ {S : Type 0} (measure : S → ℕ) (Keeps : S → S → Type 0) where
   -- no step
@@ -34,3 +36,17 @@ module _ {S : Type 0} (measure : S → ℕ) (Keeps : S → S → Type 0) where
   pub progress_below : (Step : ℕ → S → Type 0) (i : ℕ) (old mid new : S) (b c : Bool) → (Keeps old mid → Keeps mid new → Keeps old new) → Progress measure Keeps (λ s. (k : ℕ) → k < i → Step k s) old mid b → Progress measure Keeps (Step i) mid new c → Progress measure Keeps (λ s. (k : ℕ) → k < i + 1 → Step k s) old new (b || c)
   progress_below Step i old mid new b c joins first second =
       progress_more (λ s. (k : ℕ) → k < i → Step k s) (Step i) (λ s. (k : ℕ) → k < i + 1 → Step k s) old mid new b c joins (λ done here. below_more (λ k. Step k new) i done here) first second
+
+  -- one number of a list more
+  pub progress_listed : (Step : ℕ → S → Type 0) (xs : List ℕ) (i d : ℕ) → i < length xs → (old mid new : S) (b c : Bool) → (Keeps old mid → Keeps mid new → Keeps old new) →
+      Progress measure Keeps (λ s. (k : ℕ) → has_id (take i xs) k ≡ true → Step k s) old mid b → Progress measure Keeps (Step (get_or xs i d)) mid new c → Progress measure Keeps (λ s. (k : ℕ) → has_id (take (i + 1) xs) k ≡ true → Step k s) old new (b || c)
+  progress_listed Step xs i d within old mid new b c joins first second =
+      progress_more (λ s. (k : ℕ) → has_id (take i xs) k ≡ true → Step k s) (Step (get_or xs i d)) (λ s. (k : ℕ) → has_id (take (i + 1) xs) k ≡ true → Step k s) old mid new b c joins
+      (λ done here k there.
+      ⊎_elim (λ earlier. subst (λ n. Step n new) earlier.2 (done earlier.0 earlier.1)) (λ now. subst (λ n. Step n new) now here)
+      ((some_more (λ n. n ≡ k) xs i d within).0 (k, there, refl)))
+      first second
+
+  -- where less is done
+  pub progress_weaker : (Done More : S → Type 0) (old new : S) (changed : Bool) → (Done new → More new) → Progress measure Keeps Done old new changed → Progress measure Keeps More old new changed
+  progress_weaker Done More old new changed weaker step = record { keeps = step.keeps; falls = step.falls; same = step.same; done = λ none. weaker (step.done none) }

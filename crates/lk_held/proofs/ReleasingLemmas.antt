@@ -1,56 +1,54 @@
 -- What points release, and sets of what functions release.
-use Rattle.std.proofs.Common.{◌≡◌, ◌<◌, ◌-◌, ◌||◌, ◌⊎◌, ◌↔◌, ℕ, Bool, true, false, List, [], ◌∷◌, length, get_or, set, replicate, All, Some, None, refl, sym, ap, ◌∙◌, subst, ⊎_elim, inl, inr, sum_by, arith}
+use Rattle.std.proofs.Common.{◌≡◌, ◌<◌, ◌-◌, ◌+◌, ◌++◌, ◌||◌, ◌⊎◌, ◌↔◌, ℕ, Bool, true, false, List, [], ◌∷◌, length, get_or, set, replicate, All, Some, None, refl, sym, ap, ◌∙◌, subst, ⊎_elim, inl, inr, sum_by, arith}
 use Rattle.std.specs.List.{list_all}
 use Rattle.std.proofs.lemmas.Bool.{both_ways, cases_eq, cases_lt, false≢true, or_cases, or_left, or_right}
-use Rattle.std.proofs.lemmas.List.{get_or-replicate, get_or-set_other, get_or-set_same, get_or_past, length-replicate, length-set}
-use Rattle.std.proofs.lemmas.List.Elements.{All-replicate, All-set}
+use Rattle.std.proofs.lemmas.List.{get_or-replicate, get_or-set_other, get_or-set_same, get_or_past, get_or_append_left, get_or_push, length_push, length-replicate, length-set}
+use Rattle.std.proofs.lemmas.List.Elements.{All-push, All-replicate, All-set}
 use Rattle.std.proofs.lemmas.List.Sums.{sum_by-set}
 use Rattle.lk_facts.specs.Doing.{Frees, Runs}
-use Rattle.lk_facts.specs.Doing.Frees.{unlock}
-use Rattle.lk_facts.specs.Doing.Runs.{call as calls}
-use Rattle.lk_facts.specs.Flow.{Flow, Over}
-use Rattle.lk_facts.specs.Held.{Released, Drops, RunsNone}
-use Rattle.lk_facts.specs.Labels.{LabelTable}
+use Rattle.lk_facts.specs.Basis.{Basis}
+use Rattle.lk_facts.specs.Doing.Frees.{frees}
+use Rattle.lk_facts.specs.Doing.Runs.{call, pointer}
+use Rattle.lk_facts.specs.Flow.{Over}
+use Rattle.lk_facts.specs.Held.{Released, Drops}
 use Rattle.lk_facts.specs.Origins.{AreSetsBelow, IsSetBelow}
-use Rattle.lk_facts.specs.Program.{Program, function_at, live_at}
+use Rattle.lk_facts.specs.Program.{function_at, live_at}
+use Rattle.lk_facts.proofs.Ranges.{live_within}
 use Rattle.lk_facts.specs.declared.way.Way.{Way}
-use Rattle.lk_facts.specs.declared.way.Way.TheVariants.{Through}
 use Rattle.lk_sets.specs.Ids.{has_id, IsSetOf}
-use Rattle.lk_held.specs.declared.facts.Call.{Call}
-use Rattle.lk_held.specs.Acts.{IsFreed, IsCall}
+use Rattle.lk_held.specs.Acts.{IsFreed, OneRuns}
+use Rattle.lk_links.specs.Links.{AreLinksAt}
+use Rattle.lk_links.specs.declared.link.Link.{Link}
 use Rattle.lk_held.specs.Progress.{Progress}
-use Rattle.lk_held.specs.Releasing.{has_in, Releases, room, Puts, Joins, AreSets, AreSound, Gains, HasReleased, AreReleased}
-use Rattle.lk_held.proofs.ActLemmas.{frees_no_run}
-use Rattle.lk_rise.proofs.LinkLemmas.{live_within}
-use Rattle.lk_rise.proofs.SetLemmas.{All-from_has_id, All-has_id, all_pass, at_most, has_id-one, one_fails, shorter}
+use Rattle.lk_held.specs.Releasing.{has_in, Releases, room, Puts, Joins, AreSets, AreSound, Gains, HasReleased, AreReleased, AreDropped, IsOutside}
+use Rattle.lk_held.proofs.ActLemmas.{frees_no_run, link_runs, run_link}
+use Rattle.lk_links.proofs.SetLemmas.{All-from_has_id, All-has_id, all_pass, at_most, has_id-one, one_fails, shorter}
 
-module _ (program : Program) (labels : LabelTable) (flow : Flow) (releases : ℕ → ℕ → Type 0) (p : ℕ) where
+module _ (basis : Basis) (releases : ℕ → ℕ → Type 0) (p : ℕ) where
   -- a point that frees a mutex releases that alone
-  pub dropped_one : (m : ℕ) → IsFreed program labels p (Some m) → (x : ℕ) → (has_id (m ∷ []) x ≡ true) ↔ Drops program labels flow releases p x
+  pub dropped_one : (m : ℕ) → IsFreed basis p (Some m) → (x : ℕ) → (has_id (m ∷ []) x ≡ true) ↔ Drops basis releases p x
   dropped_one m freed x = (
-    λ there. subst (Drops program labels flow releases p) (sym ((has_id-one m x).0 there)) (Drops.itself freed.holds.1),
+    λ there. subst (Drops basis releases p) (sym ((has_id-one m x).0 there)) (Drops.itself freed.holds.1),
     λ drops. (has_id-one m x).1 (at_drop x drops),
   )
     where
-      at_drop : (x : ℕ) → Drops program labels flow releases p x → x ≡ m
-      at_drop x (Drops.itself {f} frees) = freed.only x (f, frees)
-      at_drop x (Drops.callee {f} {g} {y} {way} runs _ _) = absurd (frees_no_run program labels flow p freed.holds.1 runs)
+      at_drop : (x : ℕ) → Drops basis releases p x → x ≡ m
+      at_drop x (Drops.itself {f} it) = freed.only x (f, it)
+      at_drop x (Drops.callee {f} {g} {y} {way} runs _ _) = absurd (frees_no_run basis p freed.holds.1 runs)
 
-  -- a point that calls releases what the callee does, as it is outside
-  pub dropped_outside : (call : Call) → IsFreed program labels p None → IsCall program labels flow p call → (x : ℕ) → ((y : ℕ) × releases call.function y × Over flow (Through call.site) y x) ↔ Drops program labels flow releases p x
-  dropped_outside call none is x =
-      (λ found. Drops.callee is.runs.1 found.1 found.2, at_drop)
+  -- other points release what the functions do that they run, as it is outside them
+  pub dropped_outside : (links : List Link) → AreLinksAt basis p links → IsFreed basis p None → (x : ℕ) → OneRuns links (IsOutside basis.flow releases x) ↔ Drops basis releases p x
+  dropped_outside links are none x =
+      (λ found. Drops.callee (link_runs basis p links are found.0 found.1 found.2) found.3.1 found.3.2, at_drop)
     where
-      at_drop : Drops program labels flow releases p x → (y : ℕ) × releases call.function y × Over flow (Through call.site) y x
-      at_drop (Drops.itself {f} frees) = absurd (none x (f, frees))
-      at_drop (Drops.callee {f} {g} {y} {way} runs rel over) =
-          let same = is.only f g way runs in
-          (y, subst (λ h. releases h y) same.0 rel, subst (λ w. Over flow w y x) same.1 over)
+      at_drop : Drops basis releases p x → OneRuns links (λ link. (y : ℕ) × releases link.below y × Over basis.flow link.way y x)
+      at_drop (Drops.itself {f} it) = absurd (none x (f, it))
+      at_drop (Drops.callee {f} {g} {y} {way} runs rel over) = run_link basis p links are (λ w h. (y : ℕ) × releases h y × Over basis.flow w y x) f g way runs (y, rel, over)
 
-  -- other points release nothing
-  pub dropped_none : IsFreed program labels p None → RunsNone program labels flow p → (x : ℕ) → Drops program labels flow releases p x → ⊥
-  dropped_none none runs_none x (Drops.itself {f} frees) = none x (f, frees)
-  dropped_none none runs_none x (Drops.callee {f} {g} {y} {way} runs _ _) = runs_none f g way runs
+-- what a point may drop, by less of what functions release
+pub drops_map : (basis : Basis) (R S : ℕ → ℕ → Type 0) → ((g y : ℕ) → R g y → S g y) → {p x : ℕ} → Drops basis R p x → Drops basis S p x
+drops_map basis R S to (Drops.itself it) = Drops.itself it
+drops_map basis R S to (Drops.callee {g} {y} runs rel over) = Drops.callee runs (to g y rel) over
 
 -- where the set has all numbers, they have joined it
 pub joins_same : (old : List (List ℕ)) (place : ℕ) (set ids : List ℕ) → set ≡ get_or old place [] → list_all (has_id set) ids ≡ true → Joins old old place ids false
@@ -61,16 +59,13 @@ joins_same old place set ids is all = record {
 }
 
 -- else the union joins in its place
-pub joins_more : (old : List (List ℕ)) (place : ℕ) (had ids more joined : List ℕ) → had ≡ get_or old place [] → list_all (has_id had) ids ≡ false → IsSetOf (has_id ids) more → IsSetOf (λ x. has_id had x || has_id more x) joined → Joins old (set old place joined) place ids true
-joins_more old place had ids more joined is lacks are union = record {
+pub joins_more : (old : List (List ℕ)) (place : ℕ) (had ids joined : List ℕ) → had ≡ get_or old place [] → list_all (has_id had) ids ≡ false → IsSetOf (λ x. has_id had x || has_id ids x) joined → Joins old (set old place joined) place ids true
+joins_more old place had ids joined is lacks union = record {
   puts = λ _.
       let found = one_fails (has_id had) ids lacks in
       record {
         set = joined;
-        union = record {
-          sorted = union.sorted;
-          members = λ x. union.members x ∙ ap (λ b. has_id had x || b) (are.members x) ∙ ap (λ s. has_id s x || has_id ids x) is;
-        };
+        union = record { sorted = union.sorted; members = λ x. union.members x ∙ ap (λ s. has_id s x || has_id ids x) is };
         is = refl;
         more = (found.0, found.1, subst (λ s. has_id s found.0 ≡ false) is found.2);
       };
@@ -146,24 +141,25 @@ module _ (old new : List (List ℕ)) (place : ℕ) (ids : List ℕ) (within : pl
       subst (λ sets. has_in sets f x ≡ true) (sym (joins.same refl))
       (⊎_elim (λ before. before) (λ now. subst (λ k. has_in old k x ≡ true) (sym now.0) (joins.had refl x now.1)) either)
 
-module _ (program : Program) (labels : LabelTable) (flow : Flow) where
-  function_frees : {p f x : ℕ} → Frees program labels p f x → function_at program p ≡ Some f
-  function_frees (unlock a does at) = does.of
+module _ (basis : Basis) where
+  function_frees : {p f x : ℕ} → Frees basis p f x → function_at basis.program p ≡ Some f
+  function_frees (frees a does at) = does.of
 
-  function_runs : {p f g : ℕ} {way : Way} → Runs program labels flow p f way g → function_at program p ≡ Some f
-  function_runs (calls g operands i does at) = does.of
+  function_runs : {p f g : ℕ} {way : Way} → Runs basis p f way g → function_at basis.program p ≡ Some f
+  function_runs (call _ i does at) = does.of
+  function_runs (pointer _ a i does may) = does.of
 
   -- where sets are sound a point's function releases what the point does
-  pub drops_released : (sets : List (List ℕ)) (p f x : ℕ) → AreSound program labels flow sets → function_at program p ≡ Some f → Drops program labels flow (Releases sets) p x → Released program labels flow f x
-  drops_released sets p f x sound of (Drops.itself {f = g} frees) =
-      let same : g ≡ f = cc (function_frees frees) in
-      subst (λ h. Released program labels flow h x) same (Released.itself frees)
+  pub drops_released : (sets : List (List ℕ)) (p f x : ℕ) → AreSound basis sets → function_at basis.program p ≡ Some f → Drops basis (Releases sets) p x → Released basis f x
+  drops_released sets p f x sound of (Drops.itself {f = g} it) =
+      let same : g ≡ f = cc (function_frees it) in
+      subst (λ h. Released basis h x) same (Released.itself it)
   drops_released sets p f x sound of (Drops.callee {f = h} {g} {y} {way} runs rel over) =
       let same : h ≡ f = cc (function_runs runs) in
-      subst (λ k. Released program labels flow k x) same (Released.callee runs (sound g y rel) over)
+      subst (λ k. Released basis k x) same (Released.callee runs (sound g y rel) over)
 
   -- what a point releases joins the set of its function
-  pub released_more : (old new : List (List ℕ)) (p f : ℕ) (ids : List ℕ) (changed : Bool) → f < length program.functions → AreSets program labels old → function_at program p ≡ Some f → ((x : ℕ) → (has_id ids x ≡ true) ↔ Drops program labels flow (Releases old) p x) → All (λ x. x < length labels.entries) ids → Joins old new f ids changed → Progress (room (length labels.entries)) (Gains program labels flow) (HasReleased program labels flow p) old new changed
+  pub released_more : (old new : List (List ℕ)) (p f : ℕ) (ids : List ℕ) (changed : Bool) → f < length basis.program.functions → AreSets basis old → function_at basis.program p ≡ Some f → ((x : ℕ) → (has_id ids x ≡ true) ↔ Drops basis (Releases old) p x) → All (λ x. x < length basis.labels.entries) ids → Joins old new f ids changed → Progress (room (length basis.labels.entries)) (Gains basis) (HasReleased basis p) old new changed
   released_more old new p f ids changed within sets of drops small joins =
       let inside : f < length old = omega (arith, sets.all) in
       record {
@@ -173,26 +169,26 @@ module _ (program : Program) (labels : LabelTable) (flow : Flow) where
           sound = λ sound g x there.
               ⊎_elim (sound g x) (λ now. drops_released old p g x sound (of ∙ ap Some (sym now.0)) ((drops x).0 now.1)) (joined_has old new f ids inside changed joins g x there);
         };
-        falls = λ yes. puts_falls (length labels.entries) old new f ids inside sets.below small (joins.puts yes);
+        falls = λ yes. puts_falls (length basis.labels.entries) old new f ids inside sets.below small (joins.puts yes);
         same = joins.same;
         done = λ none g x of' there.
             let here : g ≡ f = cc in
-            joined_kept old new f ids inside changed joins g x (inr (here, (drops x).1 (subst (λ s. Drops program labels flow (Releases s) p x) (joins.same none) there)));
+            joined_kept old new f ids inside changed joins g x (inr (here, (drops x).1 (subst (λ s. Drops basis (Releases s) p x) (joins.same none) there)));
       }
     where
-      at_change : (b : Bool) → Joins old new f ids b → AreSets program labels new
+      at_change : (b : Bool) → Joins old new f ids b → AreSets basis new
       at_change true joined =
           let puts = joined.puts refl in
           record {
             all = ap length puts.is ∙ length-set old f puts.set ∙ sets.all;
-            below = puts_below (length labels.entries) old new f ids (omega (arith, sets.all)) sets.below small puts;
+            below = puts_below (length basis.labels.entries) old new f ids (omega (arith, sets.all)) sets.below small puts;
           }
-      at_change false joined = subst (AreSets program labels) (sym (joined.same refl)) sets
+      at_change false joined = subst (AreSets basis) (sym (joined.same refl)) sets
 
-  pub gains_none : (sets : List (List ℕ)) → Gains program labels flow sets sets
+  pub gains_none : (sets : List (List ℕ)) → Gains basis sets sets
   gains_none sets = record { sets = λ are. are; kept = λ f x there. there; sound = λ sound. sound }
 
-  pub gains_more : (old mid new : List (List ℕ)) → Gains program labels flow old mid → Gains program labels flow mid new → Gains program labels flow old new
+  pub gains_more : (old mid new : List (List ℕ)) → Gains basis old mid → Gains basis mid new → Gains basis old new
   gains_more old mid new first second = record {
     sets = λ are. second.sets (first.sets are);
     kept = λ f x there. second.kept f x (first.kept f x there);
@@ -200,42 +196,60 @@ module _ (program : Program) (labels : LabelTable) (flow : Flow) where
   }
 
   -- a point that isn't live releases nothing
-  pub dead_releases : (sets : List (List ℕ)) (p : ℕ) → live_at program p ≡ false → HasReleased program labels flow p sets
-  dead_releases sets p dead f x of (Drops.itself frees) = absurd (dead_frees frees)
+  pub dead_releases : (sets : List (List ℕ)) (p : ℕ) → live_at basis.program p ≡ false → HasReleased basis p sets
+  dead_releases sets p dead f x of (Drops.itself it) = absurd (dead_frees it)
     where
-      dead_frees : {f x : ℕ} → Frees program labels p f x → ⊥
-      dead_frees (unlock a does at) = both_ways (live_at program p) dead does.live
+      dead_frees : {f x : ℕ} → Frees basis p f x → ⊥
+      dead_frees (frees a does at) = both_ways (live_at basis.program p) dead does.live
   dead_releases sets p dead f x of (Drops.callee runs _ _) = absurd (dead_runs runs)
     where
-      dead_runs : {f g : ℕ} {way : Way} → Runs program labels flow p f way g → ⊥
-      dead_runs (calls g operands i does at) = both_ways (live_at program p) dead does.live
+      dead_runs : {f g : ℕ} {way : Way} → Runs basis p f way g → ⊥
+      dead_runs (call _ i does at) = both_ways (live_at basis.program p) dead does.live
+      dead_runs (pointer _ a i does may) = both_ways (live_at basis.program p) dead does.live
 
   -- where all points have released what they do, the sets have all that functions release
-  all_released : (sets : List (List ℕ)) → ((p : ℕ) → p < length program.points → HasReleased program labels flow p sets) → {f x : ℕ} → Released program labels flow f x → has_in sets f x ≡ true
-  all_released sets done (Released.itself {p} {f} {x} frees) = done p (live_within program p (frees_live frees)) f x (function_frees frees) (Drops.itself frees)
+  all_released : (sets : List (List ℕ)) → ((p : ℕ) → p < length basis.program.points → HasReleased basis p sets) → {f x : ℕ} → Released basis f x → has_in sets f x ≡ true
+  all_released sets done (Released.itself {p} {f} {x} it) = done p (live_within basis.program p (frees_live it)) f x (function_frees it) (Drops.itself it)
     where
-      frees_live : {p f x : ℕ} → Frees program labels p f x → live_at program p ≡ true
-      frees_live (unlock a does at) = does.live
-  all_released sets done (Released.callee {p} {f} {g} {y} {x} runs before over) = done p (live_within program p (runs_live runs)) f x (function_runs runs) (Drops.callee runs (all_released sets done before) over)
+      frees_live : {p f x : ℕ} → Frees basis p f x → live_at basis.program p ≡ true
+      frees_live (frees a does at) = does.live
+  all_released sets done (Released.callee {p} {f} {g} {y} {x} runs before over) = done p (live_within basis.program p (runs_live runs)) f x (function_runs runs) (Drops.callee runs (all_released sets done before) over)
     where
-      runs_live : {p f g : ℕ} {way : Way} → Runs program labels flow p f way g → live_at program p ≡ true
-      runs_live (calls g operands i does at) = does.live
+      runs_live : {p f g : ℕ} {way : Way} → Runs basis p f way g → live_at basis.program p ≡ true
+      runs_live (call _ i does at) = does.live
+      runs_live (pointer _ a i does may) = does.live
 
-  pub released_exact : (sets : List (List ℕ)) → AreSets program labels sets → AreSound program labels flow sets → ((p : ℕ) → p < length program.points → HasReleased program labels flow p sets) → AreReleased program labels flow sets
+  pub released_exact : (sets : List (List ℕ)) → AreSets basis sets → AreSound basis sets → ((p : ℕ) → p < length basis.program.points → HasReleased basis p sets) → AreReleased basis sets
   released_exact sets are sound done = record { sets = are; exact = λ f x. (sound f x, all_released sets done) }
 
   -- sets without numbers
-  pub empty_are : AreSets program labels (replicate (length program.functions) [])
+  pub empty_are : AreSets basis (replicate (length basis.program.functions) [])
   empty_are = record {
-    all = length-replicate (length program.functions) [];
-    below = record { each = All-replicate (IsSetBelow (length labels.entries)) (length program.functions) [] (record { sorted = λ k lt. absurd (omega arith); below = λ k d lt. absurd (omega arith) }) };
+    all = length-replicate (length basis.program.functions) [];
+    below = record { each = All-replicate (IsSetBelow (length basis.labels.entries)) (length basis.program.functions) [] (record { sorted = λ k lt. absurd (omega arith); below = λ k d lt. absurd (omega arith) }) };
   }
 
-  pub empty_sound : AreSound program labels flow (replicate (length program.functions) [])
+  pub empty_sound : AreSound basis (replicate (length basis.program.functions) [])
   empty_sound f x there =
-      let count = length program.functions in
+      let count = length basis.program.functions in
       let none : get_or (replicate count []) f [] ≡ [] = elim (cases_lt f count) [
         | inl within ↦ get_or-replicate count f [] [] within
         | inr past ↦ get_or_past (replicate count []) f [] (omega (arith, length-replicate {A = List ℕ} count []))
       ] in
       absurd (false≢true (subst (λ ids. has_id ids x ≡ true) none there))
+
+-- what the points drop, one point more
+pub dropped_more : (basis : Basis) (sets : List (List ℕ)) (i : ℕ) (old new : List (List ℕ)) (ids : List ℕ) → AreReleased basis sets → new ≡ old ++ ids ∷ [] → ((x : ℕ) → (has_id ids x ≡ true) ↔ Drops basis (Releases sets) i x) → All (λ x. x < length basis.labels.entries) ids → AreDropped basis i old → AreDropped basis (i + 1) new
+dropped_more basis sets i old new ids released is here below before = record {
+  all = ap length is ∙ length_push old ids ∙ ap (λ k. k + 1) before.all;
+  exact = λ p x within. elim (cases_lt p i) [
+    | inl earlier ↦ subst (λ s. (has_id s x ≡ true) ↔ Drops basis (Released basis) p x) (sym (ap (λ s. get_or s p []) is ∙ get_or_append_left old (ids ∷ []) [] p (omega (arith, before.all)))) (before.exact p x earlier)
+    | inr last ↦
+        let same : i ≡ p = omega arith in
+        let there : get_or new i [] ≡ ids = ap (λ s. get_or s i []) is ∙ get_or_push old ids [] i before.all in
+        subst (λ q. (has_id (get_or new q []) x ≡ true) ↔ Drops basis (Released basis) q x) same
+        (subst (λ s. (has_id s x ≡ true) ↔ Drops basis (Released basis) i x) (sym there)
+        (λ has. drops_map basis (Releases sets) (Released basis) (λ g y. (released.exact g y).0) ((here x).0 has), λ drops. (here x).1 (drops_map basis (Released basis) (Releases sets) (λ g y. (released.exact g y).1) drops)))
+  ];
+  below = subst (All (All (λ x. x < length basis.labels.entries))) (sym is) (All-push (All (λ x. x < length basis.labels.entries)) old ids before.below below);
+}

@@ -11,7 +11,7 @@ use Rattle.lk_sets.specs.Ids.{has_id, IsSetOf}
 use Rattle.lk_sets.proofs.Members.{same_answers}
 use Rattle.lk_held.specs.declared.states.States.{States}
 use Rattle.lk_held.specs.States.{set_of, holds, weight_of, weight, IsLess, Narrows}
-use Rattle.lk_rise.proofs.SetLemmas.{all_pass, no_longer, one_fails, shorter}
+use Rattle.lk_links.proofs.SetLemmas.{all_pass, no_longer, one_fails, shorter}
 
 module _ (states : States) (point : ℕ) (ids : List ℕ) where
   -- the set of a point

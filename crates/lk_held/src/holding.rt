@@ -2,19 +2,20 @@
 ghost use Rattle.std.specs.Prelude.{◌≡◌, ◌<◌, ◌↔◌, ℕ, true, Some, length, map, All, IfOk, ⊤};
 ghost use Rattle.std.specs.List.{range_with_len};
 ghost use Rattle.std.specs.List.Sorted.{IsStrictlyIncreasing};
-ghost use Rattle.lk_facts.specs.Origins.{flow_of};
 ghost use Rattle.lk_facts.specs.Program.{live_at, entry_of};
+ghost use Rattle.lk_held.specs.Acts.{basis_in};
 ghost use Rattle.lk_held.specs.Holding.{AreStates, Sheds, AreWithin, Loses, HasPassed, AreHeld, AreLost, first_set};
 ghost use Rattle.lk_held.specs.Progress.{Progress};
-ghost use Rattle.lk_held.specs.Releasing.{AreReleased};
+ghost use Rattle.lk_held.specs.Releasing.{AreDropped};
 ghost use Rattle.lk_held.specs.States.{weight};
+ghost use Rattle.lk_links.specs.Links.{AreLinks};
 ghost use Rattle.lk_sets.specs.Ids.{has_id};
 
-use crate::facts::Facts;
+use crate::acts::Acts;
 use crate::states::States;
 use lk_base::NoMemory;
 use lk_graph::in_order;
-use lk_rise::empty_set;
+use lk_links::empty_set;
 use lk_sets::IdSet;
 use std::alloc::Global;
 
@@ -37,7 +38,7 @@ fn narrow_each(
     Ok(changed)
 }
 
-impl Facts<'_> {
+impl Acts<'_, '_> {
     /// Takes away from the successors of a point what isn't held once it has run, and answers whether something
     /// changed.
     fn pass(
@@ -45,18 +46,16 @@ impl Facts<'_> {
         alloc: Global,
         point: u32,
         states: &mut States,
-        released: &[IdSet],
+        dropped: &[IdSet],
     ) -> Result<bool, NoMemory>
+        requires linked { AreLinks (basis_in self.now) self.now.links.now }
         requires point { point < length self.now.points.now.points }
         requires live { live_at self.now.points.now point ≡ true }
-        requires states { AreStates self.now.points.now self.now.labels.now states.old }
-        requires released { AreReleased self.now.points.now self.now.labels.now (flow_of self.now.origins.now) released.now }
-        ensures { IfOk result (Progress weight
-            (Loses self.now.points.now self.now.labels.now (flow_of self.now.origins.now))
-            (HasPassed self.now.points.now self.now.labels.now (flow_of self.now.origins.now) point)
-            states.old states.new) }
+        requires states { AreStates (basis_in self.now) states.old }
+        requires dropped { AreDropped (basis_in self.now) (length self.now.points.now.points) dropped.now }
+        ensures { IfOk result (Progress weight (Loses (basis_in self.now)) (HasPassed (basis_in self.now) point) states.old states.new) }
     {
-        let after = self.after(alloc, point, states, released)?;
+        let after = self.after(alloc, point, states, dropped)?;
         narrow_each(alloc, self.points.next(point), states, &after)
     }
 
@@ -66,86 +65,41 @@ impl Facts<'_> {
         alloc: Global,
         point: u32,
         states: &mut States,
-        released: &[IdSet],
+        dropped: &[IdSet],
     ) -> Result<bool, NoMemory>
+        requires linked { AreLinks (basis_in self.now) self.now.links.now }
         requires point { point < length self.now.points.now.points }
-        requires states { AreStates self.now.points.now self.now.labels.now states.old }
-        requires released { AreReleased self.now.points.now self.now.labels.now (flow_of self.now.origins.now) released.now }
-        ensures { IfOk result (Progress weight
-            (Loses self.now.points.now self.now.labels.now (flow_of self.now.origins.now))
-            (HasPassed self.now.points.now self.now.labels.now (flow_of self.now.origins.now) point)
-            states.old states.new) }
+        requires states { AreStates (basis_in self.now) states.old }
+        requires dropped { AreDropped (basis_in self.now) (length self.now.points.now.points) dropped.now }
+        ensures { IfOk result (Progress weight (Loses (basis_in self.now)) (HasPassed (basis_in self.now) point) states.old states.new) }
     {
         if !self.points.live(point) {
             return Ok(false);
         }
-        self.pass(alloc, point, states, released)
+        self.pass(alloc, point, states, dropped)
     }
 
-    /// Lets points pass on what is held once they have run, in this order, where they are live.
-    fn pass_in_order(
-        &self,
-        alloc: Global,
-        order: &[u32],
-        states: &mut States,
-        released: &[IdSet],
-    ) -> Result<bool, NoMemory>
-        requires order { All (λ p. p < length self.now.points.now.points) order.now }
-        requires states { AreStates self.now.points.now self.now.labels.now states.old }
-        requires released { AreReleased self.now.points.now self.now.labels.now (flow_of self.now.origins.now) released.now }
-        ensures { IfOk result (Progress weight
-            (Loses self.now.points.now self.now.labels.now (flow_of self.now.origins.now))
-            (λ states. ⊤)
-            states.old states.new) }
-    {
-        let mut changed = false;
-        for point in order {
-            changed |= self.pass_live(alloc, *point, states, released)?;
-        }
-        Ok(changed)
-    }
-
-    /// Lets each live point pass on what is held once it has run.
-    fn pass_each(
-        &self,
-        alloc: Global,
-        states: &mut States,
-        released: &[IdSet],
-    ) -> Result<bool, NoMemory>
-        requires states { AreStates self.now.points.now self.now.labels.now states.old }
-        requires released { AreReleased self.now.points.now self.now.labels.now (flow_of self.now.origins.now) released.now }
-        ensures { IfOk result (Progress weight
-            (Loses self.now.points.now self.now.labels.now (flow_of self.now.origins.now))
-            (λ states. (p : ℕ) → p < length self.now.points.now.points → HasPassed self.now.points.now self.now.labels.now (flow_of self.now.origins.now) p states)
-            states.old states.new) }
-    {
-        let mut changed = false;
-        for point in 0..self.points.count() {
-            changed |= self.pass_live(alloc, point, states, released)?;
-        }
-        Ok(changed)
-    }
-
-    /// Lets the points of the order, and then each point, pass on what is held once they have run. In an order in which
-    /// control comes to the points a straight line of code is done in one round.
+    /// Lets each point pass on what is held once it has run, where it is live. In an order in which control comes to the
+    /// points a straight line of code is done in one round.
     fn round(
         &self,
         alloc: Global,
         order: &[u32],
         states: &mut States,
-        released: &[IdSet],
+        dropped: &[IdSet],
     ) -> Result<bool, NoMemory>
-        requires order { All (λ p. p < length self.now.points.now.points) order.now }
-        requires states { AreStates self.now.points.now self.now.labels.now states.old }
-        requires released { AreReleased self.now.points.now self.now.labels.now (flow_of self.now.origins.now) released.now }
-        ensures { IfOk result (Progress weight
-            (Loses self.now.points.now self.now.labels.now (flow_of self.now.origins.now))
-            (λ states. (p : ℕ) → p < length self.now.points.now.points → HasPassed self.now.points.now self.now.labels.now (flow_of self.now.origins.now) p states)
-            states.old states.new) }
+        requires linked { AreLinks (basis_in self.now) self.now.links.now }
+        requires order { (p : ℕ) → (has_id order.now p ≡ true) ↔ (p < length self.now.points.now.points) }
+        requires states { AreStates (basis_in self.now) states.old }
+        requires dropped { AreDropped (basis_in self.now) (length self.now.points.now.points) dropped.now }
+        ensures { IfOk result (Progress weight (Loses (basis_in self.now))
+            (λ states. (p : ℕ) → p < length self.now.points.now.points → HasPassed (basis_in self.now) p states) states.old states.new) }
     {
-        let first = self.pass_in_order(alloc, order, states, released)?;
-        let others = self.pass_each(alloc, states, released)?;
-        Ok(first | others)
+        let mut changed = false;
+        for point in order {
+            changed |= self.pass_live(alloc, *point, states, dropped)?;
+        }
+        Ok(changed)
     }
 
     /// The points at which functions begin.
@@ -190,8 +144,8 @@ impl Facts<'_> {
 
     /// All locks at each live point that isn't an entry, and none at the others.
     fn first_states(&self, alloc: Global) -> Result<States, NoMemory>
-        ensures states { IfOk result (AreStates self.now.points.now self.now.labels.now) }
-        ensures lost { IfOk result (AreLost self.now.points.now self.now.labels.now (flow_of self.now.origins.now)) }
+        ensures states { IfOk result (AreStates (basis_in self.now)) }
+        ensures lost { IfOk result (AreLost (basis_in self.now)) }
     {
         let entries = self.entries(alloc)?;
         let sets = self.first_sets(alloc, &entries)?;
@@ -199,14 +153,15 @@ impl Facts<'_> {
         Ok(States { locks, sets })
     }
 
-    /// The locks that are held at each point.
-    pub(crate) fn states(&self, alloc: Global, released: &[IdSet]) -> Result<States, NoMemory>
-        requires { AreReleased self.now.points.now self.now.labels.now (flow_of self.now.origins.now) released.now }
-        ensures { IfOk result (AreHeld self.now.points.now self.now.labels.now (flow_of self.now.origins.now)) }
+    /// The locks that are held at each point, where the sets say what each releases.
+    pub(crate) fn states(&self, alloc: Global, dropped: &[IdSet]) -> Result<States, NoMemory>
+        requires linked { AreLinks (basis_in self.now) self.now.links.now }
+        requires dropped { AreDropped (basis_in self.now) (length self.now.points.now.points) dropped.now }
+        ensures { IfOk result (AreHeld (basis_in self.now)) }
     {
         let order = in_order(alloc, self.points)?;
         let mut states = self.first_states(alloc)?;
-        while self.round(alloc, &order, &mut states, released)? {}
+        while self.round(alloc, &order, &mut states, dropped)? {}
         Ok(states)
     }
 }

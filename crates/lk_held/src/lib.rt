@@ -1,8 +1,8 @@
-//! The locks that are held at each point of a program, and those that each function may release.
+//! Which locks are held at each control point, and which each function returns with and may release.
 #![tactic(auto)]
 
+mod acts;
 mod adding;
-mod facts;
 mod holding;
 mod keeping;
 mod lock_sets;
@@ -10,6 +10,3 @@ mod releasing;
 mod states;
 
 pub use lock_sets::held;
-
-#[cfg(test)]
-mod tests;

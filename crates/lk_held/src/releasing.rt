@@ -1,31 +1,28 @@
 //! Which locks each function may release.
-ghost use Rattle.std.specs.Prelude.{◌≡◌, ◌<◌, ℕ, true, ◌↔◌, [], length, replicate, All, IfOk};
-ghost use Rattle.lk_facts.specs.Flow.{Over};
-ghost use Rattle.lk_facts.specs.Held.{Drops};
-ghost use Rattle.lk_facts.specs.Origins.{flow_of};
-ghost use Rattle.lk_facts.specs.declared.way.Way.TheVariants.{Through};
+ghost use Rattle.std.specs.Prelude.{◌≡◌, ◌<◌, ℕ, true, ◌↔◌, [], length, replicate, ◌⊎◌, false, All, IfOk, OnOk};
+ghost use Rattle.lk_facts.specs.Held.{Drops, Released};
+ghost use Rattle.lk_held.specs.Acts.{basis_in, OneRuns};
 ghost use Rattle.lk_held.specs.Progress.{Progress};
-ghost use Rattle.lk_held.specs.Releasing.{AreSets, Joins, Releases, Gains, HasReleased, AreReleased, room};
+ghost use Rattle.lk_held.specs.Releasing.{AreSets, Joins, Releases, Gains, HasReleased, AreReleased, AreDropped, IsOutside, room};
+ghost use Rattle.lk_links.specs.Links.{AreLinks, links_at};
 ghost use Rattle.lk_sets.specs.Ids.{has_id};
 
-use crate::facts::Facts;
+use crate::acts::Acts;
 use lk_base::NoMemory;
-use lk_facts::Site;
-use lk_rise::{empty_set, has_all, push_over};
+use lk_links::{Link, empty_set, has_all, outside};
 use lk_sets::IdSet;
 use std::alloc::Global;
 
 /// Adds the numbers to a set of the list, and answers whether one was new.
-fn add(alloc: Global, sets: &mut Vec<IdSet>, place: u32, ids: &[u32]) -> Result<bool, NoMemory>
+fn add(sets: &mut Vec<IdSet>, place: u32, more: &IdSet) -> Result<bool, NoMemory>
     requires { place < length sets.old.items }
-    ensures { IfOk result (Joins sets.old.items sets.new.items place ids.now) }
+    ensures { IfOk result (Joins sets.old.items sets.new.items place more.now) }
 {
     let set = &sets[place as usize];
-    if has_all(set, ids) {
+    if has_all(set, more.ids()) {
         return Ok(false);
     }
-    let more = IdSet::from_list(alloc, ids)?;
-    let joined = set.union(&more)?;
+    let joined = set.union(more)?;
     sets[place as usize] = joined;
     Ok(true)
 }
@@ -41,42 +38,67 @@ fn empty_sets(alloc: Global, count: u32) -> Result<Vec<IdSet>, NoMemory>
     Ok(sets)
 }
 
-impl Facts<'_> {
-    /// What the labels that a function releases may be outside, through the site of a call.
-    fn outside(&self, alloc: Global, site: Site, released: &IdSet) -> Result<Vec<u32>, NoMemory>
-        requires { All (λ x. x < length self.now.labels.now.entries) released.now }
-        ensures members { IfOk result (λ ids. (x : ℕ) → (has_id ids.items x ≡ true)
-            ↔ ((y : ℕ) × (has_id released.now y ≡ true) × Over (flow_of self.now.origins.now) (Through site) y x)) }
-        ensures in_range { IfOk result (λ ids. All (λ x. x < length self.now.labels.now.entries) ids.items) }
+impl Acts<'_, '_> {
+    /// Adds what the function of a link releases, as it is outside it, where the link runs one.
+    fn join_outside(
+        &self,
+        alloc: Global,
+        link: &Link,
+        released: &[IdSet],
+        all: &mut IdSet,
+    ) -> Result<(), NoMemory>
+        requires below { link.now.below < length self.now.points.now.functions }
+        requires sets { AreSets (basis_in self.now) released.now }
+        requires all { All (λ x. x < length self.now.labels.now.entries) all.old }
+        ensures members { OnOk result ((x : ℕ) → (has_id all.new x ≡ true)
+            ↔ ((has_id all.old x ≡ true) ⊎ ((link.now.starts ≡ false) × IsOutside (basis_in self.now).flow (Releases released.now) x link.now))) }
+        ensures in_range { OnOk result (All (λ x. x < length self.now.labels.now.entries) all.new) }
     {
-        prove!(self.origins.labels() == self.labels.count());
-        let mut ids = Vec::new(alloc);
-        for x in released.ids() {
-            push_over(self.origins, site, *x, &mut ids)?;
+        if link.starts {
+            return Ok(());
         }
-        Ok(ids)
+        let ids = released[link.below as usize].ids();
+        let dropped = outside(alloc, self.facts, &link.way, ids)?;
+        *all = all.union(&dropped)?;
+        Ok(())
     }
 
-    /// The labels that a point releases, where the sets say what functions release.
-    pub(crate) fn drops(
+    /// What the functions release that a point runs, as it is outside them.
+    fn outside_callees(
         &self,
         alloc: Global,
         point: u32,
         released: &[IdSet],
-    ) -> Result<Vec<u32>, NoMemory>
+    ) -> Result<IdSet, NoMemory>
+        requires linked { AreLinks (basis_in self.now) self.now.links.now }
         requires point { point < length self.now.points.now.points }
-        requires released { AreSets self.now.points.now self.now.labels.now released.now }
-        ensures members { IfOk result (λ ids. (x : ℕ) → (has_id ids.items x ≡ true)
-            ↔ Drops self.now.points.now self.now.labels.now (flow_of self.now.origins.now) (Releases released.now) point x) }
-        ensures in_range { IfOk result (λ ids. All (λ x. x < length self.now.labels.now.entries) ids.items) }
+        requires sets { AreSets (basis_in self.now) released.now }
+        ensures members { IfOk result (λ ids. (x : ℕ) → (has_id ids x ≡ true)
+            ↔ OneRuns (links_at self.now.links.now point) (IsOutside (basis_in self.now).flow (Releases released.now) x)) }
+        ensures in_range { IfOk result (λ ids. All (λ x. x < length self.now.labels.now.entries) ids) }
     {
-        if let Some(mutex) = self.frees(point) {
-            return Ok(vec![in alloc; mutex.0]?);
+        let mut all = empty_set(alloc)?;
+        for link in self.links.at(point) {
+            self.join_outside(alloc, link, released, &mut all)?;
         }
-        if let Some(call) = self.runs(point) {
-            return self.outside(alloc, call.site, &released[call.function as usize]);
+        Ok(all)
+    }
+
+    /// The labels that a point releases, where the sets say what functions release.
+    fn drops(&self, alloc: Global, point: u32, released: &[IdSet]) -> Result<IdSet, NoMemory>
+        requires linked { AreLinks (basis_in self.now) self.now.links.now }
+        requires point { point < length self.now.points.now.points }
+        requires released { AreSets (basis_in self.now) released.now }
+        ensures members { IfOk result (λ ids. (x : ℕ) → (has_id ids x ≡ true) ↔ Drops (basis_in self.now) (Releases released.now) point x) }
+        ensures in_range { IfOk result (λ ids. All (λ x. x < length self.now.labels.now.entries) ids) }
+    {
+        match self.frees(point) {
+            Some(mutex) => {
+                let set = IdSet::from_list(alloc, &[mutex.0])?;
+                Ok(set)
+            }
+            None => self.outside_callees(alloc, point, released),
         }
-        Ok(Vec::new(alloc))
     }
 
     /// Adds what a point releases to what its function does, and answers whether something was new.
@@ -86,26 +108,25 @@ impl Facts<'_> {
         point: u32,
         released: &mut Vec<IdSet>,
     ) -> Result<bool, NoMemory>
+        requires linked { AreLinks (basis_in self.now) self.now.links.now }
         requires point { point < length self.now.points.now.points }
-        requires released { AreSets self.now.points.now self.now.labels.now released.old.items }
+        requires released { AreSets (basis_in self.now) released.old.items }
         ensures { IfOk result (Progress (room (length self.now.labels.now.entries))
-            (Gains self.now.points.now self.now.labels.now (flow_of self.now.origins.now))
-            (HasReleased self.now.points.now self.now.labels.now (flow_of self.now.origins.now) point)
-            released.old.items released.new.items) }
+            (Gains (basis_in self.now)) (HasReleased (basis_in self.now) point) released.old.items released.new.items) }
     {
         if !self.points.live(point) {
             return Ok(false);
         }
         let ids = self.drops(alloc, point, released)?;
-        add(alloc, released, self.points.function(point), &ids)
+        add(released, self.points.function(point), &ids)
     }
 
     /// Lets each point add what it releases, and answers whether something was new.
     fn release_each(&self, alloc: Global, released: &mut Vec<IdSet>) -> Result<bool, NoMemory>
-        requires { AreSets self.now.points.now self.now.labels.now released.old.items }
-        ensures { IfOk result (Progress (room (length self.now.labels.now.entries))
-            (Gains self.now.points.now self.now.labels.now (flow_of self.now.origins.now))
-            (λ sets. (p : ℕ) → p < length self.now.points.now.points → HasReleased self.now.points.now self.now.labels.now (flow_of self.now.origins.now) p sets)
+        requires linked { AreLinks (basis_in self.now) self.now.links.now }
+        requires sets { AreSets (basis_in self.now) released.old.items }
+        ensures { IfOk result (Progress (room (length self.now.labels.now.entries)) (Gains (basis_in self.now))
+            (λ sets. (p : ℕ) → p < length self.now.points.now.points → HasReleased (basis_in self.now) p sets)
             released.old.items released.new.items) }
     {
         let mut changed = false;
@@ -117,10 +138,24 @@ impl Facts<'_> {
 
     /// For each function the labels that it may release, itself or in what it runs.
     pub(crate) fn released(&self, alloc: Global) -> Result<Vec<IdSet>, NoMemory>
-        ensures { IfOk result (λ sets. AreReleased self.now.points.now self.now.labels.now (flow_of self.now.origins.now) sets.items) }
+        requires linked { AreLinks (basis_in self.now) self.now.links.now }
+        ensures { IfOk result (λ sets. AreReleased (basis_in self.now) sets.items) }
     {
         let mut released = empty_sets(alloc, self.points.functions())?;
         while self.release_each(alloc, &mut released)? {}
         Ok(released)
+    }
+
+    /// For each point the labels that it releases.
+    pub(crate) fn dropped(&self, alloc: Global, released: &[IdSet]) -> Result<Vec<IdSet>, NoMemory>
+        requires linked { AreLinks (basis_in self.now) self.now.links.now }
+        requires released { AreReleased (basis_in self.now) released.now }
+        ensures { IfOk result (λ sets. AreDropped (basis_in self.now) (length self.now.points.now.points) sets.items) }
+    {
+        let mut dropped = Vec::new(alloc);
+        for point in 0..self.points.count() {
+            dropped.push(self.drops(alloc, point, released)?)?;
+        }
+        Ok(dropped)
     }
 }

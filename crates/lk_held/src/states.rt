@@ -4,7 +4,7 @@ ghost use Rattle.std.specs.List.Sorted.{IsStrictlyIncreasing};
 ghost use Rattle.lk_sets.specs.Ids.{has_id};
 
 use lk_base::NoMemory;
-use lk_rise::has_all;
+use lk_links::has_all;
 use lk_sets::IdSet;
 use std::alloc::Global;
 
@@ -21,14 +21,13 @@ impl States {
     ghost use Rattle.lk_held.specs.States.{set_of, holds, IsLess, Narrows};
 
     /// The locks that are left at a point.
-    pub(crate) fn at(&self, point: u32) -> &[u32]
+    pub(crate) fn at(&self, point: u32) -> &IdSet
         requires { point < length self.now.sets.items }
-        ensures value { result.now ≡ set_of self.now point }
-        ensures sorted { IsStrictlyIncreasing result.now }
+        ensures { result.now ≡ set_of self.now point }
     {
         match &self.sets[point as usize] {
-            Some(set) => set.ids(),
-            None => self.locks.ids(),
+            Some(set) => set,
+            None => &self.locks,
         }
     }
 

@@ -5,6 +5,3 @@ mod accesses;
 mod program_items;
 
 pub use program_items::items;
-
-#[cfg(test)]
-mod tests;

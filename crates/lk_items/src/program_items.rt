@@ -1,47 +1,28 @@
 //! The items of a program.
 ghost use Rattle.std.specs.Prelude.{◌≡◌, length, IfOk};
 ghost use Rattle.lk_facts.specs.Analysis.{held_table};
+ghost use Rattle.lk_facts.specs.Facts.{basis_of};
 ghost use Rattle.lk_facts.specs.Items.{AreItems};
-ghost use Rattle.lk_facts.specs.Origins.{flow_of};
 ghost use Rattle.lk_rise.specs.Correlations.{has_of, locks_of, AreInRange};
 
-use crate::accesses::Facts;
+use crate::accesses::accesses;
 use lk_base::NoMemory;
-use lk_facts::{Held, Labels, Origins, Points};
+use lk_facts::{Facts, Held};
+use lk_links::Links;
 use lk_rise::{Correlations, Subjects, rise};
 use std::alloc::Global;
 
 /// What each function accesses, itself and in what it runs and starts, with the locks that are held at each access
 /// wherever it is made.
 ///
-/// The subject of an item is the label by which the function names what is accessed. Lock sets, labels and origins are
-/// those of the points.
-pub fn items(
-    alloc: Global,
-    points: &Points,
-    labels: &Labels,
-    origins: &Origins,
-    held: &Held,
-) -> Result<Correlations, NoMemory>
-    requires origins { origins.now.all.size ≡ length labels.now.entries }
-    requires held_points { length held.now.at ≡ length points.now.points }
-    requires held_labels { held.now.labels ≡ length labels.now.entries }
-    ensures items { IfOk result (λ found. AreItems points.now labels.now (flow_of origins.now) (held_table held.now) (has_of found) (locks_of found)) }
-    ensures in_range { IfOk result (AreInRange points.now labels.now (length labels.now.entries)) }
+/// The subject of an item is the label by which the function names what is accessed. Lock sets are those of the points.
+pub fn items(alloc: Global, facts: &Facts<'_>, held: &Held) -> Result<Correlations, NoMemory>
+    requires held_points { length held.now.at ≡ length facts.now.program.points }
+    requires held_labels { held.now.labels ≡ length facts.now.labels.entries }
+    ensures items { IfOk result (λ found. AreItems (basis_of facts.now) (held_table held.now) (has_of found) (locks_of found)) }
+    ensures in_range { IfOk result (AreInRange facts.now (length facts.now.labels.entries)) }
 {
-    let facts = Facts {
-        points,
-        labels,
-        held,
-    };
-    let base = facts.accesses(alloc)?;
-    rise(
-        alloc,
-        points,
-        labels,
-        origins,
-        held,
-        &base,
-        Subjects::AsOutside,
-    )
+    let links = Links::new(alloc, facts)?;
+    let base = accesses(alloc, facts, held)?;
+    rise(alloc, facts, held, &links, &base, Subjects::AsOutside)
 }

@@ -1,8 +1,8 @@
-pub mod OverLemmas
-pub mod SetLemmas
+pub mod DoingLemmas
 pub mod ItemLemmas
+pub mod LinkLemmas
+pub mod ListLemmas
+pub mod PassLemmas
+pub mod RiseLemmas
 pub mod TableLemmas
 pub mod WorkLemmas
-pub mod PassLemmas
-pub mod LinkLemmas
-pub mod RiseLemmas

@@ -1,19 +1,25 @@
 -- How an item rises by a link, and by all.
-use Rattle.std.proofs.Common.{◌≡◌, ◌<◌, ◌+◌, ◌||◌, ◌↔◌, ℕ, Bool, true, false, List, All, Option, Some, length, get_or, is_some, sym, ap, ◌∙◌, subst, ⊎_elim, inl, inr, arith, slice_get}
-use Rattle.std.specs.Option.{option_map_or, unwrap_or}
-use Rattle.std.proofs.lemmas.Option.{slice_get_within, get_or_from_slice_get}
+use Rattle.std.proofs.Common.{◌≡◌, ◌<◌, ◌+◌, ◌||◌, ◌↔◌, ℕ, Bool, true, false, List, [], All, Contains, Option, Some, length, get_or, is_some, refl, sym, ap, ◌∙◌, subst, ⊎_elim, inl, inr, arith, slice_get}
+use Rattle.std.specs.Option.{option_map, option_map_or, unwrap_or}
+use Rattle.std.proofs.lemmas.Bool.{both_ways, or_cases, or_left, or_right}
+use Rattle.std.proofs.lemmas.List.{get_or_default}
+use Rattle.std.proofs.lemmas.Option.{slice_get_within, slice_get_read, slice_get-get_or, get_or_from_slice_get}
+use Rattle.lk_facts.specs.Facts.{FactTable, basis_of}
+use Rattle.lk_facts.specs.Lists.{Lists}
+use Rattle.lk_facts.specs.LockSets.{keep_of}
 use Rattle.lk_facts.specs.Origins.{IsSetBelow, flow_of}
-use Rattle.lk_facts.specs.declared.way.Way.TheVariants.{Through}
-use Rattle.lk_rise.specs.Links.{IsLink}
+use Rattle.lk_links.specs.Links.{IsLink}
+use Rattle.lk_links.specs.Only.{HaveRisen}
+use Rattle.lk_rise.specs.Links.{AreLinksInto, links_into}
 use Rattle.lk_rise.proofs.TableLemmas.{item_at_known, item_there, place_within}
 use Rattle.lk_rise.specs.declared.correlations.Item.{Item}
-use Rattle.lk_rise.specs.declared.links.Link.{Link}
-use Rattle.lk_rise.specs.Correlations.{item_of, set_of, has_item, has_lock, IsEntryInRange}
+use Rattle.lk_links.specs.declared.link.Link.{Link}
+use Rattle.lk_rise.specs.Correlations.{item_of, set_of, has_item, has_lock, AreInRange, IsEntryInRange}
 use Rattle.lk_rise.specs.Rising.{Risen, subjects_below}
 use Rattle.lk_rise.specs.Tables.{Setting, Offered, HasRisen, IsCarried, IsOffer, IsSound, Grows, Works, HasLockAbove, AreAbove, AreAboveWithin, HasPassed, HasMet, HasPassedAll, HasMetAll, above_of, lock_in, item_at}
-use Rattle.lk_rise.proofs.SetLemmas.{place_of_id}
+use Rattle.lk_links.proofs.SetLemmas.{place_of_id}
 use Rattle.lk_rise.proofs.WorkLemmas.{Fits, offered_works, works_as, works_below, works_not}
-use Rattle.lk_sets.specs.Ids.{has_id}
+use Rattle.lk_sets.specs.Ids.{has_id, IsSetOf}
 use Rattle.lk_sets.proofs.Members.{has_id-from_Contains}
 use Rattle.std.proofs.lemmas.List.Elements.{Contains-get_or}
 
@@ -33,7 +39,7 @@ module _ (s : Setting) (link : Link) (item : Item) (set subjects : List ℕ) whe
   offers_none entries =
       works_not s (λ e. (j : ℕ) → j < 0 → IsThere j e) (λ e. (j : ℕ) → j < 0 → IsMet j e) entries (λ j below. absurd (omega arith)) (λ j below. absurd (omega arith))
 
-  module _ (members : (x : ℕ) → (has_id subjects x ≡ true) ↔ IsCarried s link item x) (in_range : All (λ x. x < subjects_below s.program s.labels s.subjects) subjects) where
+  module _ (members : (x : ℕ) → (has_id subjects x ≡ true) ↔ IsCarried s link item x) (in_range : All (λ x. x < subjects_below s.facts s.subjects) subjects) where
     carried_at : (j : ℕ) → j < length subjects → IsCarried s link item (get_or subjects j 0)
     carried_at j below = (members (get_or subjects j 0)).0 (has_id-from_Contains subjects (get_or subjects j 0) (Contains-get_or subjects j 0 below))
 
@@ -67,24 +73,24 @@ module _ (s : Setting) (link : Link) (item : Item) (set subjects : List ℕ) whe
     }
 
 module _ (s : Setting) (link : Link) (item : Item) (locks set : List ℕ) (entries : List (Item × List ℕ)) (k : ℕ)
-    (is_link : IsLink s.program s.labels (flow_of s.origins) link.point link) (sound : IsSound s entries) (at : slice_get entries k ≡ Some (item, locks)) (found : set_of entries item ≡ Some locks)
+    (is_link : IsLink (basis_of s.facts) link.point link) (sound : IsSound s entries) (at : slice_get entries k ≡ Some (item, locks)) (found : set_of entries item ≡ Some locks)
     (same : item.function ≡ link.below) where
   present : has_item entries item ≡ true
   present = ap is_some found
 
-  entry_range : IsEntryInRange s.program s.labels (subjects_below s.program s.labels s.subjects) (item, locks)
+  entry_range : IsEntryInRange s.facts (subjects_below s.facts s.subjects) (item, locks)
   entry_range =
       let within = slice_get_within entries k (item, locks) at in
-      subst (IsEntryInRange s.program s.labels (subjects_below s.program s.labels s.subjects)) (get_or_from_slice_get entries k (item, locks) (item, locks) at) (sound.in_range k (item, locks) within)
+      subst (IsEntryInRange s.facts (subjects_below s.facts s.subjects)) (get_or_from_slice_get entries k (item, locks) (item, locks) at) (sound.in_range k (item, locks) within)
 
-  pub locks_range : IsSetBelow (length s.labels.entries) locks
+  pub locks_range : IsSetBelow (length s.facts.labels.entries) locks
   locks_range = entry_range.locks
 
   below_risen : HasRisen s (item_of link.below item.child item.subject item.access)
   below_risen = subst (λ f. HasRisen s (item_of f item.child item.subject item.access)) same (sound.items item present)
 
   -- the locks with which an item rises may be offered above
-  pub offer_fits : ((y : ℕ) → (has_id set y ≡ true) ↔ HasLockAbove s link item.child locks y) → IsSetBelow (length s.labels.entries) set → IsOffer s link item set
+  pub offer_fits : ((y : ℕ) → (has_id set y ≡ true) ↔ HasLockAbove s link item.child locks y) → IsSetBelow (length s.facts.labels.entries) set → IsOffer s link item set
   offer_fits members below = record {
     risen = λ x carried. Risen.risen (is_link.rises item.child) below_risen carried;
     locks = λ other allowed x y carried lock.
@@ -95,7 +101,7 @@ module _ (s : Setting) (link : Link) (item : Item) (locks set : List ℕ) (entri
         let here : has_id locks from.0 ≡ true = sym (ap (λ o. option_map_or (λ set. has_id set from.0) o false) found) ∙ sound.locks other allowed item from.0 present lower in
         inl (from.0, here, from.2))
         (λ kept. inr kept)
-        (allowed.risen link.point link.above link.below item.subject x item.access y (Through link.site) item.child (item.child || link.starts) (is_link.rises item.child) below_risen carried lock));
+        (allowed.risen link.point link.above link.below item.subject x item.access y link.way item.child (item.child || link.starts) (is_link.rises item.child) below_risen carried lock));
     below = below;
     function = is_link.above;
     subject = entry_range.subject;
@@ -162,21 +168,80 @@ module _ (s : Setting) (links : List Link) (k : ℕ) where
       (λ _ met other there. subst (λ l. HasMet s l k new) (one other there) met)
       works)
 
-  -- all stay passed
-  pub stay_passed : (older newer : List (Item × List ℕ)) → Grows s older newer → HasPassedAll s links k older → HasPassedAll s links k newer
-  stay_passed older newer grows all j below link at = stays_passed s link k older newer grows (all j below link at)
+-- the function of an item of a table is there
+pub item_within : (facts : FactTable) (n : ℕ) (entries : List (Item × List ℕ)) (k : ℕ) (item : Item) → AreInRange facts n entries → k < length entries → item_at entries k ≡ Some item → item.function < length facts.program.functions
+item_within facts n entries k item ranged below at =
+    let here = slice_get-get_or entries k (item, []) below in
+    let same : (get_or entries k (item, [])).0 ≡ item = ap (λ o. unwrap_or o item) (sym (ap (option_map (λ (e : Item × List ℕ). e.0)) here) ∙ at) in
+    subst (λ (i : Item). i.function < length facts.program.functions) same (ranged k (item, []) below).function
+
+-- so are the links that are read for it
+pub links_read : (into : List (List Link)) (g : ℕ) (links found : List Link) → g < length into → found ≡ get_or into g found → links ≡ found → links ≡ links_into into g
+links_read into g links found below is same = same ∙ is ∙ get_or_default into g found [] below
+
+-- what holds for the links into the function of an item holds for all
+module _ (s : Setting) (into : List (List Link)) (are : AreLinksInto (basis_of s.facts) into) (item : Item) (k : ℕ) where
+  abbrev pub links : List Link
+  links = links_into into item.function
+
+  -- a place of the links, for one of them
+  at_place : (P : Link → Type 0) → ((j : ℕ) → j < length links → (link : Link) → slice_get links j ≡ Some link → P link) → (link : Link) → Contains links link → P link
+  at_place P each link there = each there.0 there.1 link (slice_get_read links _ there.0 link refl there.1 (sym there.2))
+
+  among : (g : ℕ) (link : Link) → Contains (links_into into g) link → item.function ≡ link.below → Contains links link
+  among g link there same = subst (λ h. Contains (links_into into h) link) (sym (same ∙ (are.each g link there).into)) there
+
+  pub passes_all : (old new : List (Item × List ℕ)) (changed : Bool) → item_at old k ≡ Some item → PassesBelow s links k (length links) old new changed → Works s (HasPassedAll s into k) (HasMetAll s into k) old new changed
+  passes_all old new changed at works =
+      let here = works.grows.places k item at in
+      works_as s (λ entries. (j : ℕ) → j < length links → PassesAt s links k j entries) (HasPassedAll s into k) (λ entries. (j : ℕ) → j < length links → MeetsAt s links k j entries) (HasMetAll s into k) old new changed
+      (λ all j below link place. all item.function link (j, below, get_or_from_slice_get links j link link place))
+      (λ passed g link there. (
+        item,
+        here,
+        λ same.
+            let one = at_place (λ l. HasPassed s l k new) passed link (among g link there same) in
+            let equal : one.0 ≡ item = ap (λ o. unwrap_or o item) (sym one.1 ∙ here) in
+            subst (λ i. AreAbove s link i new) equal (one.2 (ap (λ (i : Item). i.function) equal ∙ same)),
+      ))
+      (λ _ met g link there found set place same.
+      let equal : found ≡ item = ap (λ o. unwrap_or o item) (sym (item_at_known new k found set place) ∙ here) in
+      at_place (λ l. HasMet s l k new) met link (among g link there (sym (ap (λ (i : Item). i.function) equal) ∙ same)) found set place same)
+      works
+
+-- an item stays passed by all
+pub stay_passed : (s : Setting) (into : List (List Link)) (k : ℕ) (older newer : List (Item × List ℕ)) → Grows s older newer → HasPassedAll s into k older → HasPassedAll s into k newer
+stay_passed s into k older newer grows all g link there = stays_passed s link k older newer grows (all g link there)
+
+-- the locks with which an item rises: with those that the point keeps, where it is one of the thread itself
+module _ (s : Setting) (link : Link) (child : Bool) (locks risen : List ℕ) (lists : Lists (HaveRisen (flow_of s.facts.origins) link.way locks) risen) where
+  pub without_kept : (child || link.starts) ≡ true → (y : ℕ) → (has_id risen y ≡ true) ↔ HasLockAbove s link child locks y
+  without_kept is y = (
+    λ there. inl ((lists.members y).0 there),
+    λ either. ⊎_elim (λ from. (lists.members y).1 from) (λ kept. absurd (both_ways (child || link.starts) kept.0 is)) either,
+  )
+
+  pub with_kept : (kept all : List ℕ) → (child || link.starts) ≡ false → IsSetOf (has_id (keep_of s.held link.point)) kept → IsSetOf (λ x. has_id risen x || has_id kept x) all →
+      (y : ℕ) → (has_id all y ≡ true) ↔ HasLockAbove s link child locks y
+  with_kept kept all is copy both y = (
+    λ there.
+        ⊎_elim (λ here. inl ((lists.members y).0 here)) (λ here. inr (is, sym (copy.members y) ∙ here))
+        (or_cases (has_id risen y) (has_id kept y) (sym (both.members y) ∙ there)),
+    λ either.
+        both.members y ∙ ⊎_elim (λ from. or_left _ _ ((lists.members y).1 from)) (λ keeps. or_right (has_id risen y) _ (copy.members y ∙ keeps.1)) either,
+  )
 
 -- the first n items
-module _ (s : Setting) (links : List Link) where
+module _ (s : Setting) (into : List (List Link)) where
   abbrev pub RoundBelow : ℕ → List (Item × List ℕ) → List (Item × List ℕ) → Bool → Type 0
   RoundBelow n old new changed =
-      Works s (λ entries. (k : ℕ) → k < n → HasPassedAll s links k entries) (λ entries. (k : ℕ) → k < n → HasMetAll s links k entries) old new changed
+      Works s (λ entries. (k : ℕ) → k < n → HasPassedAll s into k entries) (λ entries. (k : ℕ) → k < n → HasMetAll s into k entries) old new changed
 
   pub round_none : (entries : List (Item × List ℕ)) → RoundBelow 0 entries entries false
   round_none entries =
-      works_not s (λ e. (k : ℕ) → k < 0 → HasPassedAll s links k e) (λ e. (k : ℕ) → k < 0 → HasMetAll s links k e) entries (λ k below. absurd (omega arith)) (λ k below. absurd (omega arith))
+      works_not s (λ e. (k : ℕ) → k < 0 → HasPassedAll s into k e) (λ e. (k : ℕ) → k < 0 → HasMetAll s into k e) entries (λ k below. absurd (omega arith)) (λ k below. absurd (omega arith))
 
-  pub round_more : (k : ℕ) (old mid new : List (Item × List ℕ)) (b c : Bool) → RoundBelow k old mid b → Works s (HasPassedAll s links k) (HasMetAll s links k) mid new c → RoundBelow (k + 1) old new (b || c)
+  pub round_more : (k : ℕ) (old mid new : List (Item × List ℕ)) (b c : Bool) → RoundBelow k old mid b → Works s (HasPassedAll s into k) (HasMetAll s into k) mid new c → RoundBelow (k + 1) old new (b || c)
   round_more k old mid new b c before works =
-      works_below s (HasPassedAll s links) (HasMetAll s links) k old mid new b c
-      (λ i older newer grows passes. stay_passed s links i older newer grows passes) before works
+      works_below s (HasPassedAll s into) (HasMetAll s into) k old mid new b c
+      (λ i older newer grows passes. stay_passed s into i older newer grows passes) before works

@@ -13,7 +13,7 @@ use Rattle.lk_rise.specs.declared.correlations.Item.{Item}
 use Rattle.lk_rise.specs.Correlations.{is_same, set_of, has_item}
 use Rattle.lk_rise.specs.Tables.{IsLeft, IsWithin, item_at, weight}
 use Rattle.lk_rise.proofs.ItemLemmas.{same_item}
-use Rattle.lk_rise.proofs.SetLemmas.{all_pass, one_fails, shorter}
+use Rattle.lk_links.proofs.SetLemmas.{all_pass, one_fails, shorter}
 use Rattle.lk_sets.proofs.Members.{same_answers}
 use Rattle.lk_sets.specs.Ids.{has_id, IsSetOf}
 

@@ -8,7 +8,7 @@ use Rattle.lk_rise.specs.declared.correlations.Item.{Item}
 use Rattle.lk_rise.specs.Correlations.{is_same, set_of, has_item, has_lock, IsEntryInRange}
 use Rattle.lk_rise.specs.Rising.{subjects_below}
 use Rattle.lk_rise.specs.Tables.{Setting, Offered, Puts, HasRisen, IsAllowed, IsSound, Grows, Works, lock_in, item_at, weight}
-use Rattle.lk_rise.proofs.SetLemmas.{All-from_has_id, All-has_id}
+use Rattle.lk_links.proofs.SetLemmas.{All-from_has_id, All-has_id}
 use Rattle.lk_rise.proofs.ItemLemmas.{same_item, same_itself}
 use Rattle.lk_rise.proofs.TableLemmas.{item_at-insert, All-insert, weight-insert, length-insert}
 use Rattle.lk_sets.specs.Ids.{has_id}
@@ -99,7 +99,7 @@ module _ (s : Setting) where
   pub record Fits (item : Item) (set : List ℕ) : Type 0 where
     pub risen : HasRisen s item
     pub locks : (other : LockTest) → IsAllowed s other → (y : ℕ) → lock_in other item y ≡ true → has_id set y ≡ true
-    pub in_range : IsEntryInRange s.program s.labels (subjects_below s.program s.labels s.subjects) (item, set)
+    pub in_range : IsEntryInRange s.facts (subjects_below s.facts s.subjects) (item, set)
 
   -- a table in which what is left was put
   module _ (old new : List (Item × List ℕ)) (item : Item) (set : List ℕ) (puts : Puts old new item set) where
@@ -124,14 +124,14 @@ module _ (s : Setting) where
         known None present has = absurd (false≢true present)
         known (Some had) present has = has
 
-    put_range : Fits item set → IsEntryInRange s.program s.labels (subjects_below s.program s.labels s.subjects) (item, puts.left)
+    put_range : Fits item set → IsEntryInRange s.facts (subjects_below s.facts s.subjects) (item, puts.left)
     put_range fits = record {
       function = fits.in_range.function;
       subject = fits.in_range.subject;
       access = fits.in_range.access;
       locks = record {
         sorted = puts.is_left.sorted;
-        below = All-from_has_id (λ x. x < length s.labels.entries) puts.left (λ x there. All-has_id (λ z. z < length s.labels.entries) set x fits.in_range.locks.below (left_among x there).0);
+        below = All-from_has_id (λ x. x < length s.facts.labels.entries) puts.left (λ x there. All-has_id (λ z. z < length s.facts.labels.entries) set x fits.in_range.locks.below (left_among x there).0);
       };
     }
 
@@ -154,8 +154,8 @@ module _ (s : Setting) where
       kept = λ other there. by_item other (λ o. is_some o ≡ true) (λ _. refl) there;
       fewer = put_fewer;
       sound = λ sound. record {
-        in_range = subst (All (IsEntryInRange s.program s.labels (subjects_below s.program s.labels s.subjects))) (sym puts.is)
-            (All-insert item puts.left (IsEntryInRange s.program s.labels (subjects_below s.program s.labels s.subjects)) old sound.in_range (put_range fits));
+        in_range = subst (All (IsEntryInRange s.facts (subjects_below s.facts s.subjects))) (sym puts.is)
+            (All-insert item puts.left (IsEntryInRange s.facts (subjects_below s.facts s.subjects)) old sound.in_range (put_range fits));
         items = λ other there. by_item other (λ o. is_some o ≡ true → HasRisen s other) (λ same _. subst (HasRisen s) same fits.risen) (sound.items other) there;
         locks = λ other allowed. put_locks fits other allowed sound;
       };

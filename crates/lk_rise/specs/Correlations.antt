@@ -3,10 +3,9 @@ use Rattle.std.specs.Prelude.{◌≡◌, ℕ, ◌<◌, ◌==◌, ◌&&◌, Bool,
 use Rattle.std.proofs.Math.Bool.{beq}
 use Rattle.std.specs.Map.{lookup}
 use Rattle.std.specs.Option.{option_map_or}
+use Rattle.lk_facts.specs.Facts.{FactTable}
 use Rattle.lk_facts.specs.Items.{ItemTest, LockTest}
-use Rattle.lk_facts.specs.Labels.{LabelTable}
 use Rattle.lk_facts.specs.Origins.{IsSetBelow}
-use Rattle.lk_facts.specs.Program.{Program}
 use Rattle.lk_rise.specs.declared.correlations.Item.{Item}
 use Rattle.lk_sets.specs.Ids.{has_id}
 
@@ -39,11 +38,11 @@ pub record AreCorrelations (entries : List (Item × List ℕ)) : Type 0 where
   pub each : (i : ℕ) (item : Item) (set : List ℕ) → slice_get entries i ≡ Some (item, set) → set_of entries item ≡ Some set
 
 -- the numbers of an item are in range, where its subject is below this number, and its locks are a set of labels
-pub record IsEntryInRange (program : Program) (labels : LabelTable) (subjects : ℕ) (entry : Item × List ℕ) : Type 0 where
-  pub function : entry.0.function < length program.functions
+pub record IsEntryInRange (facts : FactTable) (subjects : ℕ) (entry : Item × List ℕ) : Type 0 where
+  pub function : entry.0.function < length facts.program.functions
   pub subject : entry.0.subject < subjects
-  pub access : entry.0.access < length program.points
-  pub locks : IsSetBelow (length labels.entries) entry.1
+  pub access : entry.0.access < length facts.program.points
+  pub locks : IsSetBelow (length facts.labels.entries) entry.1
 
-abbrev pub AreInRange : Program → LabelTable → ℕ → List (Item × List ℕ) → Type 0
-AreInRange program labels subjects = All (IsEntryInRange program labels subjects)
+abbrev pub AreInRange : FactTable → ℕ → List (Item × List ℕ) → Type 0
+AreInRange facts subjects = All (IsEntryInRange facts subjects)

@@ -1,31 +1,32 @@
--- Calls and creations, as links between the functions that they are steps of and those that they go into.
-use Rattle.std.specs.Prelude.{◌≡◌, ℕ, ◌<◌, ◌||◌, Bool, List, Option, Some, MatchOption, length, slice_get}
-use Rattle.lk_facts.specs.Flow.{Flow}
+-- The links of a program by the functions that they go into. Only the private calls of this crate speak of it.
+use Rattle.std.specs.Prelude.{◌≡◌, ◌<◌, ◌==◌, ◌↔◌, ℕ, Bool, List, [], Contains, slice_index_or}
+use Rattle.std.specs.List.{filter}
+use Rattle.lk_facts.specs.Basis.{Basis}
 use Rattle.lk_facts.specs.Items.{Rises}
-use Rattle.lk_facts.specs.Labels.{LabelTable}
-use Rattle.lk_facts.specs.Program.{Program}
 use Rattle.lk_facts.specs.declared.way.Way.{Way}
-use Rattle.lk_facts.specs.declared.way.Way.TheVariants.{Through}
-use Rattle.lk_rise.specs.declared.links.Link.{Link}
+use Rattle.lk_links.specs.Links.{IsLink, IsBy, links_at}
+use Rattle.lk_links.specs.declared.link.Link.{Link}
 
-module _ (program : Program) (labels : LabelTable) (flow : Flow) where
-  -- items rise at the point by this link, and in no other way
-  pub record IsLink (p : ℕ) (link : Link) : Type 0 where
-    pub point : link.point ≡ p
-    pub within : p < length program.points
-    pub above : link.above < length program.functions
-    pub rises : (child : Bool) → Rises program labels flow p link.above (Through link.site) link.below child (child || link.starts)
-    pub only : (f g : ℕ) (way : Way) (child above : Bool) → Rises program labels flow p f way g child above → (f ≡ link.above) × (g ≡ link.below) × (way ≡ Through link.site) × (above ≡ (child || link.starts))
+-- the list has just the links of the first n points
+abbrev pub AreLinksBelow : List (List Link) → ℕ → List Link → Type 0
+AreLinksBelow links n all = (link : Link) → Contains all link ↔ ((p : ℕ) × (p < n) × Contains (links_at links p) link)
 
-  -- no item rises at the point
-  abbrev pub RisesNowhere : ℕ → Type 0
-  RisesNowhere p = (f g : ℕ) (way : Way) (child above : Bool) → Rises program labels flow p f way g child above → ⊥
+-- the links that go into a function, of all
+abbrev pub going_into : List Link → ℕ → List Link
+going_into all g = filter (λ link. link.below == g) all
 
-  -- the link of a point, where there is one
-  abbrev pub IsLinkOf : ℕ → Option Link → Type 0
-  IsLinkOf p found = MatchOption found (RisesNowhere p) (IsLink p)
+-- the links into a function, none past the end
+abbrev pub links_into : List (List Link) → ℕ → List Link
+links_into into g = slice_index_or into g []
 
-  -- the links of the first n points
-  pub record AreLinksBelow (n : ℕ) (links : List Link) : Type 0 where
-    pub each : (i : ℕ) (link : Link) → slice_get links i ≡ Some link → IsLink link.point link
-    pub all : (p f g : ℕ) (way : Way) (child above : Bool) → p < n → Rises program labels flow p f way g child above → (i : ℕ) × (link : Link) × (slice_get links i ≡ Some link) × (link.point ≡ p)
+module _ (basis : Basis) where
+  -- the link goes into the function
+  pub record IsLinkInto (g : ℕ) (link : Link) : Type 0 where
+    pub is : IsLink basis link.point link
+    pub into : link.below ≡ g
+
+  -- for each function the links that go into it: there is one for each way in which items rise
+  pub record AreLinksInto (into : List (List Link)) : Type 0 where
+    pub each : (g : ℕ) (link : Link) → Contains (links_into into g) link → IsLinkInto g link
+    pub all : (p f g : ℕ) (way : Way) (child above : Bool) → Rises basis p f way g child above →
+        (link : Link) × Contains (links_into into g) link × (link.point ≡ p) × IsBy basis f way g child above link

@@ -5,19 +5,18 @@ use Rattle.std.specs.Map.{values_of}
 use Rattle.std.specs.Option.{option_map, option_map_or}
 use Rattle.indexmap.specs.IndexMap.{insert_entry}
 use Rattle.lk_facts.specs.Analysis.{held_table}
+use Rattle.lk_facts.specs.Facts.{FactTable, basis_of}
 use Rattle.lk_facts.specs.Flow.{RisesAs}
 use Rattle.lk_facts.specs.Items.{LockTest, Rises, HasLock}
-use Rattle.lk_facts.specs.Labels.{LabelTable}
 use Rattle.lk_facts.specs.LockSets.{LockSets, keep_of}
-use Rattle.lk_facts.specs.Origins.{OriginTable, flow_of, IsSetBelow}
-use Rattle.lk_facts.specs.Program.{Program}
+use Rattle.lk_facts.specs.Origins.{flow_of, IsSetBelow}
 use Rattle.lk_facts.specs.declared.source.Source.TheVariants.{ItemBelow}
 use Rattle.lk_facts.specs.declared.way.Way.{Way}
-use Rattle.lk_facts.specs.declared.way.Way.TheVariants.{Through}
 use Rattle.lk_rise.specs.Correlations.{item_of, is_same, set_of, has_item, has_lock, AreInRange}
+use Rattle.lk_rise.specs.Links.{links_into}
 use Rattle.lk_rise.specs.Rising.{Carries, Risen, subjects_below}
 use Rattle.lk_rise.specs.declared.correlations.Item.{Item}
-use Rattle.lk_rise.specs.declared.links.Link.{Link}
+use Rattle.lk_links.specs.declared.link.Link.{Link}
 use Rattle.lk_rise.specs.declared.rising.Rising.{Rising}
 use Rattle.lk_rise.specs.declared.rising.Subjects.{Subjects}
 use Rattle.lk_sets.specs.Ids.{has_id}
@@ -52,18 +51,14 @@ weight entries = sum_by length (values_of entries)
 
 -- what the items rise in
 pub record Setting : Type 0 where
-  pub program : Program
-  pub labels : LabelTable
-  pub origins : OriginTable
+  pub facts : FactTable
   pub held : LockSets
   pub base : List (Item × List ℕ)
   pub subjects : Subjects
 
 abbrev pub setting : Rising → Setting
 setting rising = record {
-  program = rising.points.now;
-  labels = rising.labels.now;
-  origins = rising.origins.now;
+  facts = rising.facts.now;
   held = rising.held.now;
   base = rising.base.now;
   subjects = rising.subjects;
@@ -82,21 +77,21 @@ lock_in locks item y = locks item.function item.child item.subject item.access y
 
 module _ (s : Setting) where
   abbrev pub HasRisen : Item → Type 0
-  HasRisen item = Risen s.program s.labels (flow_of s.origins) (Carries (flow_of s.origins) s.subjects) s.base item.function item.child item.subject item.access
+  HasRisen item = Risen (basis_of s.facts) (Carries (flow_of s.facts.origins) s.subjects) s.base item.function item.child item.subject item.access
 
   abbrev pub IsCarried : Link → Item → ℕ → Type 0
-  IsCarried link item x = Carries (flow_of s.origins) s.subjects (Through link.site) item.subject x
+  IsCarried link item x = Carries (flow_of s.facts.origins) s.subjects link.way item.subject x
 
   -- the rules allow the table of locks for the items that have risen
   pub record IsAllowed (locks : LockTest) : Type 0 where
     pub based : (item : Item) (set : List ℕ) (y : ℕ) → Contains s.base (item, set) → lock_in locks item y ≡ true → has_id set y ≡ true
-    pub risen : (p f g t x a y : ℕ) (way : Way) (child above : Bool) → Rises s.program s.labels (flow_of s.origins) p f way g child above →
-        HasRisen (item_of g child t a) → Carries (flow_of s.origins) s.subjects way t x → locks f above x a y ≡ true →
-        HasLock s.program s.labels (flow_of s.origins) (held_table s.held) locks p (ItemBelow way g child t) above a y
+    pub risen : (p f g t x a y : ℕ) (way : Way) (child above : Bool) → Rises (basis_of s.facts) p f way g child above →
+        HasRisen (item_of g child t a) → Carries (flow_of s.facts.origins) s.subjects way t x → locks f above x a y ≡ true →
+        HasLock (basis_of s.facts) (held_table s.held) locks p (ItemBelow way g child t) above a y
 
   -- all items have risen, with all locks of each table that the rules allow
   pub record IsSound (entries : List (Item × List ℕ)) : Type 0 where
-    pub in_range : AreInRange s.program s.labels (subjects_below s.program s.labels s.subjects) entries
+    pub in_range : AreInRange s.facts (subjects_below s.facts s.subjects) entries
     pub items : (item : Item) → has_item entries item ≡ true → HasRisen item
     pub locks : (other : LockTest) → IsAllowed other → (item : Item) (y : ℕ) → has_item entries item ≡ true → lock_in other item y ≡ true → has_lock entries item y ≡ true
 
@@ -120,16 +115,16 @@ module _ (s : Setting) where
   -- the locks with which an item below rises by the link
   abbrev pub HasLockAbove : Link → (child : Bool) → List ℕ → ℕ → Type 0
   HasLockAbove link child set y =
-      ((z : ℕ) × (has_id set z ≡ true) × RisesAs (flow_of s.origins) (Through link.site) z y) ⊎ (((child || link.starts) ≡ false) × (has_id (keep_of s.held link.point) y ≡ true))
+      ((z : ℕ) × (has_id set z ≡ true) × RisesAs (flow_of s.facts.origins) link.way z y) ⊎ (((child || link.starts) ≡ false) × (has_id (keep_of s.held link.point) y ≡ true))
 
   -- the set may be met with the locks of each item above
   pub record IsOffer (link : Link) (item : Item) (set : List ℕ) : Type 0 where
     pub risen : (x : ℕ) → IsCarried link item x → HasRisen (above_of link item x)
     pub locks : (other : LockTest) → IsAllowed other → (x y : ℕ) → IsCarried link item x → lock_in other (above_of link item x) y ≡ true → has_id set y ≡ true
-    pub below : IsSetBelow (length s.labels.entries) set
-    pub function : link.above < length s.program.functions
-    pub subject : item.subject < subjects_below s.program s.labels s.subjects
-    pub access : item.access < length s.program.points
+    pub below : IsSetBelow (length s.facts.labels.entries) set
+    pub function : link.above < length s.facts.program.functions
+    pub subject : item.subject < subjects_below s.facts s.subjects
+    pub access : item.access < length s.facts.program.points
 
   -- each item above is there
   abbrev pub AreAbove : Link → Item → List (Item × List ℕ) → Type 0
@@ -149,12 +144,12 @@ module _ (s : Setting) where
       (item : Item) (set : List ℕ) → slice_get entries k ≡ Some (item, set) → item.function ≡ link.below →
       (x y : ℕ) → IsCarried link item x → has_lock entries (above_of link item x) y ≡ true → HasLockAbove link item.child set y
 
-  -- the same for each link
-  abbrev pub HasPassedAll : List Link → ℕ → List (Item × List ℕ) → Type 0
-  HasPassedAll links k entries = (j : ℕ) → j < length links → (link : Link) → slice_get links j ≡ Some link → HasPassed link k entries
+  -- the same for each link, these given by the functions that they go into
+  abbrev pub HasPassedAll : List (List Link) → ℕ → List (Item × List ℕ) → Type 0
+  HasPassedAll into k entries = (g : ℕ) (link : Link) → Contains (links_into into g) link → HasPassed link k entries
 
-  abbrev pub HasMetAll : List Link → ℕ → List (Item × List ℕ) → Type 0
-  HasMetAll links k entries = (j : ℕ) → j < length links → (link : Link) → slice_get links j ≡ Some link → HasMet link k entries
+  abbrev pub HasMetAll : List (List Link) → ℕ → List (Item × List ℕ) → Type 0
+  HasMetAll into k entries = (g : ℕ) (link : Link) → Contains (links_into into g) link → HasMet link k entries
 
   -- the based item at the place of the base is there, with locks of its set alone
   abbrev pub HasBased : ℕ → List (Item × List ℕ) → Type 0

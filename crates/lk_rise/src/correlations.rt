@@ -5,9 +5,9 @@ ghost use Rattle.std.specs.Option.{option_copied, option_map};
 ghost use Rattle.lk_rise.specs.Correlations.{AreCorrelations, set_of};
 ghost use Rattle.lk_rise.specs.Tables.{IsLeft, IsWithin, Offered, item_at};
 
-use crate::sets::has_all;
 use indexmap::IndexMap;
 use lk_base::NoMemory;
+use lk_links::has_all;
 use lk_sets::IdSet;
 use std::alloc::Global;
 use std::marker::Model;

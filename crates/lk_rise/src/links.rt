@@ -1,77 +1,53 @@
-//! Calls and creations.
-ghost use Rattle.std.specs.Prelude.{◌≡◌, ◌<◌, ◌+◌, length, IfOk, OnOk};
-ghost use Rattle.lk_facts.specs.Flow.{Flow};
-ghost use Rattle.lk_facts.specs.Labels.{LabelTable};
-ghost use Rattle.lk_facts.specs.Origins.{flow_of};
-ghost use Rattle.lk_rise.specs.Links.{IsLinkOf, AreLinksBelow};
+//! The links of a program, by the functions that they go into.
+ghost use Rattle.std.specs.Prelude.{◌≡◌, ◌≤◌, length, IfOk};
+ghost use Rattle.lk_facts.specs.Facts.{basis_of};
+ghost use Rattle.lk_links.specs.Links.{AreLinks};
+ghost use Rattle.lk_rise.specs.Links.{AreLinksBelow, AreLinksInto, going_into};
 
-use crate::rising::Rising;
-use lk_base::NoMemory;
-use lk_facts::{Action, Points, Site};
+use lk_base::{NoMemory, Seq};
+use lk_facts::Facts;
+use lk_links::{Link, Links};
 use std::alloc::Global;
 
-/// A call or creation: it links the function that it is a step of to the one that it goes into.
-#[derive(Clone, Copy, Debug, PartialEq, Eq)]
-pub struct Link {
-    /// The point.
-    pub point: u32,
-    /// The function that it is a step of.
-    pub above: u32,
-    /// The function that it goes into.
-    pub below: u32,
-    /// Its site.
-    pub site: Site,
-    /// Whether it starts a thread.
-    pub starts: bool,
-}
-
-/// The link of a point, where it is live and a call or creation.
-pub fn link_of(points: &Points, point: u32) -> Option<Link>
-    requires { point < length points.now.points }
-    ensures { (labels : LabelTable) (flow : Flow) → IsLinkOf points.now labels flow point result }
+/// The links of the first so many points.
+fn links_below(alloc: Global, links: &Links, points: u32) -> Result<Vec<Link>, NoMemory>
+    requires { points ≤ length links.now }
+    ensures { IfOk result (λ all. AreLinksBelow links.now points all.items) }
 {
-    let site = points.site(point)?;
-    let above = points.function(point);
-    match points.action(point) {
-        Action::Call(below, _) => Some(Link {
-            point,
-            above,
-            below: *below,
-            site,
-            starts: false,
-        }),
-        Action::Create(below, _) => Some(Link {
-            point,
-            above,
-            below: *below,
-            site,
-            starts: true,
-        }),
-        _ => None,
+    let mut all = Vec::new(alloc);
+    for point in 0..points {
+        all.extend_from_slice(links.at(point))?;
     }
+    Ok(all)
 }
 
-impl Rising<'_> {
-    /// Puts the link of a point behind those of the points before it, where it has one.
-    fn push_link(&self, point: u32, links: &mut Vec<Link>) -> Result<(), NoMemory>
-        requires point { point < length self.now.points.now.points }
-        requires links { AreLinksBelow self.now.points.now self.now.labels.now (flow_of self.now.origins.now) point links.old.items }
-        ensures { OnOk result (AreLinksBelow self.now.points.now self.now.labels.now (flow_of self.now.origins.now) (point + 1) links.new.items) }
-    {
-        if let Some(link) = link_of(self.points, point) {
-            links.push(link)?;
+/// Those of the links that go into a function.
+fn going_into(alloc: Global, all: &[Link], function: u32) -> Result<Vec<Link>, NoMemory>
+    ensures { IfOk result (λ into. into.items ≡ going_into all.now function) }
+{
+    let mut into = Vec::new(alloc);
+    for link in all {
+        if link.below == function {
+            into.push(*link)?;
         }
-        Ok(())
     }
+    Ok(into)
+}
 
-    /// The links of all points.
-    pub(crate) fn links(&self, alloc: Global) -> Result<Vec<Link>, NoMemory>
-        ensures { IfOk result (λ links. AreLinksBelow self.now.points.now self.now.labels.now (flow_of self.now.origins.now) (length self.now.points.now.points) links.items) }
-    {
-        let mut links = Vec::new(alloc);
-        for point in 0..self.points.count() {
-            self.push_link(point, &mut links)?;
-        }
-        Ok(links)
+/// For each function the links that go into it.
+pub fn links_into(
+    alloc: Global,
+    facts: &Facts<'_>,
+    links: &Links,
+) -> Result<Vec<Seq<Link>>, NoMemory>
+    requires { AreLinks (basis_of facts.now) links.now }
+    ensures functions { IfOk result (λ into. length into.items ≡ length facts.now.program.functions) }
+    ensures links { IfOk result (λ into. AreLinksInto (basis_of facts.now) into.items) }
+{
+    let all = links_below(alloc, links, facts.points().count())?;
+    let mut into = Vec::new(alloc);
+    for function in 0..facts.points().functions() {
+        into.push(Seq::new(going_into(alloc, &all, function)?))?;
     }
+    Ok(into)
 }

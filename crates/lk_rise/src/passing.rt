@@ -1,20 +1,21 @@
 //! How items rise.
-ghost use Rattle.std.specs.Prelude.{◌≡◌, ◌<◌, ◌↔◌, ◌||◌, ◌⊎◌, ℕ, true, false, length, All, IfOk, OnOk};
-ghost use Rattle.lk_facts.specs.LockSets.{keep_of};
+ghost use Rattle.std.specs.Prelude.{◌≡◌, ◌<◌, ◌↔◌, ℕ, true, length, slice_get, Some, All, Contains, IfOk, OnOk};
+ghost use Rattle.lk_facts.specs.Facts.{basis_of};
+ghost use Rattle.lk_facts.specs.Lists.{Lists};
 ghost use Rattle.lk_facts.specs.Origins.{flow_of, IsSetBelow};
-ghost use Rattle.lk_facts.specs.declared.way.Way.TheVariants.{Through};
-ghost use Rattle.lk_rise.specs.Links.{IsLink, AreLinksBelow};
+ghost use Rattle.lk_links.specs.Links.{IsLink};
+ghost use Rattle.lk_links.specs.declared.link.Link.{Link};
+ghost use Rattle.lk_rise.specs.Links.{AreLinksInto};
 ghost use Rattle.lk_rise.specs.Rising.{Carries, subjects_below};
 ghost use Rattle.lk_rise.specs.Correlations.{AreInRange};
 ghost use Rattle.lk_rise.specs.Tables.{above_of, setting, HasLockAbove, IsOffer, IsSound, Works, Grows, AreAbove, AreAboveWithin, HasPassed, HasMet, HasPassedAll, HasMetAll, HasBased};
 ghost use Rattle.lk_sets.specs.Ids.{has_id};
 
 use crate::correlations::{Correlations, Item};
-use crate::links::Link;
-use crate::over::{push_over, risen};
 use crate::rising::{Rising, Subjects};
-use lk_base::NoMemory;
-use lk_facts::Site;
+use lk_base::{NoMemory, Seq};
+use lk_facts::Way;
+use lk_links::{Link, outside, risen};
 use lk_sets::IdSet;
 use std::alloc::Global;
 
@@ -31,39 +32,26 @@ fn above(link: Link, item: Item, subject: u32) -> Item
 }
 
 impl Rising<'_> {
-    /// What a subject below is above, through the site of a call or creation.
-    fn carried(&self, alloc: Global, site: Site, subject: u32) -> Result<Vec<u32>, NoMemory>
-        requires { subject < subjects_below self.now.points.now self.now.labels.now self.now.subjects }
-        ensures members { IfOk result (λ ids. (x : ℕ) → (has_id ids.items x ≡ true) ↔ Carries (flow_of self.now.origins.now) self.now.subjects (Through site) subject x) }
-        ensures in_range { IfOk result (λ ids. All (λ x. x < subjects_below self.now.points.now self.now.labels.now self.now.subjects) ids.items) }
+    /// What a subject below is above, by a way into its function.
+    fn carried(&self, alloc: Global, way: &Way, subject: u32) -> Result<IdSet, NoMemory>
+        requires { subject < subjects_below self.now.facts.now self.now.subjects }
+        ensures exact { IfOk result (Lists (Carries (flow_of self.now.facts.now.origins) self.now.subjects way.now subject)) }
+        ensures in_range { IfOk result (λ ids. All (λ x. x < subjects_below self.now.facts.now self.now.subjects) ids) }
     {
         match self.subjects {
-            Subjects::AsTheyAre => Ok(vec![in alloc; subject]?),
+            Subjects::AsTheyAre => {
+                let same = IdSet::from_list(alloc, &[subject])?;
+                Ok(same)
+            }
             Subjects::AsOutside => {
-                prove!(self.origins.labels() == self.labels.count());
-                let mut ids = Vec::new(alloc);
-                push_over(self.origins, site, subject, &mut ids)?;
-                Ok(ids)
+                let labels = outside(alloc, self.facts, way, &[subject])?;
+                Ok(labels)
             }
         }
     }
 
-    /// Puts the locks that a point keeps while it runs a function behind the numbers, where the item above is no child
-    /// item.
-    fn push_kept(&self, link: &Link, child: bool, ids: &mut Vec<u32>) -> Result<(), NoMemory>
-        requires { link.now.point < length self.now.points.now.points }
-        ensures members { OnOk result ((y : ℕ) → (has_id ids.new.items y ≡ true)
-            ↔ ((has_id ids.old.items y ≡ true) ⊎ (((child || link.now.starts) ≡ false) × (has_id (keep_of self.now.held.now link.now.point) y ≡ true)))) }
-        ensures in_range { OnOk result (All (λ y. y < length self.now.labels.now.entries) ids.old.items → All (λ y. y < length self.now.labels.now.entries) ids.new.items) }
-    {
-        if child || link.starts {
-            return Ok(());
-        }
-        ids.extend_from_slice(self.held.keep(link.point))?;
-        Ok(())
-    }
-
-    /// The locks with which an item with these locks rises by a link.
+    /// The locks with which an item with these locks rises by a link. An item of the thread itself has those too that
+    /// the point keeps while it runs the function.
     fn risen(
         &self,
         alloc: Global,
@@ -71,16 +59,18 @@ impl Rising<'_> {
         child: bool,
         locks: &[u32],
     ) -> Result<IdSet, NoMemory>
-        requires point { link.now.point < length self.now.points.now.points }
-        requires locks { IsSetBelow (length self.now.labels.now.entries) locks.now }
+        requires point { link.now.point < length self.now.facts.now.program.points }
+        requires locks { IsSetBelow (length self.now.facts.now.labels.entries) locks.now }
         ensures members { IfOk result (λ set. (y : ℕ) → (has_id set y ≡ true) ↔ HasLockAbove (setting self.now) link.now child locks.now y) }
-        ensures in_range { IfOk result (IsSetBelow (length self.now.labels.now.entries)) }
+        ensures in_range { IfOk result (IsSetBelow (length self.now.facts.now.labels.entries)) }
     {
-        prove!(self.origins.labels() == self.labels.count());
-        let mut ids = risen(alloc, self.origins, link.site, locks)?;
-        self.push_kept(link, child, &mut ids)?;
-        let set = IdSet::from_list(alloc, &ids)?;
-        Ok(set)
+        let risen = risen(alloc, self.facts, &link.way, locks)?;
+        if child || link.starts {
+            return Ok(risen);
+        }
+        let kept = IdSet::from_list(alloc, self.held.keep(link.point))?;
+        let all = risen.union(&kept)?;
+        Ok(all)
     }
 
     /// Offers the set to the items above an item, and answers whether something changed.
@@ -98,9 +88,9 @@ impl Rising<'_> {
             (AreAboveWithin (setting self.now) link.now item.now set.now)
             table.old table.new) }
     {
-        let subjects = self.carried(alloc, link.site, item.subject)?;
+        let subjects = self.carried(alloc, &link.way, item.subject)?;
         let mut changed = false;
-        for subject in &subjects {
+        for subject in subjects.ids() {
             changed |= table.offer(alloc, above(*link, *item, *subject), set)?;
         }
         Ok(changed)
@@ -114,7 +104,7 @@ impl Rising<'_> {
         k: usize,
         table: &mut Correlations,
     ) -> Result<bool, NoMemory>
-        requires link { IsLink self.now.points.now self.now.labels.now (flow_of self.now.origins.now) link.now.point link.now }
+        requires link { IsLink (basis_of self.now.facts.now) link.now.point link.now }
         requires k { k < length table.old }
         requires sound { IsSound (setting self.now) table.old }
         ensures { IfOk result (Works (setting self.now)
@@ -131,20 +121,20 @@ impl Rising<'_> {
         self.offer_above(alloc, link, &item, &set, table)
     }
 
-    /// Lets the item with this number rise by all links, and answers whether something changed.
-    fn pass_item(
+    /// Lets the item with this number rise by each of the links, and answers whether something changed.
+    fn pass_links(
         &self,
         alloc: Global,
         links: &[Link],
         k: usize,
         table: &mut Correlations,
     ) -> Result<bool, NoMemory>
-        requires links { AreLinksBelow self.now.points.now self.now.labels.now (flow_of self.now.origins.now) (length self.now.points.now.points) links.now }
+        requires links { (link : Link) → Contains links.now link → IsLink (basis_of self.now.facts.now) link.point link }
         requires k { k < length table.old }
         requires sound { IsSound (setting self.now) table.old }
         ensures { IfOk result (Works (setting self.now)
-            (HasPassedAll (setting self.now) links.now k)
-            (HasMetAll (setting self.now) links.now k)
+            (λ entries. (j : ℕ) → j < length links.now → (link : Link) → slice_get links.now j ≡ Some link → HasPassed (setting self.now) link k entries)
+            (λ entries. (j : ℕ) → j < length links.now → (link : Link) → slice_get links.now j ≡ Some link → HasMet (setting self.now) link k entries)
             table.old table.new) }
     {
         let mut changed = false;
@@ -154,23 +144,47 @@ impl Rising<'_> {
         Ok(changed)
     }
 
+    /// Lets the item with this number rise by all links into its function, and answers whether something changed.
+    fn pass_item(
+        &self,
+        alloc: Global,
+        into: &[Seq<Link>],
+        k: usize,
+        table: &mut Correlations,
+    ) -> Result<bool, NoMemory>
+        requires functions { length into.now ≡ length self.now.facts.now.program.functions }
+        requires into { AreLinksInto (basis_of self.now.facts.now) into.now }
+        requires k { k < length table.old }
+        requires sound { IsSound (setting self.now) table.old }
+        ensures { IfOk result (Works (setting self.now)
+            (HasPassedAll (setting self.now) into.now k)
+            (HasMetAll (setting self.now) into.now k)
+            table.old table.new) }
+    {
+        let item = table.item(k);
+        let links = into[item.function as usize].list();
+        let changed = self.pass_links(alloc, links, k, table)?;
+        Ok(changed)
+    }
+
     /// Lets all items rise once, and answers whether something changed.
     pub(crate) fn pass_each(
         &self,
         alloc: Global,
-        links: &[Link],
+        into: &[Seq<Link>],
         table: &mut Correlations,
     ) -> Result<bool, NoMemory>
-        requires links { AreLinksBelow self.now.points.now self.now.labels.now (flow_of self.now.origins.now) (length self.now.points.now.points) links.now }
+        requires functions { length into.now ≡ length self.now.facts.now.program.functions }
+        requires into { AreLinksInto (basis_of self.now.facts.now) into.now }
         requires sound { IsSound (setting self.now) table.old }
         ensures { IfOk result (Works (setting self.now)
-            (λ entries. (k : ℕ) → k < length table.old → HasPassedAll (setting self.now) links.now k entries)
-            (λ entries. (k : ℕ) → k < length table.old → HasMetAll (setting self.now) links.now k entries)
+            (λ entries. (k : ℕ) → k < length table.old → HasPassedAll (setting self.now) into.now k entries)
+            (λ entries. (k : ℕ) → k < length table.old → HasMetAll (setting self.now) into.now k entries)
             table.old table.new) }
     {
         let mut changed = false;
         for k in 0..table.count() {
-            changed |= self.pass_item(alloc, links, k, table)?;
+            changed |= self.pass_item(alloc, into, k, table)?;
         }
         Ok(changed)
     }
@@ -179,26 +193,27 @@ impl Rising<'_> {
     pub(crate) fn grow(
         &self,
         alloc: Global,
-        links: &[Link],
+        into: &[Seq<Link>],
         table: &mut Correlations,
     ) -> Result<(), NoMemory>
-        requires links { AreLinksBelow self.now.points.now self.now.labels.now (flow_of self.now.origins.now) (length self.now.points.now.points) links.now }
+        requires functions { length into.now ≡ length self.now.facts.now.program.functions }
+        requires into { AreLinksInto (basis_of self.now.facts.now) into.now }
         requires sound { IsSound (setting self.now) table.old }
         ensures grows { OnOk result (Grows (setting self.now) table.old table.new) }
-        ensures passed { OnOk result ((k : ℕ) → k < length table.new → HasPassedAll (setting self.now) links.now k table.new) }
+        ensures passed { OnOk result ((k : ℕ) → k < length table.new → HasPassedAll (setting self.now) into.now k table.new) }
     {
         for k in 0..usize::MAX {
             if k >= table.count() {
                 return Ok(());
             }
-            self.pass_item(alloc, links, k, table)?;
+            self.pass_item(alloc, into, k, table)?;
         }
         unreachable!()
     }
 
     /// Offers the given items to the table.
     pub(crate) fn put_base(&self, alloc: Global, table: &mut Correlations) -> Result<(), NoMemory>
-        requires { AreInRange self.now.points.now self.now.labels.now (subjects_below self.now.points.now self.now.labels.now self.now.subjects) self.now.base.now }
+        requires { AreInRange self.now.facts.now (subjects_below self.now.facts.now self.now.subjects) self.now.base.now }
         ensures grows { OnOk result (Grows (setting self.now) table.old table.new) }
         ensures based { OnOk result ((i : ℕ) → i < length self.now.base.now → HasBased (setting self.now) i table.new) }
     {

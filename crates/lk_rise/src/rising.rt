@@ -1,13 +1,17 @@
 //! What rises from functions to those that run or start them.
 ghost use Rattle.std.specs.Prelude.{◌≡◌, ◌<◌, ◌↔◌, length, All, IsTrue, IfOk};
 ghost use Rattle.lk_facts.specs.Analysis.{held_table};
+ghost use Rattle.lk_facts.specs.Facts.{basis_of};
 ghost use Rattle.lk_facts.specs.Origins.{flow_of};
+ghost use Rattle.lk_links.specs.Links.{AreLinks};
 ghost use Rattle.lk_rise.specs.Correlations.{AreInRange, IsEntryInRange};
 ghost use Rattle.lk_rise.specs.Rising.{Carries, subjects_below, AreRisen};
 
 use crate::correlations::{Correlations, Item};
+use crate::links::links_into;
 use lk_base::NoMemory;
-use lk_facts::{Held, Labels, Origins, Points};
+use lk_facts::{Facts, Held, Points};
+use lk_links::Links;
 use lk_sets::IdSet;
 use std::alloc::Global;
 
@@ -22,12 +26,12 @@ pub enum Subjects {
 
 impl Subjects {
     /// The number that subjects are below: that of the labels, or that of the locations.
-    fn below(self, points: &Points, labels: &Labels) -> u32
-        ensures { result ≡ subjects_below points.now labels.now self }
+    fn below(self, facts: &Facts<'_>) -> u32
+        ensures { result ≡ subjects_below facts.now self }
     {
         match self {
-            Subjects::AsOutside => labels.count(),
-            Subjects::AsTheyAre => points.locations(),
+            Subjects::AsOutside => facts.labels().count(),
+            Subjects::AsTheyAre => facts.points().locations(),
         }
     }
 }
@@ -41,25 +45,26 @@ fn are_below(ids: &[u32], count: u32) -> bool
 
 /// Whether the numbers of an item are in range.
 fn item_fits(item: Item, points: &Points, subjects: u32) -> bool
-    ensures { IsTrue result ↔ ((item.function < length points.now.functions) × (item.subject < subjects) × (item.access < length points.now.points)) }
+    ensures { IsTrue result
+        ↔ ((item.function < length points.now.functions) × (item.subject < subjects) × (item.access < length points.now.points)) }
 {
     item.function < points.functions() && item.subject < subjects && item.access < points.count()
 }
 
 /// Whether the numbers of an item and of its locks are in range.
-fn entry_fits(entry: &(Item, IdSet), points: &Points, labels: &Labels, subjects: u32) -> bool
-    ensures { IsTrue result ↔ IsEntryInRange points.now labels.now subjects entry.now }
+fn entry_fits(entry: &(Item, IdSet), facts: &Facts<'_>, subjects: u32) -> bool
+    ensures { IsTrue result ↔ IsEntryInRange facts.now subjects entry.now }
 {
-    item_fits(entry.0, points, subjects) && are_below(entry.1.ids(), labels.count())
+    item_fits(entry.0, facts.points(), subjects) && are_below(entry.1.ids(), facts.labels().count())
 }
 
 /// Whether the numbers of each item, and those of its locks, are in range, as `rise` asks.
-pub fn fits(points: &Points, labels: &Labels, based: &[(Item, IdSet)], subjects: Subjects) -> bool
-    ensures { IsTrue result ↔ AreInRange points.now labels.now (subjects_below points.now labels.now subjects) based.now }
+pub fn fits(facts: &Facts<'_>, based: &[(Item, IdSet)], subjects: Subjects) -> bool
+    ensures { IsTrue result ↔ AreInRange facts.now (subjects_below facts.now subjects) based.now }
 {
-    let below = subjects.below(points, labels);
+    let below = subjects.below(facts);
     for entry in based {
-        if !entry_fits(entry, points, labels, below) {
+        if !entry_fits(entry, facts, below) {
             return false;
         }
     }
@@ -69,55 +74,47 @@ pub fn fits(points: &Points, labels: &Labels, based: &[(Item, IdSet)], subjects:
 /// What items rise in.
 #[derive(Drop)]
 pub(crate) struct Rising<'a> {
-    /// The points and functions.
-    pub points: &'a Points,
-    /// The labels.
-    pub labels: &'a Labels,
-    /// Which origins may flow to which labels.
-    pub origins: &'a Origins,
+    /// What is known of the program.
+    pub facts: &'a Facts<'a>,
     /// The locks that are held at the points.
     pub held: &'a Held,
     /// The items that are given.
     pub base: &'a [(Item, IdSet)],
     /// What subjects are above.
     pub subjects: Subjects,
-    ghost origins_size: { origins.now.all.size ≡ length labels.now.entries },
-    ghost held_points: { length held.now.at ≡ length points.now.points },
-    ghost held_labels: { held.now.labels ≡ length labels.now.entries },
+    ghost held_points: { length held.now.at ≡ length facts.now.program.points },
+    ghost held_labels: { held.now.labels ≡ length facts.now.labels.entries },
 }
 
 /// The given items, and those that rise from them by calls and creations, with the locks that are held at each.
 ///
-/// An item that is given several times has only the locks that are in all of its sets. Lock sets, labels and origins
-/// are those of the points, and the numbers in the given items are in range.
+/// An item that is given several times has only the locks that are in all of its sets. Lock sets and links are those of
+/// the points, and the numbers in the given items are in range.
 pub fn rise(
     alloc: Global,
-    points: &Points,
-    labels: &Labels,
-    origins: &Origins,
+    facts: &Facts<'_>,
     held: &Held,
+    links: &Links,
     based: &[(Item, IdSet)],
     subjects: Subjects,
 ) -> Result<Correlations, NoMemory>
-    requires origins { origins.now.all.size ≡ length labels.now.entries }
-    requires held_points { length held.now.at ≡ length points.now.points }
-    requires held_labels { held.now.labels ≡ length labels.now.entries }
-    requires based { AreInRange points.now labels.now (subjects_below points.now labels.now subjects) based.now }
-    ensures risen { IfOk result (AreRisen points.now labels.now (flow_of origins.now) (Carries (flow_of origins.now) subjects) based.now (held_table held.now)) }
-    ensures in_range { IfOk result (AreInRange points.now labels.now (subjects_below points.now labels.now subjects)) }
+    requires held_points { length held.now.at ≡ length facts.now.program.points }
+    requires held_labels { held.now.labels ≡ length facts.now.labels.entries }
+    requires links { AreLinks (basis_of facts.now) links.now }
+    requires based { AreInRange facts.now (subjects_below facts.now subjects) based.now }
+    ensures risen { IfOk result (AreRisen (basis_of facts.now) (Carries (flow_of facts.now.origins) subjects) based.now (held_table held.now)) }
+    ensures in_range { IfOk result (AreInRange facts.now (subjects_below facts.now subjects)) }
 {
+    let into = links_into(alloc, facts, links)?;
     let rising = Rising {
-        points,
-        labels,
-        origins,
+        facts,
         held,
         base: based,
         subjects,
     };
-    let links = rising.links(alloc)?;
     let mut table = Correlations::new(alloc);
     rising.put_base(alloc, &mut table)?;
-    rising.grow(alloc, &links, &mut table)?;
-    while rising.pass_each(alloc, &links, &mut table)? {}
+    rising.grow(alloc, &into, &mut table)?;
+    while rising.pass_each(alloc, &into, &mut table)? {}
     Ok(table)
 }

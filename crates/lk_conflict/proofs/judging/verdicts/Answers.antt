@@ -1,6 +1,6 @@
-use Rattle.std.proofs.Common.{◌≡◌, ◌∙◌, ◌++◌, [], ◌∷◌, ℕ, length, Some, sym, ap, subst, arith, inl, inr}
+use Rattle.lk_facts.specs.Facts.{basis_of}
+use Rattle.std.proofs.Common.{◌≡◌, ◌∙◌, ℕ, Some, sym, subst, arith, inl, inr}
 use Rattle.std.specs.List.{slice_get}
-use Rattle.lk_facts.specs.Origins.{flow_of}
 use Rattle.lk_facts.specs.Verdicts.{IsVerdictOf}
 use Rattle.lk_facts.specs.declared.verdict.Verdict.{Verdict}
 use Rattle.lk_rise.specs.Correlations.{has_of, locks_of}
@@ -10,7 +10,7 @@ use Rattle.lk_conflict.proofs.judging.verdicts.Goals as goal
 
 pub loop-location-preserved : goal.loop-location-preserved
 loop-location-preserved c =
-    let P : ℕ → Verdict → Type 0 = IsVerdictOf c.args.points.now (flow_of c.args.origins.now) (has_of c.args.races.now) (locks_of c.args.races.now) (has_id c.args.linear.now) in
+    let P : ℕ → Verdict → Type 0 = IsVerdictOf (basis_of c.args.facts.now) (has_of c.args.races.now) (locks_of c.args.races.now) (has_id c.args.linear.now) in
     let old = c.loop-location.verdicts.items in
     let new : Verdict = c.in_ok-verdict.field-0 in
     record {

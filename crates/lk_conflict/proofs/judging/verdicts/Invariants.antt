@@ -1,6 +1,6 @@
 use Rattle.std.proofs.Common.{◌≡◌, ℕ, length, Some}
 use Rattle.std.specs.List.{slice_get}
-use Rattle.lk_facts.specs.Origins.{flow_of}
+use Rattle.lk_facts.specs.Facts.{basis_of}
 use Rattle.lk_facts.specs.Verdicts.{IsVerdictOf}
 use Rattle.lk_facts.specs.declared.verdict.Verdict.{Verdict}
 use Rattle.lk_rise.specs.Correlations.{has_of, locks_of}
@@ -11,5 +11,5 @@ abbrev pub invariant-loop-location : goal.invariant-loop-location
 invariant-loop-location l = record {
   each : length l.verdicts.items ≡ l.location;
   are : (o : ℕ) (verdict : Verdict) → slice_get l.verdicts.items o ≡ Some verdict →
-      IsVerdictOf l.fn.points (flow_of l.fn.origins) (has_of l.fn.races) (locks_of l.fn.races) (has_id l.fn.linear) o verdict;
+      IsVerdictOf (basis_of l.fn.facts) (has_of l.fn.races) (locks_of l.fn.races) (has_id l.fn.linear) o verdict;
 }

@@ -10,13 +10,13 @@ pub returns-then-not-is_set_below : goal.returns-then-not-is_set_below
 returns-then-not-is_set_below c = (
   (λ none. absurd (false≢true none)),
   (λ sets. absurd (false≢true
-      (c.if-not-is_set_below.ensures.1 (rw c.list.ensures (All-read (IsSetBelow c.args.labels) c.args.sets.now _ c.set-item.result sets.each c.loop-set-test.true c.set-item.is))))),
+      (c.if-not-is_set_below.ensures.1 (rw c.ids.ensures.list (All-read (IsSetBelow c.args.labels) c.args.sets.now _ c.set-item.result sets.each c.loop-set-test.true c.set-item.is))))),
 )
 
 pub loop-set-preserved : goal.loop-set-preserved
 loop-set-preserved c =
     All-more (IsSetBelow c.args.labels) c.args.sets.now c.loop-set.set-index c.set-item.result c.loop-set-test.true c.loop-set.invariant
-    (subst (IsSetBelow c.args.labels) c.set-item.is (rw (← c.list.ensures) (c.if-not-is_set_below.ensures.0 refl)))
+    (subst (IsSetBelow c.args.labels) c.set-item.is (rw (← c.ids.ensures.list) (c.if-not-is_set_below.ensures.0 refl)))
 
 pub returns : goal.returns
 returns c =

@@ -3,4 +3,4 @@ use Rattle.lk_rise.specs.Correlations.{IsEntryInRange}
 use Rattle.lk_rise.proofs.rising.fits.Given as goal
 
 abbrev pub invariant-loop-entry : goal.invariant-loop-entry
-invariant-loop-entry l = All (IsEntryInRange l.points l.labels l.below) (take l.entry-index l.based)
+invariant-loop-entry l = All (IsEntryInRange l.facts l.below) (take l.entry-index l.based)

@@ -6,7 +6,7 @@ abbrev pub invariant-loop-table : goal.invariant-loop-table
 invariant-loop-table l = record {
   sound : IsSound (setting l.rising) l.table;
   based : (i : ℕ) → i < length l.based → HasBased (setting l.rising) i l.table;
-  passed : (k : ℕ) → k < length l.table → HasPassedAll (setting l.rising) l.links.items k l.table;
+  passed : (k : ℕ) → k < length l.table → HasPassedAll (setting l.rising) l.into.items k l.table;
 }
 
 abbrev pub decreases-loop-table : goal.decreases-loop-table

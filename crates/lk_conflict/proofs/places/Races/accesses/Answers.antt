@@ -1,6 +1,7 @@
-use Rattle.std.proofs.Common.{◌≡◌, ◌↔◌, ◌∙◌, ◌++◌, ℕ, true, List, Some, subst, sym, ap, take, arith}
+use Rattle.lk_facts.specs.declared.program.Program.{Program}
+use Rattle.lk_facts.specs.Facts.{basis_of}
+use Rattle.std.proofs.Common.{◌≡◌, ◌↔◌, ◌∙◌, ◌++◌, true, subst, sym, ap, arith}
 use Rattle.std.proofs.lemmas.List.{take_all}
-use Rattle.lk_facts.specs.Origins.{flow_of}
 use Rattle.lk_facts.specs.Verdicts.{IsRacing}
 use Rattle.lk_rise.specs.Correlations.{has_of, locks_of}
 use Rattle.lk_sets.specs.Ids.{has_id, IsSetOf}
@@ -16,8 +17,8 @@ pub returns : goal.returns
 returns c =
     let self = c.args.self.now in
     let set : IsSetOf (has_id c.loop-i.accesses.items) c.in_ok-set.set = subst (λ ids. IsSetOf (has_id ids) c.in_ok-set.set) c.deref.ensures.value c.in_ok-set.ensures in
-    let all : c.loop-i.accesses.items ≡ accesses_in self.points.now.main c.args.location self.items.now =
-    c.loop-i.invariant ∙ ap (accesses_in c.main-main.result c.args.location) (take_all c.loop-i.i self.items.now (omega (arith, c.count-i-end.ensures.value, c.loop-i-test.false))) ∙ ap (λ f. accesses_in f c.args.location self.items.now) c.main-main.ensures.value in
-    set_lists (IsRacing self.points.now (flow_of self.origins.now) (has_of self.items.now) (locks_of self.items.now) c.args.location) c.loop-i.accesses.items c.in_ok-set.set
-    (λ a. subst (λ xs. (has_id xs a ≡ true) ↔ IsRacing self.points.now (flow_of self.origins.now) (has_of self.items.now) (locks_of self.items.now) c.args.location a) (sym all) (accesses_are self.points.now.main c.args.location self.items.now a))
+    let all : c.loop-i.accesses.items ≡ accesses_in self.facts.now.program.main c.args.location self.items.now =
+    c.loop-i.invariant ∙ ap (accesses_in c.main-main.result c.args.location) (take_all c.loop-i.i self.items.now (omega (arith, c.count-i-end.ensures.value, c.loop-i-test.false))) ∙ ap (λ f. accesses_in f c.args.location self.items.now) (c.main-main.ensures.value ∙ ap (λ (q : Program). q.main) c.points.ensures.value) in
+    set_lists (IsRacing (basis_of self.facts.now) (has_of self.items.now) (locks_of self.items.now) c.args.location) c.loop-i.accesses.items c.in_ok-set.set
+    (λ a. subst (λ xs. (has_id xs a ≡ true) ↔ IsRacing (basis_of self.facts.now) (has_of self.items.now) (locks_of self.items.now) c.args.location a) (sym all) (accesses_are self.facts.now.program.main c.args.location self.items.now a))
     set

@@ -5,4 +5,4 @@ use Rattle.lk_facts.proofs.crossing.Crossing.outside_of.Goals as goal
 
 pub returns-in-Some-clause-in_range : goal.returns-in-Some-clause-in_range
 returns-in-Some-clause-in_range c labels sets =
-    rw c.list-in-Some.ensures (All-got (IsSetBelow labels) c.args.self.now.outside _ _ sets.each (sym c.in-Some.ensures))
+    rw c.ids-in-Some.ensures.list (All-got (IsSetBelow labels) c.args.self.now.outside _ _ sets.each (sym c.in-Some.ensures))

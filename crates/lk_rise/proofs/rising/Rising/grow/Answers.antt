@@ -13,7 +13,7 @@ loop-k-preserved c =
     let works = c.in_ok-pass_item.ensures in
     record {
       grows = grows_more s c.args.table.now c.loop-k.table c.pass_item.new.table c.loop-k.invariant.grows works.grows;
-      passed = below_more (λ i. HasPassedAll s c.args.links.now i c.pass_item.new.table) c.loop-k.k
-          (λ i below. stay_passed s c.args.links.now i c.loop-k.table c.pass_item.new.table works.grows (c.loop-k.invariant.passed i below)) works.present;
+      passed = below_more (λ i. HasPassedAll s c.args.into.now i c.pass_item.new.table) c.loop-k.k
+          (λ i below. stay_passed s c.args.into.now i c.loop-k.table c.pass_item.new.table works.grows (c.loop-k.invariant.passed i below)) works.present;
       small = omega (arith, c.if-k-count.false, c.count.ensures.small);
     }

@@ -4,7 +4,7 @@ use Rattle.lk_rise.proofs.PassLemmas.{RoundBelow, round_none, round_more, grows_
 use Rattle.lk_rise.proofs.rising.Rising.pass_each.Goals as goal
 
 pub loop-k-init : goal.loop-k-init
-loop-k-init c = round_none (setting c.args.self.now) c.args.links.now c.args.table.now
+loop-k-init c = round_none (setting c.args.self.now) c.args.into.now c.args.table.now
 
 pub pass_item-requires-clause-k : goal.pass_item-requires-clause-k
 pass_item-requires-clause-k c =
@@ -16,9 +16,9 @@ pass_item-requires-clause-sound c = c.loop-k.invariant.grows.sound c.requires.so
 
 pub loop-k-preserved : goal.loop-k-preserved
 loop-k-preserved c =
-    round_more (setting c.args.self.now) c.args.links.now c.loop-k.k c.args.table.now c.loop-k.table c.pass_item.new.table c.loop-k.changed c.in_ok-changed.field-0 c.loop-k.invariant c.in_ok-changed.ensures
+    round_more (setting c.args.self.now) c.args.into.now c.loop-k.k c.args.table.now c.loop-k.table c.pass_item.new.table c.loop-k.changed c.in_ok-changed.field-0 c.loop-k.invariant c.in_ok-changed.ensures
 
 pub returns : goal.returns
 returns c =
     let end : c.loop-k.k ≡ length c.args.table.now = omega (arith, c.loop-k.auto.k-end, c.loop-k-test.false, c.count-k-end.ensures.value) in
-    subst (λ n. RoundBelow (setting c.args.self.now) c.args.links.now n c.args.table.now c.loop-k.table c.loop-k.changed) end c.loop-k.invariant
+    subst (λ n. RoundBelow (setting c.args.self.now) c.args.into.now n c.args.table.now c.loop-k.table c.loop-k.changed) end c.loop-k.invariant

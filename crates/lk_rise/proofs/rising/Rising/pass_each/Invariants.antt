@@ -3,4 +3,4 @@ use Rattle.lk_rise.proofs.PassLemmas.{RoundBelow}
 use Rattle.lk_rise.proofs.rising.Rising.pass_each.Given as goal
 
 abbrev pub invariant-loop-k : goal.invariant-loop-k
-invariant-loop-k l = RoundBelow (setting l.self) l.links l.k l.initial.table l.table l.changed
+invariant-loop-k l = RoundBelow (setting l.self) l.into l.k l.initial.table l.table l.changed

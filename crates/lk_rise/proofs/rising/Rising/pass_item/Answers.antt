@@ -1,28 +1,22 @@
-use Rattle.std.proofs.Common.{◌≡◌, length, arith, refl, subst}
-use Rattle.std.proofs.lemmas.Option.{slice_get_read}
+use Rattle.std.proofs.Common.{◌<◌, Contains, length, subst, sym}
+use Rattle.lk_rise.specs.Rising.{subjects_below}
 use Rattle.lk_rise.specs.Tables.{setting}
-use Rattle.lk_rise.proofs.PassLemmas.{PassesBelow, passes_none, passes_more, grows_long}
+use Rattle.lk_rise.proofs.PassLemmas.{PassesBelow, item_within, links_read, passes_all}
 use Rattle.lk_rise.proofs.rising.Rising.pass_item.Goals as goal
 
-pub loop-link-init : goal.loop-link-init
-loop-link-init c = passes_none (setting c.args.self.now) c.args.links.now c.args.k c.args.table.now
-
-pub pass_link-requires-clause-k : goal.pass_link-requires-clause-k
-pass_link-requires-clause-k c = grows_long (setting c.args.self.now) c.args.table.now c.loop-link.table c.args.k c.loop-link.invariant.grows c.requires.k
-
-pub pass_link-requires-clause-sound : goal.pass_link-requires-clause-sound
-pass_link-requires-clause-sound c = c.loop-link.invariant.grows.sound c.requires.sound
-
-pub pass_link-requires-clause-link : goal.pass_link-requires-clause-link
-pass_link-requires-clause-link c =
-    c.requires.links.each c.loop-link.link-index c.link-item.result (slice_get_read c.args.links.now _ c.loop-link.link-index c.link-item.result refl c.loop-link-test.true c.link-item.is)
-
-pub loop-link-preserved : goal.loop-link-preserved
-loop-link-preserved c =
-    passes_more (setting c.args.self.now) c.args.links.now c.args.k c.loop-link.link-index c.link-item.result c.args.table.now c.loop-link.table c.pass_link.new.table c.loop-link.changed c.in_ok-changed.field-0
-    (slice_get_read c.args.links.now _ c.loop-link.link-index c.link-item.result refl c.loop-link-test.true c.link-item.is) c.loop-link.invariant c.in_ok-changed.ensures
+pub pass_links-requires-clause-links : goal.pass_links-requires-clause-links
+pass_links-requires-clause-links c =
+    let s = setting c.args.self.now in
+    let item = c.item-item.result in
+    let within = subst (λ n. item.function < n) (sym c.requires.functions) (item_within s.facts (subjects_below s.facts s.subjects) c.args.table.now c.args.k item c.requires.sound.in_range c.requires.k c.item-item.ensures) in
+    let is = links_read c.args.into.now item.function c.list-links.result.now c.index-into-item.result within c.index-into-item.is c.list-links.ensures in
+    λ link there. (c.requires.into.each item.function link (subst (λ xs. Contains xs link) is there)).is
 
 pub returns : goal.returns
 returns c =
-    let end : c.loop-link.link-index ≡ length c.args.links.now = omega (arith, c.loop-link.auto.link-index-end, c.loop-link-test.false) in
-    subst (λ n. PassesBelow (setting c.args.self.now) c.args.links.now c.args.k n c.args.table.now c.loop-link.table c.loop-link.changed) end c.loop-link.invariant
+    let s = setting c.args.self.now in
+    let item = c.item-item.result in
+    let within = subst (λ n. item.function < n) (sym c.requires.functions) (item_within s.facts (subjects_below s.facts s.subjects) c.args.table.now c.args.k item c.requires.sound.in_range c.requires.k c.item-item.ensures) in
+    let is = links_read c.args.into.now item.function c.list-links.result.now c.index-into-item.result within c.index-into-item.is c.list-links.ensures in
+    passes_all s c.args.into.now c.requires.into item c.args.k c.args.table.now c.pass_links.new.table c.in_ok-changed.changed c.item-item.ensures
+    (subst (λ links. PassesBelow s links c.args.k (length links) c.args.table.now c.pass_links.new.table c.in_ok-changed.changed) is c.in_ok-changed.ensures)

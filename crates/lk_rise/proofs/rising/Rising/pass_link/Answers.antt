@@ -1,12 +1,14 @@
-use Rattle.std.proofs.Common.{[], slice_get}
+use Rattle.std.proofs.Common.{[], slice_get, false, ◌||◌}
 use Rattle.std.proofs.lemmas.Result.{IfOk-weaker}
 use Rattle.lk_rise.specs.Tables.{setting}
+use Rattle.lk_facts.specs.Facts.{basis_of}
+use Rattle.lk_rise.proofs.LinkLemmas.{rises_within}
 use Rattle.lk_rise.proofs.TableLemmas.{entry_known}
 use Rattle.lk_rise.proofs.PassLemmas.{locks_range, offer_fits, passed_up}
 use Rattle.lk_rise.proofs.rising.Rising.pass_link.Goals as goal
 
 pub risen-requires-clause-point : goal.risen-requires-clause-point
-risen-requires-clause-point c = c.requires.link.within
+risen-requires-clause-point c = let link = c.args.link.now in rises_within (basis_of c.args.self.now.facts.now) link.point link.above link.below link.way false (false || link.starts) (c.requires.link.rises false)
 
 pub risen-requires-clause-locks : goal.risen-requires-clause-locks
 risen-requires-clause-locks c =

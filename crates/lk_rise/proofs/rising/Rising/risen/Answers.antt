@@ -1,16 +1,19 @@
-use Rattle.std.proofs.Common.{◌<◌, length, All, sym, ◌∙◌, ap, subst}
-use Rattle.lk_rise.proofs.SetLemmas.{All-from_has_id, All-has_id}
-use Rattle.lk_rise.proofs.rising.Rising.risen.Goals as goal
+use Rattle.std.proofs.Common.{ℕ, ◌≡◌, ◌<◌, ◌∙◌, true, length, sym, subst, ⊎_elim}
+use Rattle.std.proofs.lemmas.Bool.{or_cases}
+use Rattle.lk_links.proofs.SetLemmas.{All-from_has_id, All-has_id}
 use Rattle.lk_sets.specs.Ids.{has_id}
+use Rattle.lk_rise.proofs.rising.Rising.risen.Goals as goal
 
 pub returns-clause-in_range : goal.returns-clause-in_range
 returns-clause-in_range c =
     let self = c.args.self.now in
-    let n = length self.labels.now.entries in
-    let risen = subst (λ m. All (λ y. y < m) c.in_ok-ids.ids.items) self.origins_size c.in_ok-ids.ensures.in_range in
-    let all = c.in_ok-push_kept.ensures.in_range risen in
+    let n = length self.facts.now.labels.entries in
+    let kept_below = subst (λ m. (y : ℕ) → has_id c.keep.result.now y ≡ true → y < m) self.held_labels (λ y there. All-has_id (λ z. z < self.held.now.labels) c.keep.result.now y c.keep.ensures.in_range.below there) in
     record {
-      sorted = c.in_ok-set.ensures.sorted;
-      below = All-from_has_id (λ y. y < n) c.in_ok-set.set
-          (λ y there. All-has_id (λ z. z < n) c.push_kept.new.ids.items y all (sym (ap (λ ids. has_id ids y) c.deref.ensures.value) ∙ sym (c.in_ok-set.ensures.members y) ∙ there));
+      sorted = c.in_ok-all.ensures.sorted;
+      below = All-from_has_id (λ y. y < n) c.in_ok-all.all
+          (λ y there.
+          ⊎_elim (All-has_id (λ z. z < n) c.in_ok-risen.risen y c.in_ok-risen.ensures.in_range)
+          (λ here. kept_below y (sym (c.in_ok-kept.ensures.members y) ∙ here))
+          (or_cases (has_id c.in_ok-risen.risen y) (has_id c.in_ok-kept.kept y) (sym (c.in_ok-all.ensures.members y) ∙ there)));
     }

@@ -1,0 +1,160 @@
+-- What the points of a program keep that were made from its typed tree.
+use Rattle.std.specs.Prelude.{◌≡◌, ◌↔◌, ◌<◌, ◌⊎◌, ℕ, suc, true, [], ◌∷◌, List, Option, None, Some, length, slice_get}
+use Rattle.lk_base.specs.declared.kind.Kind.TheVariants.{Char}
+use Rattle.lk_facts.specs.InRange.{AllOperands}
+use Rattle.lk_facts.specs.Live.{IsReached}
+use Rattle.lk_facts.specs.Program.{action_at, next_of, live_at, function_at, site_at, entry_of, exit_of, value_site_of, root_at, place_at, root_of_function, function_of_root}
+use Rattle.lk_facts.specs.Reach.{IsNext}
+use Rattle.lk_facts.specs.Typed.{IsForm, HasPartAt, IsRootType, IsNumberOf, IsTyped, IsFunctionTyped}
+use Rattle.lk_facts.specs.declared.action.Action.{Action}
+use Rattle.lk_facts.specs.declared.action.Action.TheVariants as action
+use Rattle.lk_facts.specs.declared.action.Action.TheVariants.{Func, Skip, Return, Text as OfText}
+use Rattle.lk_facts.specs.declared.cell.CellStep.{CellStep}
+use Rattle.lk_facts.specs.declared.initial.Initial.{Initial}
+use Rattle.lk_facts.specs.declared.initial.InitialValue.{InitialValue}
+use Rattle.lk_facts.specs.declared.initial.InitialValue.TheVariants as value
+use Rattle.lk_facts.specs.declared.place.Place.{Place}
+use Rattle.lk_facts.specs.declared.program.Program.{Program}
+use Rattle.lk_facts.specs.declared.root.Root.{Root}
+use Rattle.lk_facts.specs.declared.root.RootKind.TheVariants.{Text}
+use Rattle.lk_types.specs.Equal.{IsAlike}
+use Rattle.lk_types.specs.Nodes.{IsNode}
+use Rattle.lk_types.specs.declared.c_type.CType.TheVariants.{Array, Cond, Int, Mutex, Pointer, Void}
+use Rattle.lk_types.specs.declared.node.Base.TheVariants.{Start}
+
+-- who has a site: a live call or creation, or a function that is used as a value
+pub data Owner : Type 0 where
+  point : ℕ → Owner
+  function : ℕ → Owner
+
+module _ (program : Program) where
+  abbrev pub IsSite : ℕ → Owner → Type 0
+  IsSite i (Owner.point p) = site_at program p ≡ Some i
+  IsSite i (Owner.function f) = value_site_of program f ≡ Some i
+
+  -- one has the site, and no other
+  pub record IsSiteOfOne (i : ℕ) : Type 0 where
+    pub owner : Owner
+    pub has : IsSite i owner
+    pub only : (other : Owner) → IsSite i other → other ≡ owner
+
+  -- a point gives a pointer to the function
+  abbrev pub IsUsedAsValue : ℕ → Type 0
+  IsUsedAsValue f = (p : ℕ) × (action_at program p ≡ Some (Func f))
+
+  -- the root has a part of the type there
+  abbrev pub HasPart : ℕ → List CellStep → ℕ → Type 0
+  HasPart r path u = (t : ℕ) × IsRootType program r t × HasPartAt program.types t path u
+
+  -- a cell of the type t may begin with the value; the object to which an address leads has that part
+  abbrev pub MayBegin : (t : ℕ) → InitialValue → Type 0
+  MayBegin t (value.Number n) = IsNumberOf program n t
+  MayBegin t value.Null = (u : ℕ) × IsForm program.types t (Pointer u)
+  MayBegin t (value.Function f) = (u form : ℕ) × IsForm program.types t (Pointer u) × ((r : ℕ) × (root_of_function program f ≡ Some r) × IsRootType program r form) × IsAlike program.types.types u form
+  MayBegin t (value.Address r path past) =
+      (u v : ℕ) × IsForm program.types t (Pointer u) × HasPart r path v × (IsAlike program.types.types u v ⊎ IsForm program.types u Void)
+  MayBegin t value.Ready = IsForm program.types t Mutex ⊎ IsForm program.types t Cond
+
+  -- the cell is a part of its object, and may begin with its value
+  abbrev pub IsInitial : Initial → Type 0
+  IsInitial initial = (t : ℕ) × HasPart initial.root initial.path t × MayBegin t initial.value
+
+  -- how many successors a point has where it isn't an exit: of a Branch two, of a Switch one a case and one more, of a Create one where it
+  -- made a thread and one where it failed; none where the thread ends (C99 6.8; POSIX pthread_create, pthread_exit)
+  abbrev pub ways_of : Action → ℕ
+  ways_of (action.Branch a) = 2
+  ways_of (action.Switch a cases) = suc (length cases)
+  ways_of (action.Create f a) = 2
+  ways_of action.ExitThread = 0
+  ways_of action.ExitProcess = 0
+  ways_of (action.Value number ty) = 1
+  ways_of (action.Null ty) = 1
+  ways_of (action.Func f) = 1
+  ways_of action.SelfId = 1
+  ways_of (action.Root r) = 1
+  ways_of (action.Text r) = 1
+  ways_of (action.Field a member) = 1
+  ways_of (action.Index a b into) = 1
+  ways_of (action.Read a raw) = 1
+  ways_of (action.Write a b raw) = 1
+  ways_of (action.SlotRead s) = 1
+  ways_of (action.SlotWrite s a) = 1
+  ways_of (action.Unary op a) = 1
+  ways_of (action.Binary op a b) = 1
+  ways_of (action.Compute args ty equal) = 1
+  ways_of (action.Convert a ty) = 1
+  ways_of action.Skip = 1
+  ways_of (action.Call f args) = 1
+  ways_of (action.PointerCall a args) = 1
+  ways_of (action.Return a) = 1
+  ways_of (action.StoreId a) = 1
+  ways_of (action.Join a) = 1
+  ways_of (action.Detach a) = 1
+  ways_of (action.Lock a) = 1
+  ways_of (action.Unlock a) = 1
+  ways_of (action.Release cond mutex) = 1
+  ways_of (action.Retake a) = 1
+  ways_of (action.Init a) = 1
+  ways_of (action.Destroy a) = 1
+  ways_of (action.Signal a) = 1
+  ways_of (action.Allocate ty count zero root) = 1
+  ways_of (action.Free a) = 1
+  ways_of (action.Scan a) = 1
+  ways_of (action.Fill a place named) = 1
+
+  -- the entry of a function does nothing, stands in it, and is nobody's successor
+  pub record IsEntry (f p : ℕ) : Type 0 where
+    pub stands : function_at program p ≡ Some f
+    pub skips : action_at program p ≡ Some Skip
+    pub first : (q : ℕ) → IsNext program q p → ⊥
+
+  -- the exit of a function does nothing, stands in it, and has no successors
+  pub record IsExit (f p : ℕ) : Type 0 where
+    pub stands : function_at program p ≡ Some f
+    pub skips : action_at program p ≡ Some Skip
+    pub last : next_of program p ≡ []
+
+  abbrev pub IsExitOfOne : ℕ → Type 0
+  IsExitOfOne p = (f : ℕ) × (exit_of program f ≡ Some p)
+
+  -- a text is an array of the char that it has bytes for (C99 6.4.5)
+  pub record IsText (r : ℕ) : Type 0 where
+    pub root : Root
+    pub of : root_at program r ≡ Some root
+    pub kind : root.kind ≡ Text
+    pub char : ℕ
+    pub is_char : IsForm program.types char (Int Char)
+    pub bytes : IsForm program.types root.ty (Array char (length root.bytes))
+
+  -- the node of a place is one of its root's type
+  pub record IsPlaceOfRoot (place : Place) : Type 0 where
+    pub ty : ℕ
+    pub of : IsRootType program place.root ty
+    pub start : place.node.base ≡ Start ty
+    pub node : IsNode program.types place.node
+
+  pub record IsLowered : Type 0 where
+    -- operands and successors of a point stand in its function
+    pub operands : (p : ℕ) (action : Action) → action_at program p ≡ Some action → AllOperands (λ a. function_at program a ≡ function_at program p) action
+    pub successors : (p q : ℕ) → IsNext program p q → function_at program q ≡ function_at program p
+    -- each operand, slot, parameter and result has the type that its action needs
+    pub typed : (p f : ℕ) (action : Action) → action_at program p ≡ Some action → function_at program p ≡ Some f → IsTyped program p f action
+    pub functions : (f : ℕ) → f < length program.functions → IsFunctionTyped program f
+    -- the root of a function stands for it
+    pub function_roots : (f r : ℕ) → (root_of_function program f ≡ Some r) ↔ (function_of_root program r ≡ Some f)
+    -- each number below that of the sites is the site of exactly one live call or creation, or function that is used as a value
+    pub sites : (i : ℕ) → i < program.sites → IsSiteOfOne i
+    pub value_sites : (f : ℕ) → ((i : ℕ) × (value_site_of program f ≡ Some i)) ↔ IsUsedAsValue f
+    -- functions begin at their entries, and their returns lead to their exits
+    pub entries : (f e : ℕ) → entry_of program f ≡ Some e → IsEntry f e
+    pub exits : (f e : ℕ) → exit_of program f ≡ Some e → IsExit f e
+    pub returns : (p f e : ℕ) (a : Option ℕ) → action_at program p ≡ Some (Return a) → function_at program p ≡ Some f → exit_of program f ≡ Some e → next_of program p ≡ e ∷ []
+    -- each other point of a function has as many successors as its action asks for
+    pub ways : (p f : ℕ) (action : Action) → action_at program p ≡ Some action → function_at program p ≡ Some f → f < length program.functions → (IsExitOfOne p → ⊥) → length (next_of program p) ≡ ways_of action
+    -- live is what is reached
+    pub live : (p : ℕ) → (live_at program p ≡ true) ↔ IsReached program.points program.functions p
+    -- a text's bytes are there, and so is each cell that an initialiser of static storage names, with what it points to
+    pub texts : (p r : ℕ) → action_at program p ≡ Some (OfText r) → IsText r
+    pub initials : (i : ℕ) (initial : Initial) → slice_get program.initials i ≡ Some initial → IsInitial initial
+    -- each location and lock place is a part of its root
+    pub places : (n : ℕ) (place : Place) → place_at program n ≡ Some place → IsPlaceOfRoot place

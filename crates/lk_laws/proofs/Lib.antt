@@ -1,0 +1,6 @@
+pub mod HeldLemmas
+pub mod LawLemmas
+pub mod MoreRaces
+pub mod OneAnalysis
+pub mod Sorted
+pub mod Walking

@@ -1,0 +1,10 @@
+//! Matched paths: which labels stand in Level, and the summary edges over them.
+#![tactic(auto)]
+
+mod level;
+mod passage;
+mod summary;
+
+pub use level::levels;
+pub use passage::{Passage, Side, of_site, passages};
+pub use summary::{SummaryEdge, summaries};

@@ -1,0 +1,4 @@
+pub mod ArrowLemmas
+pub mod CrossingLemmas
+pub mod FlowLemmas
+pub mod TakeLemmas

@@ -1,0 +1,18 @@
+use Rattle.lk_origin.specs.Crossings.{LeadsTo}
+use Rattle.lk_sets.proofs.Adding.{adds_each_read, adds_each_all, adds_to_none}
+use Rattle.lk_origin.proofs.CrossingLemmas.{adds_row, given_ids, set_below, inside_below}
+use Rattle.lk_origin.proofs.crossing.reached.Goals as goal
+
+pub loop-entrance-preserved : goal.loop-entrance-preserved
+loop-entrance-preserved c =
+    adds_each_read (LeadsTo c.args.levels.now) c.args.entrances.now c.loop-entrance.entrance-index c.entrance-item.result c.loop-entrance-test.true c.entrance-item.is c.loop-entrance.invariant
+    (adds_row c.args.levels.now c.entrance-item.result c.loop-entrance.list.items c.push_row.new.list.items c.in_ok-push_row.ensures)
+
+pub returns-clause-each : goal.returns-clause-each
+returns-clause-each c =
+    let adds = adds_each_all (LeadsTo c.args.levels.now) c.args.entrances.now c.loop-entrance.entrance-index c.loop-entrance-test.false c.loop-entrance.invariant in
+    given_ids c.loop-entrance.list.items c.deref.result.now c.in_ok-ids.ids (adds_to_none c.new-list.ensures.items adds) c.deref.ensures.value c.in_ok-ids.ensures.each
+
+pub returns-clause-within : goal.returns-clause-within
+returns-clause-within c =
+    set_below c.args.levels.now.size c.in_ok-ids.ids c.in_ok-ids.ensures.sorted (returns-clause-each c) (inside_below c.args.levels.now c.args.entrances.now c.size.ensures.square)

@@ -1,0 +1,9 @@
+//! Which origins may flow to which labels, and what crosses each site.
+#![tactic(auto)]
+
+mod arrows;
+mod crossing;
+mod flow;
+mod taking;
+
+pub use flow::origins;
