@@ -1,7 +1,7 @@
 //! The integer kinds of C.
 
 /// An integer kind (C99 6.2.5), in the order of rank and, at equal rank, signed before unsigned.
-#[derive(Clone, Copy, Debug, PartialEq, Eq, PartialOrd, Ord, Hash)]
+#[derive(Clone, Copy, Debug, PartialEq, Eq, Hash)]
 pub enum Kind {
     /// `_Bool`: 0 or 1.
     Bool,

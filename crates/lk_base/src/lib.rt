@@ -3,20 +3,21 @@
 
 mod boxed;
 mod code;
+mod fault;
 mod files;
-mod items;
 mod kind;
 mod limits;
 mod memory;
 mod name;
 mod refusal;
+mod seq;
 mod spot;
 mod status;
 
 pub use boxed::Boxed;
 pub use code::{Code, no_two_codes_share_a_number};
+pub use fault::Fault;
 pub use files::Files;
-pub use items::Items;
 pub use kind::Kind;
 pub use limits::{
     LONGEST_EXTERNS, LONGEST_NAME, LONGEST_SOURCES, MOST_DEPTH, MOST_FILES, MOST_LABELS,
@@ -25,8 +26,6 @@ pub use limits::{
 pub use memory::NoMemory;
 pub use name::{Name, NameFault};
 pub use refusal::Refusal;
+pub use seq::Seq;
 pub use spot::Spot;
 pub use status::Status;
-
-#[cfg(test)]
-mod tests;

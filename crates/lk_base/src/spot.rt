@@ -3,7 +3,7 @@
 /// The place of a token, a fault or an access.
 ///
 /// Spots are compared by file number, then line, then column.
-#[derive(Clone, Copy, Debug, PartialEq, Eq, PartialOrd, Ord, Hash)]
+#[derive(Clone, Copy, Debug, PartialEq, Eq, PartialOrd, Ord)]
 pub struct Spot {
     /// The number of the file in the command's `Files`, from 0 on.
     pub file: u32,

@@ -8,7 +8,7 @@ use crate::fault::Fault;
 use crate::role::Role;
 use crate::tree::{Function, FunctionKind, Program, Statement, Variable, VariableKind};
 use indexmap::IndexSet;
-use lk_base::{Items, Name, Spot};
+use lk_base::{Name, Seq, Spot};
 use std::alloc::Global;
 use std::marker::Model;
 
@@ -131,7 +131,7 @@ impl Declarations {
     /// The program of these declarations and the statements of `main`, where its parameters are no names at
     /// file scope and there are at most 4,000 statements.
     #[tactic(auto, unfolding(crate::specs::Reading::finished))]
-    pub fn into_program(self, main_spot: Spot, main: Items<Statement>) -> Result<Program, Fault>
+    pub fn into_program(self, main_spot: Spot, main: Seq<Statement>) -> Result<Program, Fault>
         ensures { Tells (spec.finished self main_spot main) result }
     {
         if !self.parameters_differ() {
@@ -144,8 +144,8 @@ impl Declarations {
             functions,
         } = self;
         let program = Program {
-            variables: Items::new(variables),
-            functions: Items::new(functions),
+            variables: Seq::new(variables),
+            functions: Seq::new(functions),
             main_spot,
             main,
         };

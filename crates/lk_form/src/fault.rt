@@ -4,7 +4,7 @@ use lk_base::{NameFault, NoMemory};
 use std::alloc::{AllocError, AllocFailed};
 
 /// Why nothing is read.
-#[derive(Clone, Copy, Debug, PartialEq, Eq)]
+#[derive(Clone, Copy)]
 pub enum Fault {
     /// The source is not of the form.
     Form,

@@ -25,10 +25,6 @@ use crate::cursor::Cursor;
 use crate::fault::Fault;
 use lk_base::NoMemory;
 use std::alloc::Global;
-
-#[cfg(test)]
-mod tests;
-
 pub use tree::{
     Expression, Function, FunctionKind, Operand, Operator, Program, Statement, Variable,
     VariableKind,

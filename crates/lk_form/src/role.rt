@@ -1,7 +1,7 @@
 //! What a function is for.
 
 /// What a function is for.
-#[derive(Clone, Copy, Debug, PartialEq, Eq)]
+#[derive(Clone, Copy, PartialEq, Eq)]
 pub enum Role {
     /// A thread may start in it.
     Thread,

@@ -10,7 +10,7 @@ use crate::fault::Fault;
 use crate::role::Role;
 use crate::terminal::Terminal;
 use crate::tree::{Statement, VariableKind};
-use lk_base::{Items, Spot};
+use lk_base::{Seq, Spot};
 use std::alloc::Global;
 
 /// How many blocks stand inside one another in a function at most, its own braces apart.
@@ -148,12 +148,12 @@ fn otherwise(
     declared: &Declarations,
     cursor: &mut Cursor<'_, '_>,
     blocks: u32,
-) -> Result<Items<Statement>, Fault>
+) -> Result<Seq<Statement>, Fault>
     ensures value { Gives (spec.otherwise (spec.block declared.now blocks) cursor.old) result cursor.new }
     ensures no_longer { OnOk result (length cursor.new ≤ length cursor.old) }
 {
     if !cursor.begins(&[Terminal::Else]) {
-        return Ok(Items::new(Vec::new(alloc)));
+        return Ok(Seq::new(Vec::new(alloc)));
     }
     cursor.take(&[Terminal::Else])?;
     block(alloc, declared, cursor, blocks)
@@ -238,7 +238,7 @@ pub fn block(
     declared: &Declarations,
     cursor: &mut Cursor<'_, '_>,
     blocks: u32,
-) -> Result<Items<Statement>, Fault>
+) -> Result<Seq<Statement>, Fault>
     ensures value { Gives (spec.block declared.now blocks cursor.old) result cursor.new }
     ensures shorter { OnOk result (length cursor.new < length cursor.old) }
 {
@@ -248,7 +248,7 @@ pub fn block(
     cursor.take(&[Terminal::OpenBrace])?;
     let list = statements(alloc, declared, cursor, inside)?;
     cursor.take(&[Terminal::CloseBrace])?;
-    Ok(Items::new(list))
+    Ok(Seq::new(list))
 }
 
 /// Reads the statements of a function in braces, and `return 0;` behind them.
@@ -257,7 +257,7 @@ pub fn body(
     alloc: Global,
     declared: &Declarations,
     cursor: &mut Cursor<'_, '_>,
-) -> Result<Items<Statement>, Fault>
+) -> Result<Seq<Statement>, Fault>
     ensures value { Gives (spec.body declared.now cursor.old) result cursor.new }
     ensures shorter { OnOk result (length cursor.new < length cursor.old) }
 {
@@ -269,5 +269,5 @@ pub fn body(
         Terminal::Semicolon,
         Terminal::CloseBrace,
     ])?;
-    Ok(Items::new(list))
+    Ok(Seq::new(list))
 }

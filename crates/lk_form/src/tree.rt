@@ -1,23 +1,23 @@
 //! What a source of the form says: variables, functions, and the statements of each body.
 
 use crate::role::Role;
-use lk_base::{Items, Name, Spot};
+use lk_base::{Name, Seq, Spot};
 
 /// A program of the form. A variable and a function go by their numbers, the places in these lists.
-#[derive(Debug, Drop)]
+#[derive(Drop)]
 pub struct Program {
     /// The variables at file scope, in the order of the source.
-    pub variables: Items<Variable>,
+    pub variables: Seq<Variable>,
     /// The functions but for `main`, in the order of the source.
-    pub functions: Items<Function>,
+    pub functions: Seq<Function>,
     /// The place of the name `main`.
     pub main_spot: Spot,
     /// The statements of `main`, without its `return 0;`.
-    pub main: Items<Statement>,
+    pub main: Seq<Statement>,
 }
 
 /// A variable at file scope.
-#[derive(Debug, Drop)]
+#[derive(Drop)]
 pub struct Variable {
     pub name: Name,
     /// The place of the name in the declaration.
@@ -26,7 +26,7 @@ pub struct Variable {
 }
 
 /// The type of a variable.
-#[derive(Clone, Copy, Debug, PartialEq, Eq)]
+#[derive(Clone, Copy, PartialEq, Eq)]
 pub enum VariableKind {
     /// `int`
     Int,
@@ -37,18 +37,18 @@ pub enum VariableKind {
 }
 
 /// A function at file scope.
-#[derive(Debug, Drop)]
+#[derive(Drop)]
 pub struct Function {
     pub name: Name,
     /// The place of the name in the definition.
     pub spot: Spot,
     pub kind: FunctionKind,
     /// The statements, without the `return 0;` of a thread function.
-    pub body: Items<Statement>,
+    pub body: Seq<Statement>,
 }
 
 /// What a function is for.
-#[derive(Debug, Drop)]
+#[derive(Drop)]
 pub enum FunctionKind {
     /// `void *NAME(void *NAME)`: a thread may start in it. Its body ends with `return 0;`.
     Thread {
@@ -75,7 +75,7 @@ impl FunctionKind {
 }
 
 /// What an expression is made of.
-#[derive(Clone, Copy, Debug)]
+#[derive(Clone, Copy)]
 pub enum Operand {
     /// `NAME`
     Variable {
@@ -94,7 +94,7 @@ pub enum Operand {
 }
 
 /// What joins two operands.
-#[derive(Clone, Copy, Debug, PartialEq, Eq)]
+#[derive(Clone, Copy)]
 pub enum Operator {
     /// `+`
     Plus,
@@ -107,7 +107,7 @@ pub enum Operator {
 }
 
 /// An expression.
-#[derive(Clone, Copy, Debug)]
+#[derive(Clone, Copy)]
 pub enum Expression {
     /// An operand alone.
     Operand(Operand),
@@ -120,7 +120,7 @@ pub enum Expression {
 }
 
 /// A statement.
-#[derive(Debug, Drop)]
+#[derive(Drop)]
 pub enum Statement {
     /// `NAME = EXPRESSION;`
     Assign {
@@ -167,9 +167,9 @@ pub enum Statement {
         /// The place of the word `if`.
         spot: Spot,
         /// The statements for a condition that isn't zero.
-        then: Items<Statement>,
+        then: Seq<Statement>,
         /// The statements for zero, of which there are none where no `else` is written.
-        otherwise: Items<Statement>,
+        otherwise: Seq<Statement>,
     },
     /// `while (EXPRESSION) { .. }`
     While {
@@ -177,6 +177,6 @@ pub enum Statement {
         /// The place of the word `while`.
         spot: Spot,
         /// The statements between two tests of the condition.
-        body: Items<Statement>,
+        body: Seq<Statement>,
     },
 }

@@ -23,6 +23,3 @@ pub use shelf::Shelf;
 pub use sink::Sink;
 pub use std_sink::StdSink;
 pub use write::write_whole;
-
-#[cfg(test)]
-mod tests;

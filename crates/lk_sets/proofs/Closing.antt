@@ -1,6 +1,6 @@
 -- What loops share that close a relation: the measure falls with each new pair, and one step goes behind another.
 use Rattle.std.proofs.Common.{ℕ, ◌+◌, ◌-◌, ◌<◌, ◌≤◌, ◌≡◌, ◌||◌, ◌&&◌, Bool, true, false, not, cond, eqb, List, [], ◌∷◌, length, refl, sym, ap, ◌∙◌, subst, ◌⊎◌, inl, inr, arith, sum_by, below_more, All, take, get_or}
-use Rattle.std.specs.Prelude.{count_by}
+use Rattle.std.specs.Prelude.{count_by, ⊤}
 use Rattle.std.specs.List.{range_with_len}
 use Rattle.std.proofs.lemmas.Bool.{both_ways, cases_lt, eqb-true, or_cases, or_parts, lt-ltb, not-true, or_left, or_right, and_from, eq-eqb}
 use Rattle.std.proofs.lemmas.List.{take_all}
@@ -181,3 +181,15 @@ grown_more g h = record {
   kept = λ a b p. h.grows.kept a b (g.kept a b p);
   sound = λ s. h.sound (g.sound s);
 }
+
+-- a round of a loop that notes whether any round has found a pair
+pub round_found : {Sound Done : Rows → Type 0} {first mid now : Rows} {b c : Bool} → c ≡ true → Going Sound (λ _. ⊤) first mid b → Going Sound Done mid now c → Going Sound (λ _. ⊤) first now true
+round_found {Sound} {first = first} {now = now} {b = b} {c = c} found g h =
+    subst (Going Sound (λ _. ⊤) first now) (or_right b c found) (going_more (λ _ _ _. tt) g h)
+
+pub round_none : {Sound Done : Rows → Type 0} {first mid now : Rows} {b c : Bool} → c ≡ false → Going Sound (λ _. ⊤) first mid b → Going Sound Done mid now c → Going Sound (λ _. ⊤) first now b
+round_none {Sound} {first = first} {now = now} {b = b} {c = c} none g h = subst (Going Sound (λ _. ⊤) first now) (or_none b c none) (going_more (λ _ _ _. tt) g h)
+  where
+    or_none : (p q : Bool) → q ≡ false → (p || q) ≡ p
+    or_none true q e = refl
+    or_none false q e = e

@@ -1,4 +1,6 @@
+pub mod Adding
 pub mod Closing
+pub mod Marking
 pub mod Members
 pub mod Merging
 pub mod Reaching

@@ -11,7 +11,7 @@ use std::marker::Model;
 
 /// A relation among the numbers below a size, at most 65,536. A contract sees it as the size and, for
 /// each number a below it, the list in ascending order of the numbers b that stand with a: row a.
-#[derive(Debug, Drop)]
+#[derive(Drop)]
 pub struct BitRows {
     size: u32,
     words: Vec<u64>,
@@ -139,7 +139,7 @@ pub fn rows_are_their_pairs()
 {}
 
 /// The numbers of a row that are left, in ascending order. A contract sees it as the list of them.
-#[derive(Debug, Drop)]
+#[derive(Drop)]
 pub struct Row<'a> {
     rows: &'a BitRows,
     row: u32,

@@ -7,7 +7,7 @@ ghost use Rattle.lk_sets.specs.Spread.{IsWithin, IsSound, PassesOn, Spread};
 use crate::bit_rows::BitRows;
 
 /// What passes a row on: each number that stands with `from` is to stand with `into` too.
-#[derive(Clone, Copy, Debug, PartialEq, Eq)]
+#[derive(Clone, Copy)]
 pub struct Arrow {
     /// The number whose row is passed on.
     pub from: u32,

@@ -3,8 +3,8 @@ use Rattle.std.proofs.Common.{ℕ, ◌≡◌, ◌∙◌, List, refl, sym, ap, su
 use Rattle.lk_io.specs.Shelf.{Held}
 use Rattle.lk_form.specs.declared.tree.Program.{Program}
 use Rattle.lk_form.specs.Form.{IsOfForm}
-use Rattle.lk_facts.proofs.OneAnalysis.{one_analysis}
-use Rattle.lk_facts.specs.declared.verdict.Verdict.{Verdict}
+use Rattle.lk_small_facts.proofs.OneAnalysis.{one_analysis}
+use Rattle.lk_small_facts.specs.declared.verdict.Verdict.{Verdict}
 use Rattle.lk_top.specs.Outcome.{AreVerdictsOf, Outcome, Verdicts, Judged, too_long, not_of_form, of_form, ComesTo, no_command, missing, judged}
 
 abbrev pub HasOneProgram : Type 0

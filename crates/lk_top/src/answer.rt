@@ -11,8 +11,8 @@ use crate::texts::{FIRST_BYTE, refused_line, unread_line};
 use lk_base::{Code, LONGEST_SOURCES, Name, NameFault, NoMemory, Refusal, Status};
 use lk_form::{Program, read_program};
 use lk_io::{ReadFault, Shelf, read_whole};
-use lk_lower::lower;
-use lk_solve::solve;
+use lk_small_lower::lower;
+use lk_small_solve::solve;
 use std::alloc::Global;
 
 /// What a command with a FILE comes to: the text that is to be written.

@@ -5,7 +5,7 @@ ghost use Rattle.lk_top.specs.Report.{root_at, label_name, label_spot, function_
 
 use crate::texts::{FIRST_BYTE, push_place};
 use lk_base::{NoMemory, Spot};
-use lk_facts::{Label, Labels, Points, Racing, Root, Verdict, VerdictState};
+use lk_small_facts::{Label, Labels, Points, Racing, Root, Verdict, VerdictState};
 use std::alloc::Global;
 
 /// The root of a label, where there is one.

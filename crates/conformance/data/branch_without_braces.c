@@ -1,0 +1,1 @@
+int n; int main(void) { if (n) n = 1; return 0; }

@@ -1,0 +1,1 @@
+void *w(void *q) { return 0; } int main(void) { w(); return 0; }

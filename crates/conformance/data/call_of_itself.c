@@ -1,0 +1,1 @@
+void f(void) { f(); } int main(void) { return 0; }

@@ -1,0 +1,15 @@
+int n; pthread_mutex_t m; pthread_t t;
+void *w(void *q) {
+pthread_mutex_lock(&m);
+n = 1;
+pthread_mutex_unlock(&m);
+return 0; }
+void f(void) {
+n = 2;
+pthread_mutex_unlock(&m); }
+int main(void) {
+pthread_create(&t, 0, w, 0);
+pthread_mutex_lock(&m);
+f();
+n = 3;
+return 0; }

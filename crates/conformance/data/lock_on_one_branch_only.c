@@ -1,0 +1,12 @@
+int n; pthread_mutex_t m; pthread_t t;
+void *w(void *q) {
+pthread_mutex_lock(&m);
+n = 1;
+pthread_mutex_unlock(&m);
+return 0; }
+int main(void) {
+pthread_create(&t, 0, w, 0);
+if (n) {
+pthread_mutex_lock(&m); }
+n = 2;
+return 0; }

@@ -1,0 +1,1 @@
+int n; pthread_mutex_t m; int main(void) { n = m; return 0; }

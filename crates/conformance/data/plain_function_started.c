@@ -1,0 +1,1 @@
+pthread_t t; void f(void) { } int main(void) { pthread_create(&t, 0, f, 0); return 0; }

@@ -1,0 +1,1 @@
+void f(void) { return; } int main(void) { return 0; }

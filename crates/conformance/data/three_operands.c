@@ -1,0 +1,1 @@
+int n; int main(void) { n = n + n + n; return 0; }

@@ -1,0 +1,23 @@
+use Rattle.std.proofs.Common.{◌≡◌, ◌∙◌, ◌++◌, [], ◌∷◌, ℕ, length, Some, sym, ap, subst, arith, inl, inr}
+use Rattle.std.specs.List.{slice_get}
+use Rattle.lk_small_facts.specs.Origins.{flow_of}
+use Rattle.lk_small_facts.specs.Verdicts.{IsVerdictOf}
+use Rattle.lk_small_facts.specs.declared.verdict.Verdict.{Verdict}
+use Rattle.lk_small_rise.specs.Correlations.{has_of, locks_of}
+use Rattle.lk_sets.specs.Ids.{has_id}
+use Rattle.lk_small_conflict.proofs.VerdictLemmas.{got_more}
+use Rattle.lk_small_conflict.proofs.judging.verdicts.Goals as goal
+
+pub loop-location-preserved : goal.loop-location-preserved
+loop-location-preserved c =
+    let P : ℕ → Verdict → Type 0 = IsVerdictOf c.args.points.now (flow_of c.args.origins.now) (has_of c.args.races.now) (locks_of c.args.races.now) (has_id c.args.linear.now) in
+    let old = c.loop-location.verdicts.items in
+    let new : Verdict = c.in_ok-verdict.field-0 in
+    record {
+      each = omega (arith, c.in_ok-push.ensures.len, c.loop-location.invariant.each);
+      are = λ o verdict at.
+          elim (got_more old new o verdict (subst (λ xs. slice_get xs o ≡ Some verdict) c.in_ok-push.ensures.items at)) [
+            | inl before ↦ c.loop-location.invariant.are o verdict before
+            | inr last ↦ subst (P o) last.1 (subst (λ n. P n new) (sym (last.0 ∙ c.loop-location.invariant.each)) c.in_ok-verdict.ensures)
+          ];
+    }

@@ -1,0 +1,16 @@
+pub mod Actions
+pub mod Analysis
+pub mod Doing
+pub mod Flow
+pub mod Held
+pub mod InRange
+pub mod Items
+pub mod Labels
+pub mod Laws
+pub mod Lists
+pub mod LockSets
+pub mod Origins
+pub mod Program
+pub mod Racing
+pub mod Reach
+pub mod Verdicts

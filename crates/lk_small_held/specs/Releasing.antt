@@ -1,0 +1,58 @@
+-- Sets of the labels that functions release, as far as they are known.
+use Rattle.std.specs.Prelude.{◌≡◌, ◌-◌, ◌||◌, ◌↔◌, ℕ, Bool, true, false, List, [], Some, length, slice_index_or, slice_set, sum_by}
+use Rattle.lk_small_facts.specs.Flow.{Flow}
+use Rattle.lk_small_facts.specs.Held.{Released, Drops}
+use Rattle.lk_small_facts.specs.Labels.{LabelTable}
+use Rattle.lk_small_facts.specs.Origins.{AreSetsBelow}
+use Rattle.lk_small_facts.specs.Program.{Program, function_at}
+use Rattle.lk_sets.specs.Ids.{has_id, IsSetOf}
+
+-- whether x is in the set at a place
+abbrev pub has_in : List (List ℕ) → ℕ → ℕ → Bool
+has_in sets f x = has_id (slice_index_or sets f []) x
+
+-- by the sets f releases x
+abbrev pub Releases : List (List ℕ) → ℕ → ℕ → Type 0
+Releases sets f x = has_in sets f x ≡ true
+
+-- how many numbers below n the sets may still take
+unfoldable pub room : ℕ → List (List ℕ) → ℕ
+room n sets = sum_by (λ set. n - length set) sets
+
+-- the set at the place has the numbers too, and one of them is new
+pub record Puts (old new : List (List ℕ)) (place : ℕ) (ids : List ℕ) : Type 0 where
+  pub set : List ℕ
+  pub union : IsSetOf (λ x. has_in old place x || has_id ids x) set
+  pub is : new ≡ slice_set old place set
+  pub more : (x : ℕ) × (has_id ids x ≡ true) × (has_in old place x ≡ false)
+
+-- the numbers join the set at the place, which had them all where the answer is false
+pub record Joins (old new : List (List ℕ)) (place : ℕ) (ids : List ℕ) (changed : Bool) : Type 0 where
+  pub puts : changed ≡ true → Puts old new place ids
+  pub same : changed ≡ false → new ≡ old
+  pub had : changed ≡ false → (x : ℕ) → has_id ids x ≡ true → has_in old place x ≡ true
+
+-- a set of labels for each function
+pub record AreSets (program : Program) (labels : LabelTable) (sets : List (List ℕ)) : Type 0 where
+  pub all : length sets ≡ length program.functions
+  pub below : AreSetsBelow (length labels.entries) sets
+
+module _ (program : Program) (labels : LabelTable) (flow : Flow) where
+  -- functions release all that the sets say
+  abbrev pub AreSound : List (List ℕ) → Type 0
+  AreSound sets = (f x : ℕ) → has_in sets f x ≡ true → Released program labels flow f x
+
+  -- the sets still have what they had, and stay sets of labels, and sound
+  pub record Gains (old new : List (List ℕ)) : Type 0 where
+    pub sets : AreSets program labels old → AreSets program labels new
+    pub kept : (f x : ℕ) → has_in old f x ≡ true → has_in new f x ≡ true
+    pub sound : AreSound old → AreSound new
+
+  -- what p releases, by the sets, is in the set of its function
+  abbrev pub HasReleased : ℕ → List (List ℕ) → Type 0
+  HasReleased p sets = (f x : ℕ) → function_at program p ≡ Some f → Drops program labels flow (Releases sets) p x → has_in sets f x ≡ true
+
+  -- each function's set has just what it releases
+  pub record AreReleased (found : List (List ℕ)) : Type 0 where
+    pub sets : AreSets program labels found
+    pub exact : (f x : ℕ) → (has_in found f x ≡ true) ↔ Released program labels flow f x

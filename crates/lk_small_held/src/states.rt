@@ -1,0 +1,79 @@
+//! Sets of locks that shrink, one for each point.
+ghost use Rattle.std.specs.Prelude.{◌≡◌, ◌<◌, ℕ, true, length, IfOk, MatchOption};
+ghost use Rattle.std.specs.List.Sorted.{IsStrictlyIncreasing};
+ghost use Rattle.lk_sets.specs.Ids.{has_id};
+
+use lk_base::NoMemory;
+use lk_sets::IdSet;
+use lk_small_rise::has_all;
+use std::alloc::Global;
+
+/// For each point the locks that are left there.
+#[derive(Drop)]
+pub(crate) struct States {
+    /// All locks.
+    pub locks: IdSet,
+    /// For each point those that are left, or nothing while all are.
+    pub sets: Vec<Option<IdSet>>,
+}
+
+impl States {
+    ghost use Rattle.lk_small_held.specs.States.{set_of, holds, IsLess, Narrows};
+
+    /// The locks that are left at a point.
+    pub(crate) fn at(&self, point: u32) -> &[u32]
+        requires { point < length self.now.sets.items }
+        ensures value { result.now ≡ set_of self.now point }
+        ensures sorted { IsStrictlyIncreasing result.now }
+    {
+        match &self.sets[point as usize] {
+            Some(set) => set.ids(),
+            None => self.locks.ids(),
+        }
+    }
+
+    /// The locks of a point that are in the set too, or nothing where all are.
+    fn left(&self, alloc: Global, point: u32, set: &IdSet) -> Result<Option<IdSet>, NoMemory>
+        requires point { point < length self.now.sets.items }
+        requires sorted { IsStrictlyIncreasing self.now.locks }
+        requires within { (x : ℕ) → has_id set.now x ≡ true → has_id self.now.locks x ≡ true }
+        ensures { IfOk result (λ found. MatchOption found
+            ((x : ℕ) → holds self.now point x ≡ true → has_id set.now x ≡ true)
+            (IsLess self.now point set.now)) }
+    {
+        match &self.sets[point as usize] {
+            None => {
+                let copy = IdSet::from_list(alloc, set.ids())?;
+                Ok(Some(copy))
+            }
+            Some(old) => {
+                if has_all(set, old.ids()) {
+                    return Ok(None);
+                }
+                let met = old.meet(set)?;
+                Ok(Some(met))
+            }
+        }
+    }
+
+    /// Takes away from the locks of a point those that aren't in the set, and answers whether something changed.
+    pub(crate) fn narrow(
+        &mut self,
+        alloc: Global,
+        point: u32,
+        set: &IdSet,
+    ) -> Result<bool, NoMemory>
+        requires point { point < length self.old.sets.items }
+        requires sorted { IsStrictlyIncreasing self.old.locks }
+        requires within { (x : ℕ) → has_id set.now x ≡ true → has_id self.old.locks x ≡ true }
+        ensures { IfOk result (Narrows self.old self.new point set.now) }
+    {
+        match self.left(alloc, point, set)? {
+            None => Ok(false),
+            Some(left) => {
+                self.sets[point as usize] = Some(left);
+                Ok(true)
+            }
+        }
+    }
+}

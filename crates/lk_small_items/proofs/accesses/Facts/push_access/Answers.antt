@@ -1,0 +1,18 @@
+use Rattle.std.proofs.Common.{◌+◌, List, ℕ, length, sym, subst}
+use Rattle.lk_small_facts.specs.Origins.{IsSetBelow}
+use Rattle.lk_small_rise.specs.declared.correlations.Item.{Item}
+use Rattle.lk_sets.specs.Ids.{has_id, IsSetOf}
+use Rattle.lk_small_items.specs.Accesses.{AreAccessesBelow}
+use Rattle.lk_small_items.proofs.AccessLemmas.{accesses_more, accesses_same}
+use Rattle.lk_small_items.proofs.accesses.Facts.push_access.Goals as goal
+
+pub returns-in_ok-push : goal.returns-in_ok-push
+returns-in_ok-push c =
+    let self = c.args.self.now in
+    let below = subst (IsSetBelow (length self.labels.now.entries)) c.at.ensures.value (subst (λ n. IsSetBelow n c.at.result.now) self.held_labels c.at.ensures.in_range) in
+    let members = subst (λ ids. IsSetOf (has_id ids) c.in_ok-locks.locks) c.at.ensures.value c.in_ok-locks.ensures in
+    subst (λ (base : List (Item × List ℕ)). AreAccessesBelow self.points.now self.labels.now self.held.now (c.args.point + 1) base) (sym c.in_ok-push.ensures.items)
+    (accesses_more self.points.now self.labels.now self.held.now c.args.point c.in-Some.item c.in_ok-locks.locks c.args.base.now.items c.requires.point c.in-Some.ensures below members c.requires.base)
+
+pub returns-in_default : goal.returns-in_default
+returns-in_default c = let self = c.args.self.now in accesses_same self.points.now self.labels.now self.held.now c.args.point c.args.base.now.items c.in_default.ensures c.requires.base

@@ -1,0 +1,149 @@
+-- What has risen: from the given items, and when nothing changes any more.
+use Rattle.std.proofs.Common.{◌≡◌, ◌<◌, ◌+◌, ◌||◌, ℕ, Bool, true, false, List, [], Option, Some, None, Contains, length, is_some, refl, sym, ap, ◌∙◌, subst, ⊎_elim, inl, inr, slice_get, below_more}
+use Rattle.std.specs.Option.{option_map_or, unwrap_or}
+use Rattle.std.proofs.lemmas.Bool.{false≢true}
+use Rattle.std.proofs.lemmas.List.Elements.{All-nil}
+use Rattle.std.proofs.lemmas.Map.Entries.{place_from_lookup}
+use Rattle.std.proofs.lemmas.Option.{slice_get_within, slice_get_read, get_or_from_slice_get}
+use Rattle.lk_small_facts.specs.Analysis.{held_table}
+use Rattle.lk_small_facts.specs.Items.{Rises, HasLock}
+use Rattle.lk_small_facts.specs.Origins.{flow_of}
+use Rattle.lk_small_facts.specs.declared.source.Source.TheVariants.{ItemBelow}
+use Rattle.lk_small_facts.specs.declared.way.Way.{Way}
+use Rattle.lk_small_facts.specs.declared.way.Way.TheVariants.{Through}
+use Rattle.lk_small_rise.specs.declared.correlations.Item.{Item}
+use Rattle.lk_small_rise.specs.declared.links.Link.{Link}
+use Rattle.lk_small_rise.specs.Correlations.{is_same, item_of, set_of, has_item, has_lock, locks_of, AreInRange, IsEntryInRange}
+use Rattle.lk_small_rise.specs.Links.{AreLinksBelow}
+use Rattle.lk_small_rise.specs.Rising.{Carries, AreRisen, subjects_below}
+use Rattle.lk_small_rise.specs.Rising.Risen.{based, risen}
+use Rattle.lk_small_rise.specs.Tables.{Setting, Offered, HasRisen, IsCarried, IsSound, Grows, HasPassedAll, HasMetAll, HasBased, above_of}
+use Rattle.lk_small_rise.proofs.ItemLemmas.{same_item}
+use Rattle.lk_small_rise.proofs.LinkLemmas.{rises_within}
+use Rattle.lk_small_rise.proofs.TableLemmas.{item_at_known}
+use Rattle.lk_small_rise.proofs.WorkLemmas.{Fits, offered_works, offered_within}
+use Rattle.lk_sets.specs.Ids.{has_id}
+
+-- a table of no items
+pub none_sound : (s : Setting) → IsSound s []
+none_sound s = record {
+  in_range = All-nil _;
+  items = λ item there. absurd (false≢true there);
+  locks = λ other allowed item y there. absurd (false≢true there);
+}
+
+module _ (s : Setting) (ranged : AreInRange s.program s.labels (subjects_below s.program s.labels s.subjects) s.base) where
+  -- a given item fits
+  base_fits : (i : ℕ) (item : Item) (set : List ℕ) → slice_get s.base i ≡ Some (item, set) → Fits s item set
+  base_fits i item set at =
+      let within = slice_get_within s.base i (item, set) at in
+      let here = get_or_from_slice_get s.base i (item, set) (item, set) at in
+      let contains : Contains s.base (item, set) = (i, within, here) in
+      record {
+        risen = based set contains;
+        locks = λ other allowed y lock. allowed.based item set y contains lock;
+        in_range = subst (IsEntryInRange s.program s.labels (subjects_below s.program s.labels s.subjects)) here (ranged i (item, set) within);
+      }
+
+  -- and is there once it was offered
+  pub base_more : (i : ℕ) (item : Item) (set : List ℕ) (mid new : List (Item × List ℕ)) (changed : Bool) → slice_get s.base i ≡ Some (item, set) →
+      ((k : ℕ) → k < i → HasBased s k mid) → Offered mid new item set changed → Grows s mid new × ((k : ℕ) → k < i + 1 → HasBased s k new)
+  base_more i item set mid new changed at before offered =
+      let works = offered_works s mid new item set changed (base_fits i item set at) offered in (
+        works.grows,
+        below_more (λ k. HasBased s k new) i
+            (λ k below other its there.
+            let had = before k below other its there in
+            (works.grows.kept other had.0, λ y lock. had.1 y (works.grows.fewer other y had.0 lock)))
+            (λ other its there.
+            let entry : (item, set) ≡ (other, its) = ap (λ o. unwrap_or o (item, set)) (sym at ∙ there) in
+            subst (λ e. (has_item new e.0 ≡ true) × ((y : ℕ) → has_lock new e.0 y ≡ true → has_id e.1 y ≡ true)) entry (works.present, offered_within s mid new item set changed offered)),
+      )
+
+-- a given item stays there, with no more locks
+pub stays_based : (s : Setting) (i : ℕ) (older newer : List (Item × List ℕ)) → Grows s older newer → HasBased s i older → HasBased s i newer
+stays_based s i older newer grows had item set at =
+    let here = had item set at in
+    (grows.kept item here.0, λ y lock. here.1 y (grows.fewer item y here.0 lock))
+
+-- a table in which all items have risen, and nothing changes any more
+module _ (s : Setting) (links : List Link) (entries : List (Item × List ℕ)) (are : AreLinksBelow s.program s.labels (flow_of s.origins) (length s.program.points) links) (sound : IsSound s entries)
+    (there : (i : ℕ) → i < length s.base → HasBased s i entries) (passed : (k : ℕ) → k < length entries → HasPassedAll s links k entries) (met : (k : ℕ) → k < length entries → HasMetAll s links k entries) where
+  -- what holds of each link holds of all that rises
+  by_link : (P : (p f g : ℕ) (way : Way) (child above : Bool) → Type 0) →
+      ((j : ℕ) (link : Link) → slice_get links j ≡ Some link → (child : Bool) → P link.point link.above link.below (Through link.site) child (child || link.starts)) →
+      (p f g : ℕ) (way : Way) (child above : Bool) → Rises s.program s.labels (flow_of s.origins) p f way g child above → P p f g way child above
+  by_link P each p f g way child above rises =
+      let found = are.all p f g way child above (rises_within s.program s.labels (flow_of s.origins) p f g way child above rises) rises in
+      let link = found.1 in
+      let at = found.2 in
+      let same = (are.each found.0 link at).only f g way child above (subst (λ q. Rises s.program s.labels (flow_of s.origins) q f way g child above) (sym found.3) rises) in
+      subst (λ q. P q f g way child above) found.3
+      (subst (λ h. P link.point h g way child above) (sym same.0)
+      (subst (λ h. P link.point link.above h way child above) (sym same.1)
+      (subst (λ w. P link.point link.above link.below w child above) (sym same.2)
+      (subst (λ b. P link.point link.above link.below (Through link.site) child b) (sym same.3)
+      (each found.0 link at child)))))
+
+  -- an item stands somewhere
+  place : (item : Item) → has_item entries item ≡ true → (k : ℕ) × (set : List ℕ) × (slice_get entries k ≡ Some (item, set)) × (set_of entries item ≡ Some set)
+  place item has = known (set_of entries item) refl has
+    where
+      known : (o : Option (List ℕ)) → set_of entries item ≡ o → is_some o ≡ true → (k : ℕ) × (set : List ℕ) × (slice_get entries k ≡ Some (item, set)) × (set_of entries item ≡ Some set)
+      known None is some = absurd (false≢true some)
+      known (Some set) is some =
+          let found = place_from_lookup (is_same item) entries set is in
+          (found.0, set, subst (λ other. slice_get entries found.0 ≡ Some (other, set)) (sym (same_item item found.1 found.3)) found.2, is)
+
+  -- items above the items are there
+  passed_on : (j : ℕ) (link : Link) → slice_get links j ≡ Some link → (child : Bool) (t x a : ℕ) → has_item entries (item_of link.below child t a) ≡ true →
+      Carries (flow_of s.origins) s.subjects (Through link.site) t x → has_item entries (item_of link.above (child || link.starts) x a) ≡ true
+  passed_on j link at child t x a has carried =
+      let item = item_of link.below child t a in
+      let here = place item has in
+      let up = passed here.0 (slice_get_within entries here.0 (item, here.1) here.2) j (slice_get_within links j link at) link at in
+      let same : up.0 ≡ item = ap (λ o. unwrap_or o item) (sym up.1 ∙ item_at_known entries here.0 item here.1 here.2) in
+      subst (λ (other : Item). IsCarried s link other x → has_item entries (above_of link other x) ≡ true) same (up.2 (ap (λ (i : Item). i.function) same) x) carried
+
+  -- so each item that has risen is there
+  has_risen : {f t a : ℕ} {child : Bool} → HasRisen s (item_of f child t a) → has_item entries (item_of f child t a) ≡ true
+  has_risen {f} {t} {a} {child} (based set contains) = (there contains.0 contains.1 (item_of f child t a) set (slice_get_read s.base _ contains.0 (item_of f child t a, set) refl contains.1 (sym contains.2))).0
+  has_risen (risen {p} {f} {g} {s = t} {x} {a} {way} {child} {above} rises below carried) =
+      by_link (λ p f g way child above. has_item entries (item_of g child t a) ≡ true → Carries (flow_of s.origins) s.subjects way t x → has_item entries (item_of f above x a) ≡ true)
+      (λ j link at child has carried. passed_on j link at child t x a has carried)
+      p f g way child above rises (has_risen below) carried
+
+  -- and has no more locks than those with which it rises
+  met_on : (j : ℕ) (link : Link) → slice_get links j ≡ Some link → (child : Bool) (t x a y : ℕ) → has_item entries (item_of link.below child t a) ≡ true →
+      Carries (flow_of s.origins) s.subjects (Through link.site) t x → has_lock entries (item_of link.above (child || link.starts) x a) y ≡ true →
+      HasLock s.program s.labels (flow_of s.origins) (held_table s.held) (locks_of entries) link.point (ItemBelow (Through link.site) link.below child t) (child || link.starts) a y
+  met_on j link at child t x a y has carried lock =
+      let item = item_of link.below child t a in
+      let here = place item has in
+      let up = met here.0 (slice_get_within entries here.0 (item, here.1) here.2) j (slice_get_within links j link at) link at item here.1 here.2 refl x y carried lock in
+      ⊎_elim
+      (λ from. inl (from.0, ap (λ o. option_map_or (λ set. has_id set from.0) o false) here.3 ∙ from.1, from.2))
+      (λ kept. inr kept)
+      up
+
+  pub rise_is : AreRisen s.program s.labels (flow_of s.origins) (Carries (flow_of s.origins) s.subjects) s.base (held_table s.held) entries
+  rise_is = record {
+    exact = λ f child t a. (λ has. sound.items (item_of f child t a) has, λ rose. has_risen rose);
+    within = record {
+      based = λ f child t a y set contains lock.
+          (there contains.0 contains.1 (item_of f child t a) set (slice_get_read s.base _ contains.0 (item_of f child t a, set) refl contains.1 (sym contains.2))).1 y lock;
+      risen = λ p f g t x a y way child above rises has carried lock.
+          by_link
+          (λ p f g way child above. has_item entries (item_of g child t a) ≡ true → Carries (flow_of s.origins) s.subjects way t x → has_lock entries (item_of f above x a) y ≡ true →
+          HasLock s.program s.labels (flow_of s.origins) (held_table s.held) (locks_of entries) p (ItemBelow way g child t) above a y)
+          (λ j link at child. met_on j link at child t x a y)
+          p f g way child above rises has carried lock;
+    };
+    greatest = λ other allows f child t a y has lock.
+        sound.locks other
+        (record {
+          based = λ item set z contains there. allows.based item.function item.child item.subject item.access z set contains there;
+          risen = λ p f g t x a z way child above rises below carried there. allows.risen p f g t x a z way child above rises (has_risen below) carried there;
+        })
+        (item_of f child t a) y has lock;
+  }

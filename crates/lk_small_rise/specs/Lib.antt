@@ -1,0 +1,5 @@
+pub mod Correlations
+pub mod Links
+pub mod Only
+pub mod Rising
+pub mod Tables

@@ -1,0 +1,123 @@
+//! What stands at the limits, and one past them.
+
+use crate::runs::{is_read, run_on, run_over};
+use lk_base::Status;
+use lk_io::MemShelf;
+use std::alloc::Global;
+use std::test::Fail;
+
+/// How many statements stand in the first and the second block of a function and in a loop of `main`, and whether
+/// so many are read.
+const COUNTED: &[(usize, usize, usize, bool)] = &[
+    (1999, 1000, 999, true),
+    (2000, 1000, 999, false),
+    (1999, 1001, 999, false),
+    (1999, 1000, 1000, false),
+];
+
+#[test]
+fn statements_in_blocks_are_counted(rt: HostRuntime) -> Result<(), Fail> {
+    let alloc = rt.alloc();
+    for (first, second, body, accepted) in COUNTED {
+        let [first, second, body] = [first, second, body].map(|count| *count);
+        let first = "n=1;".repeat(alloc, first)?;
+        let second = "n=1;".repeat(alloc, second)?;
+        let body = "n=1;".repeat(alloc, body)?;
+        let source = format!(in alloc;
+            "int n; void f(void) {{ if (n) {{{first}}} else {{{second}}} }} int main(void) {{ while (n) {{{body}}} return 0; }}"
+        )?;
+        assert!(&rt; is_read(&rt, alloc, &source)? == *accepted);
+    }
+    Ok(())
+}
+
+/// How many blocks stand inside one another, and whether so many are read.
+const BLOCKS: &[(usize, bool)] = &[(0, true), (25, true), (26, false), (2500, false)];
+
+#[test]
+fn at_most_fifty_blocks_stand_inside_one_another(rt: HostRuntime) -> Result<(), Fail> {
+    let alloc = rt.alloc();
+    for (pairs, accepted) in BLOCKS {
+        let opened = "while (n) { if (n) { } else { ".repeat(alloc, *pairs)?;
+        let closed = "} } ".repeat(alloc, *pairs)?;
+        let in_main = format!(in alloc; "int n; int main(void) {{ {opened}{closed} return 0; }}")?;
+        let in_function = format!(in alloc;
+            "int n; void f(void) {{ {opened}{closed} }} int main(void) {{ return 0; }}"
+        )?;
+        for source in [&in_main, &in_function] {
+            assert!(&rt; is_read(&rt, alloc, source)? == *accepted, "{pairs}");
+        }
+    }
+    Ok(())
+}
+
+#[test]
+fn names_have_at_most_255_bytes(rt: HostRuntime) -> Result<(), Fail> {
+    let alloc = rt.alloc();
+    for (count, accepted) in [(255, true), (256, false)] {
+        let name = "n".repeat(alloc, count)?;
+        let source = format!(in alloc; "int {name}; int main(void) {{ return 0; }}")?;
+        assert!(&rt; is_read(&rt, alloc, &source)? == accepted, "{count}");
+    }
+    Ok(())
+}
+
+/// A program of so many variables, whose thread function and main each assign every one of them.
+fn wide_program(alloc: Global, variables: u32) -> Result<String, Fail> {
+    let mut declared = String::new(alloc);
+    let mut assigned = String::new(alloc);
+    for number in 0..variables {
+        write!(&mut declared, "int v{number};\n")?;
+        write!(&mut assigned, "v{number} = 1;\n")?;
+    }
+    let source = format!(in alloc;
+        "{declared}pthread_t t;\nvoid *w(void *q) {{\n{assigned}return 0; }}\nint main(void) {{\npthread_create(&t, 0, w, 0);\n{assigned}return 0; }}\n"
+    )?;
+    Ok(source)
+}
+
+#[test]
+fn the_largest_programs_are_reported(rt: HostRuntime) -> Result<(), Fail> {
+    let ran = run_on(rt.alloc(), &wide_program(rt.alloc(), 1999)?)?;
+    assert!(&rt; ran.status == Status::Suspects);
+    let end = b"total 2000, guarded 0, unshared 1, suspect 1999\n";
+    assert!(&rt; ran.out.bytes().ends_with(end.as_slice()));
+    assert!(&rt; !is_read(&rt, rt.alloc(), &wide_program(rt.alloc(), 2000)?)?);
+    Ok(())
+}
+
+#[test]
+fn at_most_4000_names_stand_at_file_scope(rt: HostRuntime) -> Result<(), Fail> {
+    let alloc = rt.alloc();
+    for (count, accepted) in [(4000, true), (4001, false)] {
+        let mut source = String::new(alloc);
+        for number in 0..count {
+            write!(&mut source, "int n{number};\n")?;
+        }
+        source.push_str("int main(void) { return 0; }")?;
+        assert!(&rt; is_read(&rt, alloc, &source)? == accepted, "{count}");
+    }
+    Ok(())
+}
+
+#[test]
+fn a_source_has_at_most_a_mebibyte(rt: HostRuntime) -> Result<(), Fail> {
+    let alloc = rt.alloc();
+    let program = "int main(void) { return 0; }";
+    let mut source = " ".repeat(alloc, 1_048_576 - program.len())?;
+    source.push_str(program)?;
+    assert!(&rt; run_on(alloc, &source)?.status == Status::Clean);
+    source.push(' ')?;
+    let ran = run_on(alloc, &source)?;
+    assert!(&rt; ran.status == Status::Refused);
+    assert!(&rt; ran.err.bytes() == b"r.c:1:1: refused 15 TooLong\n".as_slice());
+    Ok(())
+}
+
+#[test]
+fn an_empty_word_is_no_file(rt: HostRuntime) -> Result<(), Fail> {
+    let mut shelf = MemShelf::new(rt.alloc());
+    let ran = run_over(rt.alloc(), &["check", ""], &mut shelf)?;
+    assert!(&rt; ran.status == Status::Usage && ran.out.bytes().is_empty());
+    Ok(())
+}

@@ -1,0 +1,44 @@
+//! Whole commands over a shelf in memory.
+
+use lk_base::Status;
+use lk_io::{MemShelf, MemSink};
+use lk_top::run;
+use std::alloc::Global;
+use std::process::Abort;
+use std::test::Fail;
+
+/// What a run left.
+#[derive(Drop)]
+pub struct Ran {
+    pub status: Status,
+    pub out: MemSink,
+    pub err: MemSink,
+}
+
+/// Runs these words over a shelf, with ample room for output.
+pub fn run_over(alloc: Global, words: &[&str], shelf: &mut MemShelf) -> Result<Ran, Fail> {
+    let mut strings = Vec::new(alloc);
+    for word in words {
+        strings.push(String::from_str(alloc, word)?)?;
+    }
+    let mut out = MemSink::with_room(alloc, 1 << 20, 1 << 20)?;
+    let mut err = MemSink::with_room(alloc, 1000, 1000)?;
+    let status = run(alloc, &strings, shelf, &mut out, &mut err);
+    Ok(Ran { status, out, err })
+}
+
+/// Runs `check` on one file of this text.
+pub fn run_on(alloc: Global, text: &str) -> Result<Ran, Fail> {
+    let mut shelf = MemShelf::new(alloc);
+    shelf.put("r.c", text.as_bytes())?;
+    run_over(alloc, &["check", "r.c"], &mut shelf)
+}
+
+/// Whether a source has verdicts, or is refused as not of the form.
+pub fn is_read(rt: &impl Abort, alloc: Global, text: &str) -> Result<bool, Fail> {
+    let ran = run_on(alloc, text)?;
+    let refused = ran.status == Status::Refused;
+    assert!(rt; !refused || ran.err.bytes() == b"r.c:1:1: refused 19 Form\n".as_slice());
+    assert!(rt; refused || ran.status == Status::Clean || ran.status == Status::Suspects);
+    Ok(!refused)
+}
