@@ -1,6 +1,5 @@
 -- Whether the path of a node goes into no array, from what is left of the path.
-use Rattle.std.proofs.Common.{◌≡◌, ◌∙◌, ◌<◌, ◌↔◌, ℕ, zero, suc, List, [], ◌∷◌, refl, sym, ap, subst, Option, Some, None, get_or}
-use Rattle.std.specs.List.{slice_get}
+use Rattle.std.proofs.Common.{◌≡◌, ◌∙◌, ◌↔◌, ℕ, suc, List, ◌∷◌, refl, sym, ap, subst, Some, get_or}
 use Rattle.std.specs.Option.{option_map}
 use Rattle.std.proofs.lemmas.Option.{none-some, same_Some, slice_get-get_or}
 use Rattle.lk_types.specs.Building.{IsTable}

@@ -1,19 +1,18 @@
 -- The table of the predeclared types.
-use Rattle.std.proofs.Common.{◌≡◌, ◌∙◌, ◌≤◌, ◌<◌, ◌+◌, ◌++◌, ℕ, zero, suc, Bool, true, false, List, [], ◌∷◌, length, refl, sym, ap, subst, arith, All, Option, Some, None, take}
-use Rattle.std.specs.List.{slice_get, list_all, range_with_len}
+use Rattle.std.proofs.Common.{◌≡◌, ◌∙◌, ◌<◌, ◌+◌, ◌++◌, ℕ, zero, suc, Bool, true, false, List, [], ◌∷◌, length, refl, sym, ap, subst, arith, Some, take}
+use Rattle.std.specs.List.{slice_get, range_with_len}
 use Rattle.std.specs.Prelude.{nat_eq, ◌&&◌, unwrap_or}
 use Rattle.std.proofs.lemmas.Bool.{and_parts, eqb-true, false≢true}
 use Rattle.std.proofs.lemmas.List.Elements.{All-nil}
 use Rattle.std.proofs.lemmas.Option.{none-some, same_Some, slice_get_within}
-use Rattle.lk_types.specs.Building.{IsForm, IsTable, IsLonger, IsPart, ArePartsOf}
+use Rattle.lk_types.specs.Building.{IsForm, IsTable, IsPart}
 use Rattle.lk_types.specs.Equal.{IsAlike}
 use Rattle.lk_types.specs.Equal.IsEqualBut.{same, pointers, arrays, functions}
 use Rattle.lk_types.specs.Kept.{table_of, AreKept}
 use Rattle.lk_types.specs.Laws.{PredeclaredStay}
 use Rattle.lk_types.specs.Predeclared.{predeclared, first_table, kind_id}
-use Rattle.lk_types.specs.Sizes.{form_size, start_size, is_too_large}
-use Rattle.lk_types.specs.Table.{Table, least_of, type_at, IsKnown}
-use Rattle.lk_types.specs.Walks.{is_void}
+use Rattle.lk_types.specs.Sizes.{form_size, is_too_large}
+use Rattle.lk_types.specs.Table.{Table, least_of, IsKnown}
 use Rattle.lk_types.specs.declared.c_type.CType.{CType}
 use Rattle.lk_types.specs.declared.c_type.CType.TheVariants.{Void, Int, ThreadId, Mutex, Cond, Pointer, Array, Struct, Function, Opaque}
 use Rattle.lk_types.specs.declared.member.StructMember.{StructMember}

@@ -1,5 +1,5 @@
 -- The nodes to which steps lead.
-use Rattle.std.proofs.Common.{◌≡◌, ◌∙◌, ◌≤◌, ◌<◌, ◌+◌, ◌-◌, ◌↔◌, ℕ, zero, suc, Bool, true, false, List, [], ◌∷◌, ◌++◌, length, map, refl, sym, ap, subst, arith, All, Option, Some, None, get_or, take, length-append}
+use Rattle.std.proofs.Common.{◌≡◌, ◌∙◌, ◌≤◌, ◌<◌, ◌+◌, ◌-◌, ℕ, zero, suc, Bool, true, false, List, [], ◌∷◌, ◌++◌, length, map, refl, sym, ap, subst, arith, All, Option, Some, None, get_or, take, length-append}
 use Rattle.std.specs.List.{flat_map, slice_get}
 use Rattle.std.specs.Option.{option_map}
 use Rattle.std.specs.Prelude.{unwrap_or}
@@ -10,25 +10,24 @@ use Rattle.std.proofs.lemmas.List.Elements.{All-head, All-tail}
 use Rattle.lk_types.specs.declared.member.StructMember.{StructMember}
 use Rattle.lk_types.specs.Building.{IsTable, IsMadeOf, types_of}
 use Rattle.lk_types.specs.Equal.IsEqualBut.{same}
-use Rattle.lk_types.specs.Nodes.{Node, IsNode, IsBase, node_of, entry_of, first, base_type, along, step, target_of, element_of, field_of}
+use Rattle.lk_types.specs.Nodes.{IsNode, IsBase, node_of, entry_of, first, base_type}
 use Rattle.lk_types.specs.Places.{entry_at, is_node, branch_of, IsSamePart, IsInPart, nodes_before, nodes_of_all}
-use Rattle.lk_types.specs.Sizes.{nodes_of, steps_of, size_at, is_too_large}
+use Rattle.lk_types.specs.Sizes.{nodes_of, steps_of, size_at}
 use Rattle.lk_types.specs.Table.{Table, type_at, least_of, fields_of, members_of, IsKnown}
-use Rattle.lk_types.specs.Walks.{Branch, Entry, at_branch, under, start, nodes, target, element, field, fields, branches, below_start, has_tag}
+use Rattle.lk_types.specs.Walks.{Branch, Entry, at_branch, under, start, nodes, target, element, field, fields, branches, has_tag}
 use Rattle.lk_types.specs.declared.c_type.CType.{CType}
 use Rattle.lk_types.specs.declared.c_type.CType.TheVariants.{Void, Int, ThreadId, Mutex, Cond, Pointer, Array, Struct, Function, Opaque}
 use Rattle.lk_types.specs.declared.node.Base.{Base}
 use Rattle.lk_types.specs.declared.node.Base.TheVariants.{Start, Tag}
 use Rattle.lk_types.specs.declared.node.NodeId.{NodeId}
 use Rattle.lk_types.specs.declared.node.Sel.{Sel}
-use Rattle.lk_types.specs.declared.node.Sel.TheVariants.{Target, Element, Field, Part}
-use Rattle.lk_types.proofs.AlikeLemmas.{form_there}
+use Rattle.lk_types.specs.declared.node.Sel.TheVariants.{Target, Element, Field}
 use Rattle.lk_types.proofs.Fuel.{few_of}
 use Rattle.lk_types.proofs.KeptLemmas.{small_at}
 use Rattle.lk_types.proofs.PartLemmas.{target_by}
 use Rattle.lk_types.proofs.PathLemmas.{entry_got}
 use Rattle.lk_types.proofs.PlaceLemmas.{Stands, here, later, inside_is}
-use Rattle.lk_types.proofs.SubwalkLemmas.{first_of, first_entry, out_of_part, in_part, subwalk, split, below}
+use Rattle.lk_types.proofs.SubwalkLemmas.{first_of, first_entry, out_of_part, subwalk, split}
 
 tag_alone : (k : ℕ) (e : Entry) → e.tag ≡ true → option_map (λ e. e.tag) (slice_get (e ∷ []) k) ≡ Some false → ⊥
 tag_alone zero e tagged is = false≢true (sym (same_Some e.tag false is) ∙ tagged)

@@ -1,15 +1,10 @@
 -- Where the walks of parts stand in the walk of a type.
-use Rattle.std.proofs.Common.{◌≡◌, ◌∙◌, ◌≤◌, ◌<◌, ◌+◌, ◌⊎◌, inl, inr, ℕ, zero, suc, Bool, true, false, List, [], ◌∷◌, ◌++◌, length, map, refl, sym, ap, subst, arith, All, length-append, Option, Some, None, take, sum, append_assoc}
+use Rattle.std.proofs.Common.{◌≡◌, ◌∙◌, ◌+◌, ◌⊎◌, inl, inr, ℕ, zero, suc, Bool, true, false, List, [], ◌∷◌, ◌++◌, length, map, refl, sym, ap, arith, Option, Some, None}
 use Rattle.std.specs.List.{flat_map, slice_get}
 use Rattle.std.specs.Option.{option_map}
-use Rattle.std.proofs.lemmas.Bool.{false≢true}
-use Rattle.std.proofs.lemmas.List.{length-map}
 use Rattle.std.proofs.lemmas.List.Elements.{All-head, All-tail}
-use Rattle.std.proofs.lemmas.Option.{none-some, same_Some, slice_get-map, slice_get_within}
-use Rattle.lk_types.specs.Table.{Table, type_at, fields_of}
-use Rattle.lk_types.specs.Walks.{Branch, Entry, at_branch, under, start, nodes, field, fields, branches, below_start}
-use Rattle.lk_types.specs.Sizes.{nodes_of}
-use Rattle.lk_types.specs.declared.node.Sel.{Sel}
+use Rattle.std.proofs.lemmas.Option.{none-some, same_Some, slice_get-map}
+use Rattle.lk_types.specs.Walks.{Branch, Entry, at_branch, under}
 use Rattle.lk_types.proofs.Entries.{OfParts}
 
 -- the entries of a part begin at this place below a Start

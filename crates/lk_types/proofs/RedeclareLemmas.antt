@@ -1,10 +1,10 @@
 -- When types are equal but for absent sizes, by what they are made of.
-use Rattle.std.proofs.Common.{◌≡◌, ◌∙◌, ◌≤◌, ◌<◌, ◌+◌, ◌↔◌, ℕ, zero, suc, Bool, List, [], ◌∷◌, length, refl, sym, ap, subst, arith, All, Option, Some, None, take, max, get_or}
+use Rattle.std.proofs.Common.{◌≡◌, ◌∙◌, ◌≤◌, ◌<◌, ◌+◌, ◌↔◌, ℕ, zero, suc, Bool, List, [], ◌∷◌, length, refl, sym, ap, subst, arith, All, Some, take, max}
 use Rattle.std.specs.List.{slice_get}
 use Rattle.std.proofs.lemmas.List.Elements.{All-head, All-tail, All-weaker}
-use Rattle.std.proofs.lemmas.Option.{none-some, same_Some, slice_get-get_or}
+use Rattle.std.proofs.lemmas.Option.{none-some, same_Some}
 use Rattle.lk_types.specs.Building.{IsMadeOf}
-use Rattle.lk_types.specs.Equal.{IsEqualBut, AreEqualBut, SizesOrNone, IsRedeclarable, AreMadeAlike}
+use Rattle.lk_types.specs.Equal.{AreEqualBut, SizesOrNone, IsRedeclarable, AreMadeAlike}
 use Rattle.lk_types.specs.Equal.IsEqualBut.{same, pointers, arrays, functions}
 use Rattle.lk_types.specs.Equal.AreEqualBut.{none, more}
 use Rattle.lk_types.specs.Table.{Table, IsKnown, HasKnown}

@@ -1,8 +1,8 @@
 -- How a table grows, and what holds in each table.
-use Rattle.std.specs.Prelude.{ℕ, ◌≡◌, ◌≢◌, ◌↔◌, ◌<◌, ◌≤◌, Bool, true, false, List, [], ◌∷◌, ◌++◌, map, length, All, slice_get, slice_set, Some, if◌then◌else◌, ⊤, nat_eq}
-use Rattle.lk_types.specs.Table.{Table, type_at, members_of, least_of, is_open, is_complete, is_empty, fields_of, IsKnown, HasKnown}
+use Rattle.std.specs.Prelude.{ℕ, ◌≡◌, ◌↔◌, ◌<◌, ◌≤◌, true, false, List, [], ◌∷◌, ◌++◌, map, length, All, slice_get, slice_set, Some, ⊤}
+use Rattle.lk_types.specs.Table.{Table, type_at, members_of, least_of, is_open, is_complete, is_empty, IsKnown}
 use Rattle.lk_types.specs.Walks.{Branch, branches, holds_struct, is_void}
-use Rattle.lk_types.specs.Sizes.{form_size, fields_size, is_too_large, size_at, steps_of}
+use Rattle.lk_types.specs.Sizes.{form_size, fields_size, is_too_large}
 use Rattle.lk_types.specs.Equal.{IsAlike}
 use Rattle.lk_types.specs.declared.c_type.CType.{CType}
 use Rattle.lk_types.specs.declared.c_type.CType.TheVariants.{Void, Int, ThreadId, Mutex, Cond, Pointer, Array, Struct, Function, Opaque}

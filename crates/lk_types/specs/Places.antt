@@ -1,5 +1,5 @@
 -- Places in walks.
-use Rattle.std.specs.Prelude.{ℕ, ◌≡◌, ◌<◌, ◌≤◌, ◌+◌, zero, suc, Bool, false, List, [], ◌∷◌, Option, None, Some, true, length, slice_get, take}
+use Rattle.std.specs.Prelude.{ℕ, ◌≡◌, ◌<◌, ◌≤◌, ◌+◌, suc, false, List, [], ◌∷◌, Option, None, Some, true, length, slice_get, take}
 use Rattle.std.specs.Option.{option_map}
 use Rattle.lk_types.specs.Nodes.{Node, along, target_of, element_of, field_of, IsBase}
 use Rattle.lk_types.specs.Table.{Table, type_at, fields_of, IsKnown}

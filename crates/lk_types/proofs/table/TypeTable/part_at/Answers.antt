@@ -1,4 +1,4 @@
-use Rattle.std.proofs.Common.{◌≡◌, ◌∙◌, ◌+◌, [], ◌∷◌, Some, None, false, true, Bool, refl, suc, ap, arith, sym, subst}
+use Rattle.std.proofs.Common.{◌≡◌, ◌∙◌, ◌+◌, Some, refl, suc, ap, arith, subst}
 use Rattle.lk_types.specs.Building.{IsMadeOf}
 use Rattle.lk_types.specs.Places.{entry_at, is_node, branch_of}
 use Rattle.lk_types.specs.declared.node.Sel.TheVariants.{Element}
