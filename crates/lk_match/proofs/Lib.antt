@@ -1,3 +1,3 @@
 pub mod LevelLemmas
-pub mod SiteLemmas
+pub mod KeyLemmas
 pub mod SummaryLemmas

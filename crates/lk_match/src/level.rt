@@ -10,6 +10,7 @@ ghost use Rattle.lk_match.specs.Levels.{IsPassedOn, AreSound, AreClosed};
 ghost use Rattle.lk_match.specs.Summaries.{IsSummaryWithin, summary_of};
 ghost use Rattle.lk_sets.specs.declared.spread.Arrow.{Arrow};
 
+use crate::order::in_order;
 use crate::summary::{SummaryEdge, summaries};
 use lk_base::NoMemory;
 use lk_facts::{Edge, Labels};
@@ -83,19 +84,17 @@ fn put_summary(summary: &SummaryEdge, rows: &mut BitRows) -> bool
 }
 
 /// An arrow back for each summary edge to a label that isn't global, so that what is reached from its end is reached
-/// from where it begins. They stand in both orders, so that a chain is passed on in one round.
+/// from where it begins.
 fn arrows(alloc: Global, found: &[SummaryEdge], labels: &Labels) -> Result<Vec<Arrow>, NoMemory>
     requires { All (IsSummaryWithin (length labels.now.entries)) found.now }
     ensures { IfOk result (λ arrows. (x : Arrow) → Contains arrows.items x ↔ IsGiven (IsPassedOn (is_global_at labels.now)) found.now x) }
 {
     let mut arrows = Vec::new(alloc);
-    for index in (0..found.len()).rev() {
-        push_arrow(&found[index], labels, &mut arrows)?;
-    }
     for summary in found {
         push_arrow(summary, labels, &mut arrows)?;
     }
-    Ok(arrows)
+    let ordered = in_order(alloc, labels.count(), arrows)?;
+    Ok(ordered)
 }
 
 /// Puts the arrow of a summary edge behind the others, unless it ends at a global label.

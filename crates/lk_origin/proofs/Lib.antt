@@ -1,4 +1,3 @@
-pub mod ArrowLemmas
 pub mod CrossingLemmas
 pub mod FlowLemmas
 pub mod TakeLemmas

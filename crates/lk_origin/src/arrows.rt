@@ -9,14 +9,14 @@ ghost use Rattle.lk_sets.specs.declared.spread.Arrow.{Arrow};
 
 use lk_base::NoMemory;
 use lk_facts::{Edge, Mark};
-use lk_match::{Side, SummaryEdge};
+use lk_match::{Side, SummaryEdge, in_order};
 use lk_sets::Arrow;
 use std::alloc::Global;
 
-/// An arrow for each summary edge, and for each edge that passes a site this way. They stand in both orders, so that a
-/// chain is passed on in one round.
+/// An arrow for each summary edge, and for each edge that passes a site this way, among so many labels.
 pub(crate) fn arrows(
     alloc: Global,
+    count: u32,
     summaries: &[SummaryEdge],
     edges: &[Edge],
     side: Side,
@@ -27,8 +27,8 @@ pub(crate) fn arrows(
     for edge in edges {
         push_passing(edge, side, &mut arrows)?;
     }
-    push_reversed(&mut arrows)?;
-    Ok(arrows)
+    let ordered = in_order(alloc, count, arrows)?;
+    Ok(ordered)
 }
 
 /// An arrow for each summary edge.
@@ -75,14 +75,4 @@ fn passes(side: Side, mark: Mark) -> bool
         Mark::Enter(_) => side == Side::Into,
         Mark::Leave(_) => side == Side::OutOf,
     }
-}
-
-/// Puts the same arrows behind themselves, the last one first.
-fn push_reversed(arrows: &mut Vec<Arrow>) -> Result<(), NoMemory>
-    ensures { OnOk result ((x : Arrow) → Contains arrows.new.items x ↔ Contains arrows.old.items x) }
-{
-    for index in (0..arrows.len()).rev() {
-        arrows.push(arrows[index])?;
-    }
-    Ok(())
 }

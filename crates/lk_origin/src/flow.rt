@@ -33,8 +33,8 @@ pub fn origins(
 {
     prove!(levels.size() == labels.count());
     let found = summaries(alloc, edges, levels, labels)?;
-    let rising = arrows(alloc, &found, edges, Side::OutOf)?;
-    let falling = arrows(alloc, &found, edges, Side::Into)?;
+    let rising = arrows(alloc, labels.count(), &found, edges, Side::OutOf)?;
+    let falling = arrows(alloc, labels.count(), &found, edges, Side::Into)?;
     let mut inner = starts(alloc, labels)?;
     let mut all = BitRows::new(alloc, labels.count())?;
     while flow(alloc, &rising, &falling, labels, &mut inner, &mut all)? {}

@@ -13,7 +13,7 @@ loop-edge-preserved c =
 pub returns : goal.returns
 returns c = λ x.
     let adds = adds_each_all (IsArrow c.args.side) c.args.edges.now c.loop-edge.edge-index c.loop-edge-test.false c.loop-edge.invariant in
-    let twice = c.in_ok-push_reversed.ensures x in (
-      λ h. elim ((adds.members x).0 (twice.0 h)) [ inl along ↦ inl ((c.in_ok-arrows.ensures x).0 along) | inr passing ↦ inr passing ],
-      λ h. twice.1 ((adds.members x).1 (elim h [ inl along ↦ inl ((c.in_ok-arrows.ensures x).1 along) | inr passing ↦ inr passing ])),
+    let same = c.in_ok-ordered.ensures x in (
+      λ h. elim ((adds.members x).0 (same.0 h)) [ inl along ↦ inl ((c.in_ok-arrows.ensures x).0 along) | inr passing ↦ inr passing ],
+      λ h. same.1 ((adds.members x).1 (elim h [ inl along ↦ inl ((c.in_ok-arrows.ensures x).1 along) | inr passing ↦ inr passing ])),
     )

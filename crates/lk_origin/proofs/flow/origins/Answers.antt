@@ -9,7 +9,7 @@ use Rattle.lk_origin.proofs.flow.origins.Goals as goal
 pub loop-all-init : goal.loop-all-init
 loop-all-init c = record {
   inner_size = c.in_ok-inner.ensures.size;
-  all_size = c.in_ok-all.ensures.size ∙ c.count-2.ensures.value;
+  all_size = c.in_ok-all.ensures.size ∙ c.count-4.ensures.value;
   starts = c.in_ok-inner.ensures.origins;
   sound = sound_start c.args.edges.now c.args.labels.now c.in_ok-inner.inner c.in_ok-all.all c.in_ok-inner.ensures.alone c.in_ok-all.ensures.empty;
 }
