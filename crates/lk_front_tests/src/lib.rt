@@ -5,3 +5,5 @@
 mod lex;
 #[cfg(test)]
 mod texts;
+#[cfg(test)]
+mod words;
