@@ -1,6 +1,5 @@
 -- Labels (LOCKSMITH: a label for each level of each type): what pointers may point to, and in which order labels stand.
-use Rattle.std.specs.Prelude.{◌≡◌, ◌↔◌, ◌<◌, ◌⊎◌, ℕ, Bool, true, false, not, ◌&&◌, List, [], ◌∷◌, ◌++◌, map, filter_map, length, slice_get, Option, Some, Contains, MatchOption, min, ◌-◌, ◌^◌, nat_eq, ⊤}
-use Rattle.std.specs.List.{list_all}
+use Rattle.std.specs.Prelude.{◌≡◌, ◌↔◌, ◌<◌, ◌⊎◌, ℕ, Bool, true, false, not, List, [], ◌∷◌, ◌++◌, map, filter_map, length, slice_get, Option, Some, Contains, AllPairs, MatchOption, min, ◌-◌, ◌^◌, nat_eq, ⊤}
 use Rattle.std.specs.Option.{option_map_or}
 use Rattle.lk_facts.specs.Labels.{LabelTable}
 use Rattle.lk_facts.specs.Places.{AreDifferent, IsMissing}
@@ -14,12 +13,11 @@ use Rattle.lk_facts.specs.declared.root.Holder.TheVariants.{Root, Slot, Result, 
 use Rattle.lk_facts.specs.declared.root.RootKind.{RootKind}
 use Rattle.lk_facts.specs.declared.root.RootKind.TheVariants as kind
 use Rattle.lk_types.specs.Nodes.{Node, IsNode, node_of, first, step}
-use Rattle.lk_types.specs.Objects.{is_mutex, stays_inside, numbers_from}
+use Rattle.lk_types.specs.Objects.{is_mutex, numbers_from}
 use Rattle.lk_types.specs.Table.{Table, type_at, fields_of}
 use Rattle.lk_types.specs.declared.c_type.CType.{CType}
 use Rattle.lk_types.specs.declared.c_type.CType.TheVariants.{Void, Int, ThreadId, Mutex, Cond, Pointer, Array, Struct, Function, Opaque}
-use Rattle.lk_types.specs.declared.node.Base.{Base}
-use Rattle.lk_types.specs.declared.node.Base.TheVariants.{Start, Tag}
+use Rattle.lk_types.specs.declared.node.Base.TheVariants.{Start}
 use Rattle.lk_types.specs.declared.node.NodeId.{NodeId}
 use Rattle.lk_types.specs.declared.node.Sel.{Sel}
 use Rattle.lk_types.specs.declared.node.Sel.TheVariants.{Target, Element, Field, Part}
@@ -76,6 +74,11 @@ module _ (table : Table) where
   pub data NamesPlace (t : ℕ) (whole : Bool) : NodeId → Type 0 where
     start : (n : NodeId) → whole ≡ true → IsStart t n → NamesPlace t whole n
     part : (m n : NodeId) (s : Sel) → IsNodeOf t m → leads_to_place (form_of m) s ≡ true → Steps m s n → NamesPlace t whole n
+
+  -- a node that is reached from the Start without Target
+  pub data IsWithin (t : ℕ) : NodeId → Type 0 where
+    start : (n : NodeId) → IsStart t n → IsWithin t n
+    part : (m n : NodeId) (s : Sel) → IsWithin t m → leads_inside (form_of m) s ≡ true → Steps m s n → IsWithin t n
 
   -- the steps from a node, in order: Target, Element, Field by number, Part in the order of the table
   abbrev pub sels : ℕ → List Sel
@@ -147,7 +150,7 @@ module _ (program : Program) where
   -- all holders in their order
   pub record AreHolders (holders : List Holder) : Type 0 where
     pub each : (h : Holder) → Contains holders h ↔ IsHolder h
-    pub ordered : (i j : ℕ) (g h : Holder) → slice_get holders i ≡ Some g → slice_get holders j ≡ Some h → i < j → StandsBefore g h
+    pub ordered : AllPairs StandsBefore holders
 
   -- the number of a holder, which of a root is its own
   abbrev pub IsNumberOfHolder : Holder → ℕ → Type 0
@@ -157,13 +160,9 @@ module _ (program : Program) where
   abbrev pub IsLabel : LabelName → Type 0
   IsLabel x = (t : ℕ) × IsHolderType program x.holder t × NamesPlace program.types t (is_root x.holder) x.node
 
-  -- an origin: a label of a root, reached without Target
-  abbrev pub is_from_start : Base → Bool
-  is_from_start (Start t) = true
-  is_from_start (Tag t) = false
-
-  abbrev pub is_origin_name : LabelName → Bool
-  is_origin_name x = is_root x.holder && is_from_start x.node.base && list_all stays_inside (node_of program.types x.node).path
+  -- an origin: a label of a root whose node is reached without Target
+  abbrev pub IsOrigin : LabelName → Type 0
+  IsOrigin x = (r t : ℕ) × (x.holder ≡ Root r) × IsHolderType program (Root r) t × IsWithin program.types t x.node
 
   abbrev pub is_lock_name : LabelName → Bool
   is_lock_name x = is_mutex (form_of program.types x.node)
@@ -194,7 +193,7 @@ module _ (program : Program) where
   -- what is known of a label. A number of a holder that is none of 32 bits is given as the last of these.
   pub record IsEntryOf (x : LabelName) (entry : LabelEntry) : Type 0 where
     pub root : (n : ℕ) → IsNumberOfHolder x.holder n → entry.root ≡ min n (2 ^ 32 - 1)
-    pub origin : entry.is_origin ≡ is_origin_name x
+    pub origin : (entry.is_origin ≡ true) ↔ IsOrigin x
     pub lock : entry.is_lock ≡ is_lock_name x
     pub global : entry.is_global ≡ is_global_holder x.holder
 
@@ -218,7 +217,7 @@ module _ (program : Program) where
   pub record AreLabels (labels : LabelTable) : Type 0 where
     pub each : (x : LabelName) → Contains labels.names x ↔ IsLabel x
     pub different : AreDifferent labels.names
-    pub ordered : (i j : ℕ) (x y : LabelName) → slice_get labels.names i ≡ Some x → slice_get labels.names j ≡ Some y → i < j → IsBefore x y
+    pub ordered : AllPairs IsBefore labels.names
     pub entries : (l : ℕ) (x : LabelName) (entry : LabelEntry) → slice_get labels.names l ≡ Some x → slice_get labels.entries l ≡ Some entry → IsEntryOf x entry
     pub points : length labels.targets ≡ length program.points
     pub targets : (p : ℕ) (target : Option ℕ) → slice_get labels.targets p ≡ Some target → MatchOption target ((l : ℕ) → IsTargetOf labels p l → ⊥) (IsTargetOf labels p)
