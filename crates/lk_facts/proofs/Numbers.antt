@@ -1,5 +1,5 @@
 -- The numbers of things in a list, where a test tells which are the same.
-use Rattle.std.proofs.Common.{◌≡◌, ◌<◌, ℕ, ◌++◌, ◌∷◌, [], Bool, true, false, List, length, get_or, Option, None, Some, MatchOption, IfSome, refl, sym, subst, ap, ◌∙◌, arith, inl, inr}
+use Rattle.std.proofs.Common.{◌≡◌, ◌↔◌, ◌<◌, ℕ, ◌++◌, ◌∷◌, [], Bool, true, false, List, length, get_or, Contains, Option, None, Some, MatchOption, IfSome, refl, sym, subst, ap, ◌∙◌, arith, inl, inr}
 use Rattle.std.specs.Prelude.{slice_get, is_some, position, if◌then◌else◌}
 use Rattle.std.specs.List.{list_any, position_or_len, IsDistinct, AllPairs}
 use Rattle.std.proofs.lemmas.Bool.{false≢true, cases_eq, cases_lt}
@@ -67,3 +67,15 @@ module _ {X : Type 0} (test : X → X → Bool) (same : (a b : X) → test a b �
           let at = Any-from_list_any (test x) old is in
           absurd (out at.0 (slice_get-get_or old at.0 at.1 at.2 ∙ ap Some (at.3 ∙ sym (same x at.1 at.4))))
       of false is keys' = keys'
+
+  -- whether a thing is in the list
+  pub contains : (xs : List X) (x : X) (b : Bool) → b ≡ list_any (test x) xs → (b ≡ true) ↔ Contains xs x
+  contains xs x b is = (there, back)
+    where
+      there : b ≡ true → Contains xs x
+      there is_true =
+          let at = Any-from_list_any (test x) xs (sym is ∙ is_true) in
+          subst (Contains xs) (sym (same x at.1 at.4)) (at.0, at.2, at.3)
+
+      back : Contains xs x → b ≡ true
+      back at = is ∙ list_any_at (test x) xs at.0 x at.1 (subst (λ y. test x y ≡ true) (sym at.2) (itself x))

@@ -24,14 +24,14 @@ base_itself : (a : Base) → base_test.eq-value.it a a ≡ true
 base_itself (Start t) = eq-eqb t t refl
 base_itself (Tag t) = eq-eqb t t refl
 
-same_node : (a b : NodeId) → node_test.eq-value.it a b ≡ true → a ≡ b
+pub same_node : (a b : NodeId) → node_test.eq-value.it a b ≡ true → a ≡ b
 same_node a b same =
     let both = and_parts (base_test.eq-value.it a.base b.base) (eqb a.number b.number) same in
     let base = same_base a.base b.base both.0 in
     let number = eqb-true a.number b.number both.1 in
     (λ i. record { base = base i; number = number i })
 
-node_itself : (a : NodeId) → node_test.eq-value.it a a ≡ true
+pub node_itself : (a : NodeId) → node_test.eq-value.it a a ≡ true
 node_itself a = and_from _ _ (base_itself a.base) (eq-eqb a.number a.number refl)
 
 pub same_place : (a b : Place) → place_test.eq-value.it a b ≡ true → a ≡ b
@@ -44,7 +44,7 @@ same_place a b same =
 pub place_itself : (a : Place) → place_test.eq-value.it a a ≡ true
 place_itself a = and_from _ _ (eq-eqb a.root a.root refl) (node_itself a.node)
 
-same_holder : (a b : Holder) → holder_test.eq-value.it a b ≡ true → a ≡ b
+pub same_holder : (a b : Holder) → holder_test.eq-value.it a b ≡ true → a ≡ b
 same_holder (Root r) (Root s) same = ap Root (eqb-true r s same)
 same_holder (Slot f k) (Slot g l) same =
     let both = and_parts (eqb f g) (eqb k l) same in
@@ -64,7 +64,7 @@ same_holder (Point p) (Root s) same = absurd (false≢true same)
 same_holder (Point p) (Slot g l) same = absurd (false≢true same)
 same_holder (Point p) (Result g) same = absurd (false≢true same)
 
-holder_itself : (a : Holder) → holder_test.eq-value.it a a ≡ true
+pub holder_itself : (a : Holder) → holder_test.eq-value.it a a ≡ true
 holder_itself (Root r) = eq-eqb r r refl
 holder_itself (Slot f k) = and_from _ _ (eq-eqb f f refl) (eq-eqb k k refl)
 holder_itself (Result f) = eq-eqb f f refl

@@ -153,7 +153,9 @@ pub record IsFunctionInRange (sizes : Sizes) (function : Function) : Type 0 wher
   pub entry : function.entry < sizes.points
   pub exit : function.exit < sizes.points
   pub parameters : All (IsHolderInRange sizes) function.parameters
+  pub few_parameters : length function.parameters < 2 ^ 32
   pub slots : All (λ t. t < sizes.types) function.slots
+  pub few_slots : length function.slots < 2 ^ 32
   pub result : function.result < sizes.types
   pub value_site : IfSome function.value_site (λ i. i < sizes.sites)
 

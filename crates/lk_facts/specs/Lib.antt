@@ -1,6 +1,7 @@
 pub mod Analysis
 pub mod Basis
 pub mod Doing
+pub mod EdgeRules
 pub mod Effects
 pub mod Facts
 pub mod Flow
@@ -10,6 +11,7 @@ pub mod Items
 pub mod Labels
 pub mod Lists
 pub mod Live
+pub mod LabelRules
 pub mod LockSets
 pub mod Lowered
 pub mod Many

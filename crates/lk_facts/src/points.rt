@@ -1,5 +1,5 @@
 //! A program as its control points.
-ghost use Rattle.std.specs.Prelude.{◌≡◌, ◌<◌, ◌≤◌, ◌-◌, ◌&&◌, length, All, IfSome, is_some, slice_get, Some, true, ◌↔◌, IsTrue};
+ghost use Rattle.std.specs.Prelude.{◌≡◌, ◌<◌, ◌≤◌, ◌-◌, ◌^◌, ◌&&◌, length, All, IfSome, is_some, slice_get, Some, true, ◌↔◌, IsTrue};
 ghost use Rattle.lk_facts.specs.Program.{action_at, effect_at, value_type_at, next_of, live_at, function_at, site_at, entry_of, exit_of, value_site_of, parameter_of, slots_of, result_of, root_of_function, spot_of, name_of, place_of, enters_at};
 ghost use Rattle.lk_facts.specs.InRange.{IsInRange, IsActionInRange, IsEffectInRange, IsHolderInRange, IsRootInRange, IsPlaceInRange, sizes_of};
 ghost use Rattle.lk_facts.specs.Places.{IsNumberOf};
@@ -173,6 +173,7 @@ impl Points {
         requires { f < length self.now.functions }
         ensures value { slots_of self.now f ≡ Some result.now }
         ensures in_range { All (λ t. t < (sizes_of self.now).types) result.now }
+        ensures few { length result.now < 2 ^ 32 }
     {
         self.program.functions.list()[f as usize].slots.list()
     }

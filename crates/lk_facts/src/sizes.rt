@@ -208,7 +208,9 @@ impl Sizes {
                 .list()
                 .iter()
                 .all(|holder| self.has_holder(*holder))
+            && function.parameters.len() <= u32::MAX as usize
             && function.slots.list().iter().all(|ty| self.has_type(*ty))
+            && function.slots.len() <= u32::MAX as usize
             && self.has_type(function.result)
             && function.value_site.is_none_or(|i| i.0 < self.sites)
     }
