@@ -311,9 +311,11 @@ module _ (types : List (CType × TypeFacts)) (classes : List (CType × ℕ)) (st
 
     parts_are' : ArePartsOf new parts
     parts_are' = record {
-      known = λ k d within. known_same old new good added_longer _ (kept.parts_are.known k d within);
-      no_void = λ k d within. ap is_void (type_same old new good added_longer _ (kept.parts_are.known k d within)) ∙ kept.parts_are.no_void k d within;
-      least = λ k d within. least_same old new good added_longer _ (kept.parts_are.known k d within) ∙ kept.parts_are.least k d within;
+      each = λ k d within. let part = kept.parts_are.each k d within in record {
+        known = known_same old new good added_longer _ part.known;
+        no_void = ap is_void (type_same old new good added_longer _ part.known) ∙ part.no_void;
+        least = least_same old new good added_longer _ part.known ∙ part.least;
+      };
       different = kept.parts_are.different;
     }
 

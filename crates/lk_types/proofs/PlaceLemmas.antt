@@ -27,7 +27,7 @@ get-right [] ys j = let e : 0 + j ≡ j = omega arith in ap (slice_get ys) e
 get-right (x ∷ xs) ys j = let e : suc (length xs) + j ≡ suc (length xs + j) = omega arith in ap (slice_get (x ∷ (xs ++ ys))) e ∙ get-right xs ys j
 
 -- what stands in two lists together stands in the first or in the second
-get-either : {X : Type 0} (xs ys : List X) (k : ℕ) (x : X) → slice_get (xs ++ ys) k ≡ Some x →
+pub get-either : {X : Type 0} (xs ys : List X) (k : ℕ) (x : X) → slice_get (xs ++ ys) k ≡ Some x →
     (slice_get xs k ≡ Some x) ⊎ ((j : ℕ) × (k ≡ length xs + j) × (slice_get ys j ≡ Some x))
 get-either [] ys k x is = inr (k, omega arith, is)
 get-either (y ∷ xs) ys zero x is = inl is
@@ -80,7 +80,7 @@ mapped_from : {X Y : Type 0} (g : X → Y) (o : Option X) (y : Y) → option_map
 mapped_from g None y is = absurd (none-some y is)
 mapped_from g (Some x) y is = (x, refl, sym (same_Some (g x) y is))
 
-single : {X : Type 0} (z : X) (j : ℕ) (x : X) → slice_get (z ∷ []) j ≡ Some x → (j ≡ 0) × (x ≡ z)
+pub single : {X : Type 0} (z : X) (j : ℕ) (x : X) → slice_get (z ∷ []) j ≡ Some x → (j ≡ 0) × (x ≡ z)
 single z zero x is = (refl, sym (same_Some z x is))
 single z (suc j) x is = absurd (none-some x is)
 

@@ -46,7 +46,10 @@ rest_table table members parts good types = record {
 }
 
 pub parts_rest : (table : Table) (members : List (List StructMember)) (parts : List ℕ) → ArePartsOf table parts → ArePartsOf (with_rest table members parts) parts
-parts_rest table members parts ok = record { known = ok.known; no_void = ok.no_void; least = ok.least; different = ok.different }
+parts_rest table members parts ok = record {
+  each = λ k d within. let part = ok.each k d within in record { known = part.known; no_void = part.no_void; least = part.least };
+  different = ok.different;
+}
 
 within_or : (s n : ℕ) → (s < n) ⊎ (n ≤ s)
 within_or s zero = inr (omega arith)

@@ -91,6 +91,14 @@ has_part table t = list_any (λ u. u == least_of table t) table.parts
 abbrev pub part_of_void : Table → Base → ℕ → Option Node
 part_of_void table base t = if is_void_tag table base && has_part table t then Some (first (Tag (least_of table t))) else None
 
+-- the path goes into no array
+abbrev pub HasNoElement : List Sel → Type 0
+HasNoElement [] = ⊤
+HasNoElement (Target ∷ path) = HasNoElement path
+HasNoElement (Element ∷ path) = ⊥
+HasNoElement (Field k ∷ path) = HasNoElement path
+HasNoElement (Part t ∷ path) = HasNoElement path
+
 -- the type that a step names is in the table
 abbrev pub IsSel : Table → Sel → Type 0
 IsSel table Target = ⊤
