@@ -8,7 +8,7 @@ use crate::kind::CellKind;
 use crate::parts::{form_of, type_along};
 use lk_base::NoMemory;
 use lk_types::{CType, TypeId, TypeTable};
-use lk_values::{CellStep, Condition, Mutex, Path, Table, Value};
+use lk_values::{Condition, Mutex, Path, Table, Value};
 use std::alloc::Global;
 
 /// What the cells of an object hold before anything is put into them.

@@ -8,8 +8,8 @@ use crate::moves::moved;
 use crate::object::Object;
 use crate::state::State;
 use lk_base::NoMemory;
-use lk_types::{CType, TypeTable};
-use lk_values::{Cell, CellStep, Condition, Mutex, Pointer, Value, Why, either};
+use lk_types::{CType, CellStep, TypeTable};
+use lk_values::{Cell, Condition, Mutex, Pointer, Value, Why, either};
 
 /// The object of this number, where it is there.
 pub fn object_at(state: &State, object: u32) -> Option<&Object>

@@ -1,22 +1,10 @@
--- Steps and paths: when two are equal, and how a path ends.
-use Rattle.std.specs.Prelude.{ℕ, ◌-◌, Bool, List, [], ◌∷◌, ◌++◌, length, take, Option, None, Some, slice_get, nat_eq}
+-- Paths: when two are equal, and how a path ends.
+use Rattle.std.specs.Prelude.{ℕ, ◌-◌, Bool, List, [], ◌∷◌, ◌++◌, length, take, Option, None, Some, slice_get}
 use Rattle.std.specs.Option.{option_map_or}
 use Rattle.std.specs.Cmp.Lexicographic.{pointwise}
-use Rattle.lk_values.specs.declared.step.CellStep.{CellStep}
-use Rattle.lk_values.specs.declared.step.CellStep.TheVariants.{Field, Index}
-
--- what tells one step from another
-abbrev pub code_of : CellStep → List ℕ
-code_of (Field k) = 0 ∷ k ∷ []
-code_of (Index i) = 1 ∷ i ∷ []
-
--- the number of the member or element that a step leads to
-abbrev pub number_of : CellStep → ℕ
-number_of (Field k) = k
-number_of (Index i) = i
-
-abbrev pub is_step : CellStep → CellStep → Bool
-is_step a b = pointwise nat_eq (code_of a) (code_of b)
+use Rattle.lk_types.specs.Steps.{is_step}
+use Rattle.lk_types.specs.declared.cell.CellStep.{CellStep}
+use Rattle.lk_types.specs.declared.cell.CellStep.TheVariants.{Field, Index}
 
 -- whether two paths are equal
 abbrev pub is_path : List CellStep → List CellStep → Bool

@@ -4,14 +4,12 @@
 
 mod cell;
 mod path;
-mod step;
 mod table;
 mod value;
 mod why;
 
 pub use cell::{Cell, Pointer};
 pub use path::Path;
-pub use step::CellStep;
 pub use table::{Table, put_both};
 pub use value::{Condition, Mutex, Value};
 pub use why::{Why, either};
