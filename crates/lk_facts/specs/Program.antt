@@ -74,6 +74,10 @@ abbrev pub parameter_of : Program → ℕ → ℕ → Option Holder
 parameter_of program f zero = None
 parameter_of program f (suc k) = option_and_then (λ function. slice_get function.parameters k) (slice_get program.functions f)
 
+-- what holds the parameters of a function, in their order
+abbrev pub parameters_of : Program → ℕ → Option (List Holder)
+parameters_of program f = option_map (λ function. function.parameters) (slice_get program.functions f)
+
 abbrev pub root_at : Program → ℕ → Option Root
 root_at program r = slice_get program.roots r
 

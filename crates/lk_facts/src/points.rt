@@ -1,6 +1,6 @@
 //! A program as its control points.
 ghost use Rattle.std.specs.Prelude.{◌≡◌, ◌<◌, ◌≤◌, ◌-◌, ◌^◌, ◌&&◌, length, All, IfSome, is_some, slice_get, Some, true, ◌↔◌, IsTrue};
-ghost use Rattle.lk_facts.specs.Program.{action_at, effect_at, value_type_at, next_of, live_at, function_at, site_at, entry_of, exit_of, value_site_of, parameter_of, slots_of, result_of, root_of_function, spot_of, name_of, place_of, enters_at};
+ghost use Rattle.lk_facts.specs.Program.{action_at, effect_at, value_type_at, next_of, live_at, function_at, site_at, entry_of, exit_of, value_site_of, parameter_of, parameters_of, slots_of, result_of, root_of_function, spot_of, name_of, place_of, enters_at};
 ghost use Rattle.lk_facts.specs.InRange.{IsInRange, IsActionInRange, IsEffectInRange, IsHolderInRange, IsRootInRange, IsPlaceInRange, sizes_of};
 ghost use Rattle.lk_facts.specs.Places.{IsNumberOf};
 
@@ -166,6 +166,15 @@ impl Points {
             .parameters
             .get(place as usize)
             .copied()
+    }
+
+    /// What holds the parameters of a function, in their order.
+    pub fn parameters(&self, f: u32) -> &[Holder]
+        requires { f < length self.now.functions }
+        ensures value { parameters_of self.now f ≡ Some result.now }
+        ensures in_range { All (IsHolderInRange (sizes_of self.now)) result.now }
+    {
+        self.program.functions.list()[f as usize].parameters.list()
     }
 
     /// The types of the slots of a function, by the numbers of the slots.

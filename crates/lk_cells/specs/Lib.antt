@@ -1,0 +1,7 @@
+pub mod Cells
+pub mod Computing
+pub mod Frames
+pub mod Moves
+pub mod Operands
+pub mod Parts
+pub mod Places

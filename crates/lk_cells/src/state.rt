@@ -1,0 +1,57 @@
+//! States of a program that runs: its objects, and its threads with their frames.
+
+use crate::object::Object;
+use lk_base::Seq;
+use lk_values::{Pointer, Table, Value};
+
+/// An object that a frame's local is.
+#[derive(Clone, Copy)]
+pub struct Local {
+    /// The root of the local.
+    pub root: u32,
+    /// The number of its object.
+    pub object: u32,
+}
+
+/// A frame: one execution of a function (C99 6.2.4, 6; 6.5.2.2).
+#[derive(Drop)]
+pub struct Frame {
+    /// The point at which it stands.
+    pub point: u32,
+    /// The values of its slots, which are the locals and parameters whose address isn't taken.
+    pub slots: Seq<Value>,
+    /// What its points gave when they were last performed: a value, or none.
+    pub values: Table<u32, Option<Value>>,
+    /// The objects of its other locals and parameters.
+    pub locals: Seq<Local>,
+    /// The thread that its last creation made.
+    pub created: Option<u32>,
+    /// Where a point that goes from cell to cell stands next, after its first cell.
+    pub next_cell: Option<Pointer>,
+}
+
+/// A thread (POSIX Base Definitions 3.396). Its number is its place in the list of a state's threads.
+#[derive(Drop)]
+pub struct Thread {
+    /// The frame of the function that it executes.
+    pub frame: Frame,
+    /// The frames of the functions that it was called from, the oldest first.
+    pub below: Seq<Frame>,
+    /// Whether it has ended.
+    pub ended: bool,
+    /// Whether another thread has joined it.
+    pub joined: bool,
+    /// Whether it was detached.
+    pub detached: bool,
+}
+
+/// A state of a program that runs.
+#[derive(Drop)]
+pub struct State {
+    /// The objects, in the order of their births.
+    pub objects: Seq<Object>,
+    /// The threads, in the order of their creations; the first one runs `main`.
+    pub threads: Seq<Thread>,
+    /// Whether the process has ended.
+    pub ended: bool,
+}

@@ -1,0 +1,9 @@
+//! What the action of a control point needs: why it is undefined, and whether it waits.
+#![tactic(auto)]
+
+mod roots;
+mod undefined;
+mod waiting;
+
+pub use undefined::cause;
+pub use waiting::waits;
