@@ -9,7 +9,7 @@ use Rattle.lk_facts.specs.Typed.{IsForm, HasPartAt, IsRootType, IsNumberOf, IsTy
 use Rattle.lk_facts.specs.declared.action.Action.{Action}
 use Rattle.lk_facts.specs.declared.action.Action.TheVariants as action
 use Rattle.lk_facts.specs.declared.action.Action.TheVariants.{Func, Skip, Return, Text as OfText}
-use Rattle.lk_facts.specs.declared.cell.CellStep.{CellStep}
+use Rattle.lk_types.specs.declared.cell.CellStep.{CellStep}
 use Rattle.lk_facts.specs.declared.initial.Initial.{Initial}
 use Rattle.lk_facts.specs.declared.initial.InitialValue.{InitialValue}
 use Rattle.lk_facts.specs.declared.initial.InitialValue.TheVariants as value

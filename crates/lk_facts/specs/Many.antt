@@ -1,5 +1,5 @@
 -- Which points may be performed more than once, and which mutexes have one object (LOCKSMITH: linearity of locks).
-use Rattle.std.specs.Prelude.{◌≡◌, ℕ, true, List, [], ◌∷◌, Some, ⊤}
+use Rattle.std.specs.Prelude.{◌≡◌, ℕ, true, Some, ⊤}
 use Rattle.lk_facts.specs.Effects.{entered}
 use Rattle.lk_facts.specs.Program.{live_at, function_at, effect_at, value_site_of, entry_of, place_at, root_at, IsLockPlace}
 use Rattle.lk_facts.specs.Reach.{IsOnCycle}
@@ -9,17 +9,7 @@ use Rattle.lk_facts.specs.declared.program.Program.{Program}
 use Rattle.lk_facts.specs.declared.root.Root.{Root}
 use Rattle.lk_facts.specs.declared.root.RootKind.{RootKind}
 use Rattle.lk_facts.specs.declared.root.RootKind.TheVariants as kind
-use Rattle.lk_types.specs.Nodes.{node_of}
-use Rattle.lk_types.specs.declared.node.Sel.{Sel}
-use Rattle.lk_types.specs.declared.node.Sel.TheVariants.{Target, Element, Field, Part}
-
--- the path goes into no array
-abbrev pub HasNoElement : List Sel → Type 0
-HasNoElement [] = ⊤
-HasNoElement (Element ∷ path) = ⊥
-HasNoElement (Target ∷ path) = HasNoElement path
-HasNoElement (Field k ∷ path) = HasNoElement path
-HasNoElement (Part t ∷ path) = HasNoElement path
+use Rattle.lk_types.specs.Nodes.{node_of, HasNoElement}
 
 module _ (program : Program) where
   -- the live point q calls f, or starts a thread there: it is a site of f

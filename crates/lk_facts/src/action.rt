@@ -2,12 +2,11 @@
 ghost use Rattle.std.specs.Prelude.{◌≡◌};
 ghost use Rattle.lk_facts.specs.Effects.{effect_of};
 
-use crate::cell::CellStep;
 use crate::effect::Effect;
 use crate::place::Place;
 use lk_arith::{Op, UnaryOp};
 use lk_base::Seq;
-use lk_types::TypeId;
+use lk_types::{CellStep, TypeId};
 
 /// What a control point does in one step. An operand is the number of the point whose value it is.
 #[derive(Drop)]

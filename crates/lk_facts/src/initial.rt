@@ -1,7 +1,7 @@
 //! What objects of static storage begin with.
 
-use crate::cell::CellStep;
 use lk_base::Seq;
+use lk_types::CellStep;
 
 /// What a cell of static storage begins with (C99 6.7.8).
 #[derive(Drop)]

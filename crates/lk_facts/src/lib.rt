@@ -2,7 +2,6 @@
 #![tactic(auto)]
 
 mod action;
-mod cell;
 mod crossing;
 mod edge;
 mod effect;
@@ -27,7 +26,6 @@ mod verdict;
 mod way;
 
 pub use action::Action;
-pub use cell::CellStep;
 pub use crossing::Crossing;
 pub use edge::{Edge, Label, Mark, Site};
 pub use effect::Effect;

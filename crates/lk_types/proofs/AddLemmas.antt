@@ -1,18 +1,18 @@
 -- What is kept stays true when a type is added.
-use Rattle.std.proofs.Common.{◌≡◌, ◌∙◌, ◌≤◌, ◌<◌, ◌+◌, ◌↔◌, ◌⊎◌, inl, inr, ℕ, zero, suc, Bool, true, false, List, [], ◌∷◌, ◌++◌, length, map, refl, sym, ap, subst, arith, All, Option, Some, None, get_or, length-append}
-use Rattle.std.specs.List.{slice_get, IsDistinct}
+use Rattle.std.proofs.Common.{◌≡◌, ◌∙◌, ◌≤◌, ◌<◌, ◌⊎◌, inl, inr, ℕ, zero, suc, Bool, true, false, List, [], ◌∷◌, ◌++◌, length, map, refl, sym, ap, subst, arith, All, Option, Some, None, length-append}
+use Rattle.std.specs.List.{slice_get}
 use Rattle.std.specs.Option.{option_map}
 use Rattle.std.specs.Prelude.{unwrap_or, not, ◌||◌}
 use Rattle.std.proofs.lemmas.Bool.{false≢true}
 use Rattle.std.proofs.lemmas.List.{length-map}
-use Rattle.std.proofs.lemmas.List.Elements.{All-nil, All-cons, All-head, All-tail, All-weaker}
+use Rattle.std.proofs.lemmas.List.Elements.{All-head, All-tail, All-weaker}
 use Rattle.std.proofs.lemmas.Option.{none-some, same_Some, slice_get-map, slice_get_within, some_pair_parts}
-use Rattle.lk_types.specs.Building.{IsTable, IsType, IsLonger, IsLeast, IsClosed, IsClosedForm, IsMadeOf, IsForm, IsPassed, IsPartOfObjects, IsAdded, ArePartsOf, types_of}
+use Rattle.lk_types.specs.Building.{IsTable, IsType, IsLonger, IsClosed, IsClosedForm, IsMadeOf, IsForm, IsPassed, IsAdded, ArePartsOf, types_of}
 use Rattle.lk_types.specs.Forms.{AreApart, IsAbsent}
-use Rattle.lk_types.specs.Kept.{table_of, AreKept, kept_size, size_by, IsSized, HasKey, key_form, key_of}
-use Rattle.lk_types.specs.Sizes.{size_at, form_size, fields_size, is_too_large}
-use Rattle.lk_types.specs.Table.{Table, type_at, least_of, members_of, fields_of, is_open, is_empty, is_complete, is_complete_form, struct_of, IsKnown}
-use Rattle.lk_types.specs.Walks.{Branch, target, element, branches, fields, holds, holds_within, holds_struct, has_tag, is_void}
+use Rattle.lk_types.specs.Kept.{table_of, AreKept, kept_size, size_by, HasKey, key_form, key_of}
+use Rattle.lk_types.specs.Sizes.{size_at, form_size, is_too_large}
+use Rattle.lk_types.specs.Table.{Table, type_at, least_of, members_of, fields_of, is_open, is_complete, is_complete_form, struct_of, IsKnown}
+use Rattle.lk_types.specs.Walks.{target, element, branches, holds, holds_within, holds_struct, has_tag, is_void}
 use Rattle.lk_types.specs.declared.c_type.CType.{CType}
 use Rattle.lk_types.specs.declared.c_type.CType.TheVariants.{Void, Int, ThreadId, Mutex, Cond, Pointer, Array, Struct, Function, Opaque}
 use Rattle.lk_types.specs.declared.facts.StructEntry.{StructEntry}
@@ -311,9 +311,11 @@ module _ (types : List (CType × TypeFacts)) (classes : List (CType × ℕ)) (st
 
     parts_are' : ArePartsOf new parts
     parts_are' = record {
-      known = λ k d within. known_same old new good added_longer _ (kept.parts_are.known k d within);
-      no_void = λ k d within. ap is_void (type_same old new good added_longer _ (kept.parts_are.known k d within)) ∙ kept.parts_are.no_void k d within;
-      least = λ k d within. least_same old new good added_longer _ (kept.parts_are.known k d within) ∙ kept.parts_are.least k d within;
+      each = λ k d within. let part = kept.parts_are.each k d within in record {
+        known = known_same old new good added_longer _ part.known;
+        no_void = ap is_void (type_same old new good added_longer _ part.known) ∙ part.no_void;
+        least = least_same old new good added_longer _ part.known ∙ part.least;
+      };
       different = kept.parts_are.different;
     }
 

@@ -1,11 +1,11 @@
 -- Types are equal but for the sizes of arrays exactly where one is the least of both.
-use Rattle.std.proofs.Common.{◌≡◌, ◌∙◌, ◌≤◌, ◌<◌, ◌+◌, ◌↔◌, ℕ, zero, suc, Bool, true, false, List, [], ◌∷◌, length, map, refl, sym, ap, subst, arith, All, Option, Some, None, get_or}
+use Rattle.std.proofs.Common.{◌≡◌, ◌∙◌, ◌≤◌, ◌<◌, ◌↔◌, ℕ, zero, suc, List, [], ◌∷◌, map, refl, sym, ap, subst, arith, All, Some}
 use Rattle.std.specs.List.{slice_get}
 use Rattle.std.specs.Prelude.{unwrap_or}
-use Rattle.std.proofs.lemmas.List.Elements.{All-nil, All-cons, All-head, All-tail, All-weaker}
-use Rattle.std.proofs.lemmas.Option.{none-some, same_Some, slice_get_within, slice_get-get_or, unwrap_or-slice_get}
+use Rattle.std.proofs.lemmas.List.Elements.{All-head, All-tail, All-weaker}
+use Rattle.std.proofs.lemmas.Option.{slice_get_within, slice_get-get_or, unwrap_or-slice_get}
 use Rattle.lk_types.specs.Building.{IsMadeOf, IsLeast}
-use Rattle.lk_types.specs.Equal.{IsEqualBut, AreEqualBut, AnySizes, IsAlike}
+use Rattle.lk_types.specs.Equal.{AreEqualBut, AnySizes, IsAlike}
 use Rattle.lk_types.specs.Equal.IsEqualBut.{same, pointers, arrays, functions}
 use Rattle.lk_types.specs.Equal.AreEqualBut.{none, more}
 use Rattle.lk_types.specs.Kept.{key_form, key_of}

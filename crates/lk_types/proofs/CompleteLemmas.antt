@@ -1,16 +1,16 @@
 -- What is kept stays true when a struct is completed.
-use Rattle.std.proofs.Common.{◌≡◌, ◌∙◌, ◌≤◌, ◌<◌, ◌+◌, ◌⊎◌, inl, inr, ℕ, zero, suc, Bool, true, false, List, [], ◌∷◌, length, map, refl, sym, ap, subst, arith, All, Option, Some, None}
+use Rattle.std.proofs.Common.{◌≡◌, ◌∙◌, ◌<◌, ◌⊎◌, inl, inr, ℕ, zero, suc, false, List, [], ◌∷◌, length, map, refl, sym, ap, subst, arith, All, Option, Some, None}
 use Rattle.std.specs.List.{slice_get}
 use Rattle.std.specs.Option.{option_map}
 use Rattle.std.specs.Prelude.{unwrap_or, slice_set}
 use Rattle.std.proofs.lemmas.Bool.{false≢true}
 use Rattle.std.proofs.lemmas.List.{length-map, length-set}
 use Rattle.std.proofs.lemmas.List.Elements.{All-weaker, All-map}
-use Rattle.std.proofs.lemmas.Option.{none-some, same_Some, slice_get-map, slice_get_within}
-use Rattle.lk_types.specs.Building.{IsTable, IsType, IsLonger, IsClosed, IsMadeOf, CanComplete, IsPartOfObjects, ArePartsOf, types_of}
+use Rattle.std.proofs.lemmas.Option.{none-some, same_Some, slice_get-map}
+use Rattle.lk_types.specs.Building.{IsTable, IsType, IsLonger, IsClosed, IsMadeOf, CanComplete, IsPartOfObjects, types_of}
 use Rattle.lk_types.specs.Kept.{table_of, AreKept, kept_size, size_by, IsSized}
 use Rattle.lk_types.specs.Sizes.{size_at, form_size, fields_size, is_too_large}
-use Rattle.lk_types.specs.Table.{Table, type_at, members_of, fields_of, is_open, is_empty, struct_of, IsKnown}
+use Rattle.lk_types.specs.Table.{Table, type_at, members_of, is_open, struct_of, IsKnown}
 use Rattle.lk_types.specs.Walks.{fields, branches}
 use Rattle.lk_types.specs.declared.c_type.CType.{CType}
 use Rattle.lk_types.specs.declared.c_type.CType.TheVariants.{Void, Int, ThreadId, Mutex, Cond, Pointer, Array, Struct, Function, Opaque}
@@ -21,8 +21,8 @@ use Rattle.lk_types.specs.declared.size.TypeSize.{TypeSize}
 use Rattle.lk_types.proofs.AddLemmas.{closed_complete}
 use Rattle.lk_types.proofs.Entries.{OfParts}
 use Rattle.lk_types.proofs.Fuel.{size_at_is}
-use Rattle.lk_types.proofs.GrowLemmas.{IsOwn, type_grown, size_same, holds_struct_same, known_same, closed_same, type_same, parts_size_same}
-use Rattle.lk_types.proofs.KeptLemmas.{known_got, type_at_is, struct_within}
+use Rattle.lk_types.proofs.GrowLemmas.{IsOwn, type_grown, size_same, holds_struct_same, closed_same, parts_size_same}
+use Rattle.lk_types.proofs.KeptLemmas.{known_got, type_at_is}
 use Rattle.lk_types.proofs.PartLemmas.{of_fields}
 use Rattle.lk_types.proofs.RestLemmas.{longer_rest, rest_table, parts_rest, sized_grown}
 

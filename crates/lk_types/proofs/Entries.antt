@@ -1,10 +1,10 @@
 -- How many entries a walk has, and how deep they stand.
-use Rattle.std.proofs.Common.{◌≡◌, ◌∙◌, ◌≤◌, ◌<◌, ◌+◌, ℕ, zero, suc, Bool, true, false, List, [], ◌∷◌, ◌++◌, length, map, max, refl, sym, ap, subst, arith, All, length-append}
+use Rattle.std.proofs.Common.{◌≡◌, ◌∙◌, ◌≤◌, ◌+◌, ℕ, suc, Bool, true, false, List, [], ◌∷◌, ◌++◌, length, map, max, refl, sym, ap, arith, All, length-append}
 use Rattle.std.specs.List.{flat_map, fold}
 use Rattle.std.proofs.lemmas.List.{length-map}
 use Rattle.std.proofs.lemmas.List.Elements.{All-nil, All-cons, All-head, All-tail}
 use Rattle.lk_types.specs.Sizes.{deepest, with_part, part_size, size_of_parts, start_size}
-use Rattle.lk_types.specs.Walks.{Branch, Entry, at_branch, under, start}
+use Rattle.lk_types.specs.Walks.{Branch, Entry, at_branch, under}
 use Rattle.lk_types.specs.declared.node.Sel.{Sel}
 use Rattle.lk_types.specs.declared.size.TypeSize.{TypeSize}
 

@@ -1,17 +1,17 @@
 -- `==` on forms says whether they are the same, and what that tells of a map with forms as keys.
-use Rattle.std.proofs.Common.{◌≡◌, ◌∙◌, ◌++◌, ◌∷◌, ◌+◌, [], ℕ, zero, suc, Bool, true, false, List, Option, Some, None, refl, sym, ap, subst, rules, map, take, get_or, arith, ◌<◌}
+use Rattle.std.proofs.Common.{◌≡◌, ◌∙◌, ◌++◌, ◌∷◌, ◌+◌, [], ℕ, zero, suc, Bool, true, false, List, Option, Some, None, refl, sym, ap, subst, rules, take, arith, ◌<◌}
 use Rattle.std.proofs.lemmas.Bool.{false≢true}
-use Rattle.std.proofs.lemmas.Map.Entries.{lookup_from_place, place_from_lookup, lookup_head, lookup_tail}
+use Rattle.std.proofs.lemmas.Map.Entries.{place_from_lookup, lookup_head, lookup_tail}
 use Rattle.std.proofs.lemmas.Map.Keys.{IsDistinct-head, IsDistinct-tail}
 use Rattle.std.proofs.lemmas.Map.Made.{lookup_key_passes}
-use Rattle.std.proofs.lemmas.Option.{none-some, same_Some, some_pair_parts}
+use Rattle.std.proofs.lemmas.Option.{none-some, same_Some}
 use Rattle.std.specs.Cmp.{IsEquivalence}
-use Rattle.std.specs.HashMap.{HashMap, get, get_by, get_key_by, IsUnique}
+use Rattle.std.specs.HashMap.{HashMap, get, get_key_by}
 use Rattle.std.specs.List.{slice_get, IsDistinct, AllByRecursion}
 use Rattle.std.specs.Map.{keys_of, lookup}
 use Rattle.indexmap.proofs.CallerLemmas.{insert_entry-new}
 use Rattle.indexmap.specs.IndexMap.{insert_entry}
-use Rattle.lk_types.specs.Forms.{IsAt, IsAbsent, AreApart}
+use Rattle.lk_types.specs.Forms.{IsAbsent, AreApart}
 use Rattle.lk_types.specs.contracts.c_type.CTypePartialEq.TheImpl.{eq-value}
 use Rattle.lk_types.specs.declared.c_type.CType.{CType}
 

@@ -1,17 +1,15 @@
 -- A walk that isn't as deep as it may be is whole.
-use Rattle.std.proofs.Common.{◌≡◌, ◌∙◌, ◌≤◌, ◌<◌, ◌+◌, ℕ, zero, suc, Bool, true, false, List, [], ◌∷◌, ◌++◌, length, map, max, refl, sym, ap, subst, arith, All, length-append}
-use Rattle.std.specs.List.{flat_map, fold}
-use Rattle.std.specs.Prelude.{nat_lt}
-use Rattle.std.proofs.lemmas.List.Elements.{All-nil, All-cons, All-head, All-tail, All-weaker}
-use Rattle.lk_types.specs.Table.{Table, type_at, IsKnown}
+use Rattle.std.proofs.Common.{◌≡◌, ◌∙◌, ◌≤◌, ℕ, zero, suc, Bool, true, false, List, [], ◌∷◌, ◌++◌, map, refl, sym, ap, subst, arith}
+use Rattle.std.specs.List.{flat_map}
+use Rattle.std.proofs.lemmas.List.Elements.{All-head, All-tail, All-weaker}
+use Rattle.lk_types.specs.Table.{Table, type_at}
 use Rattle.lk_types.specs.Walks.{Branch, Entry, at_branch, under, start, walk, nodes, most_steps, below_start, branches}
-use Rattle.lk_types.specs.Sizes.{deepest, with_part, part_size, size_of_parts, start_size, size_at, form_size, is_too_large}
-use Rattle.lk_types.specs.Building.{IsTable, IsType}
+use Rattle.lk_types.specs.Sizes.{deepest, size_at, form_size, is_too_large}
 use Rattle.lk_types.specs.Laws.{SizesAreOfParts, WalksAreOfParts}
 use Rattle.std.proofs.lemmas.Bool.Decides.{nat_tests}
 use Rattle.lk_types.specs.declared.c_type.CType.{CType}
 use Rattle.lk_types.specs.declared.size.TypeSize.{TypeSize}
-use Rattle.lk_types.proofs.Entries.{IsBegun, begun, OfParts, size_of, size_grows, part_lower, none_below, same_size, deepest-append, deepest-begun}
+use Rattle.lk_types.proofs.Entries.{IsBegun, begun, OfParts, size_of, size_grows, part_lower, none_below, same_size}
 
 pub walk-begins : (d : ℕ) (table : Table) (t : ℕ) → IsBegun (walk d table t)
 unfolding walk

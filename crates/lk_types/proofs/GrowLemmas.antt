@@ -1,17 +1,17 @@
 -- What stays as it is while a table grows.
-use Rattle.std.proofs.Common.{◌≡◌, ◌∙◌, ◌≤◌, ◌<◌, ◌+◌, ℕ, zero, suc, Bool, true, false, List, [], ◌∷◌, ◌++◌, length, map, refl, sym, ap, subst, arith, length-append, All, Option, Some, None}
+use Rattle.std.proofs.Common.{◌≡◌, ◌∙◌, ◌<◌, ℕ, zero, suc, Bool, false, List, [], ◌∷◌, ◌++◌, length, refl, sym, ap, subst, arith, length-append, All}
 use Rattle.std.specs.List.{flat_map, slice_get}
-use Rattle.std.specs.Prelude.{unwrap_or, if◌then◌else◌, ◌||◌}
-use Rattle.std.proofs.lemmas.List.Elements.{All-nil, All-cons, All-head, All-tail, All-weaker}
+use Rattle.std.specs.Prelude.{unwrap_or, ◌||◌}
+use Rattle.std.proofs.lemmas.List.Elements.{All-weaker}
 use Rattle.lk_types.specs.Building.{IsTable, IsType, IsLonger, IsMadeOf, IsClosed, IsClosedForm, types_of}
 use Rattle.lk_types.specs.Sizes.{size_at, form_size, size_of_parts, is_too_large}
-use Rattle.lk_types.specs.Laws.{OlderWalksStay, PredeclaredStay, LongerIsTransitive}
-use Rattle.lk_types.specs.Table.{Table, type_at, least_of, members_of, fields_of, IsKnown, is_open, is_empty}
-use Rattle.lk_types.specs.Walks.{Branch, Entry, target, branches, fields, has_tag, holds, holds_within, holds_struct, is_void, walk, nodes, most_steps, start, below_start, at_branch}
+use Rattle.lk_types.specs.Laws.{OlderWalksStay}
+use Rattle.lk_types.specs.Table.{Table, type_at, least_of, members_of, IsKnown, is_empty}
+use Rattle.lk_types.specs.Walks.{Branch, target, branches, fields, has_tag, holds, holds_within, holds_struct, is_void, walk, nodes, most_steps, start, below_start, at_branch}
 use Rattle.lk_types.specs.declared.c_type.CType.{CType}
 use Rattle.lk_types.specs.declared.c_type.CType.TheVariants.{Void, Int, ThreadId, Mutex, Cond, Pointer, Array, Struct, Function, Opaque}
 use Rattle.lk_types.proofs.Entries.{OfParts, size_of, same_sizes}
-use Rattle.lk_types.proofs.Fuel.{same_below, walk_suc}
+use Rattle.lk_types.proofs.Fuel.{same_below}
 use Rattle.lk_types.proofs.PartLemmas.{target_by, parts_of_table}
 
 pub get_before : {X : Type 0} (xs ys : List X) (i : ℕ) → i < length xs → slice_get (xs ++ ys) i ≡ slice_get xs i

@@ -1,17 +1,16 @@
 -- What is kept of the types of a table tells what holds of the table.
-use Rattle.std.proofs.Common.{◌≡◌, ◌∙◌, ◌≤◌, ◌<◌, ◌+◌, ◌↔◌, ℕ, zero, suc, Bool, true, false, List, [], ◌∷◌, ◌++◌, length, map, refl, sym, ap, subst, arith, All, get_or, Option, Some, None}
+use Rattle.std.proofs.Common.{◌≡◌, ◌∙◌, ◌≤◌, ◌<◌, ◌↔◌, ℕ, suc, false, List, [], ◌∷◌, length, refl, sym, ap, subst, All, get_or, Option, Some, None}
 use Rattle.std.specs.List.{slice_get}
 use Rattle.std.specs.Option.{option_map}
 use Rattle.std.specs.Prelude.{unwrap_or}
-use Rattle.std.proofs.lemmas.List.{length-map}
 use Rattle.std.proofs.lemmas.List.Elements.{All-nil, All-cons, All-head, All-tail}
 use Rattle.std.proofs.lemmas.Option.{none-some, same_Some, slice_get-map, slice_get_within, slice_get-get_or}
-use Rattle.lk_types.specs.Building.{IsTable, IsMadeOf, IsLeast, types_of}
+use Rattle.lk_types.specs.Building.{IsTable, IsMadeOf, IsLeast}
 use Rattle.lk_types.specs.Equal.{IsAlike}
-use Rattle.lk_types.specs.Kept.{table_of, AreKept, kept_size, size_by, IsSized}
+use Rattle.lk_types.specs.Kept.{table_of, AreKept, size_by}
 use Rattle.lk_types.specs.Sizes.{HasLowerParts, steps_of, size_at, is_too_large}
 use Rattle.lk_types.specs.Table.{Table, type_at, least_of, members_of, fields_of, struct_of, IsKnown}
-use Rattle.lk_types.specs.Walks.{Branch, target, element, field, fields, branches, has_tag, holds_struct}
+use Rattle.lk_types.specs.Walks.{Branch, target, element, field, fields, branches}
 use Rattle.lk_types.specs.declared.c_type.CType.{CType}
 use Rattle.lk_types.specs.declared.c_type.CType.TheVariants.{Void, Int, ThreadId, Mutex, Cond, Pointer, Array, Struct, Function, Opaque}
 use Rattle.lk_types.specs.declared.facts.StructEntry.{StructEntry}

@@ -9,7 +9,10 @@ pub mod FormEq
 pub mod KeptLemmas
 pub mod AlikeLemmas
 pub mod RestLemmas
+pub mod VoidParts
 pub mod NodeLemmas
+pub mod ElementLemmas
+pub mod RedeclareLemmas
 pub mod SizeLemmas
 pub mod AddLemmas
 pub mod CompleteLemmas

@@ -1,19 +1,21 @@
 -- The table of the predeclared types.
-use Rattle.std.proofs.Common.{◌≡◌, ◌∙◌, ◌≤◌, ◌<◌, ◌+◌, ◌++◌, ℕ, zero, suc, Bool, true, false, List, [], ◌∷◌, length, refl, sym, ap, subst, arith, All, Option, Some, None, take}
-use Rattle.std.specs.List.{slice_get, list_all}
-use Rattle.std.specs.Prelude.{nat_eq, ◌&&◌}
+use Rattle.std.proofs.Common.{◌≡◌, ◌∙◌, ◌<◌, ◌+◌, ◌++◌, ℕ, zero, suc, Bool, true, false, List, [], ◌∷◌, length, refl, sym, ap, subst, arith, Some, take}
+use Rattle.std.specs.List.{slice_get, range_with_len}
+use Rattle.std.specs.Prelude.{nat_eq, ◌&&◌, unwrap_or}
 use Rattle.std.proofs.lemmas.Bool.{and_parts, eqb-true, false≢true}
 use Rattle.std.proofs.lemmas.List.Elements.{All-nil}
 use Rattle.std.proofs.lemmas.Option.{none-some, same_Some, slice_get_within}
-use Rattle.lk_types.specs.Building.{IsForm, IsTable, IsLonger, ArePartsOf}
+use Rattle.lk_types.specs.Building.{IsForm, IsTable, IsPart}
+use Rattle.lk_types.specs.Equal.{IsAlike}
+use Rattle.lk_types.specs.Equal.IsEqualBut.{same, pointers, arrays, functions}
 use Rattle.lk_types.specs.Kept.{table_of, AreKept}
 use Rattle.lk_types.specs.Laws.{PredeclaredStay}
-use Rattle.lk_types.specs.Predeclared.{predeclared, kind_id}
-use Rattle.lk_types.specs.Sizes.{form_size, start_size, is_too_large}
-use Rattle.lk_types.specs.Table.{Table, least_of, type_at, IsKnown}
-use Rattle.lk_types.specs.Walks.{is_void}
+use Rattle.lk_types.specs.Predeclared.{predeclared, first_table, kind_id}
+use Rattle.lk_types.specs.Sizes.{form_size, is_too_large}
+use Rattle.lk_types.specs.Table.{Table, least_of, IsKnown}
 use Rattle.lk_types.specs.declared.c_type.CType.{CType}
 use Rattle.lk_types.specs.declared.c_type.CType.TheVariants.{Void, Int, ThreadId, Mutex, Cond, Pointer, Array, Struct, Function, Opaque}
+use Rattle.lk_types.specs.declared.member.StructMember.{StructMember}
 use Rattle.lk_types.specs.declared.facts.StructEntry.{StructEntry}
 use Rattle.lk_types.specs.declared.facts.TypeFacts.{TypeFacts}
 use Rattle.lk_types.proofs.FormEq.{got_take, take_more}
@@ -119,7 +121,7 @@ kept_none = record {
   };
   few_types = omega arith;
   few_structs = omega arith;
-  parts_are = record { known = All-nil (IsKnown (table_of [] [] [])); no_void = All-nil (λ t. is_void (type_at (table_of [] [] []) t) ≡ false); least = All-nil (λ t. least_of (table_of [] [] []) t ≡ t); different = λ i j t at at'. absurd (none-some t at) };
+  parts_are = record { each = All-nil (IsPart (table_of [] [] [])); different = λ i j t at at'. absurd (none-some t at) };
   holding = λ t form fact at. absurd (none-some (form, fact) at);
   sized = λ t form fact at. absurd (none-some (form, fact) at);
   structs_sized = λ s entry at. absurd (none-some entry at);
@@ -148,3 +150,33 @@ predeclared_more types k form at is = ap (λ ts. ts ++ form ∷ []) is ∙ take_
 
 pub predeclared_within : (k : ℕ) (form : CType) → slice_get predeclared k ≡ Some form → k < 19
 predeclared_within k form at = slice_get_within predeclared k form at
+
+-- no two predeclared types are equal but for the sizes of arrays
+own_alone : {a t : ℕ} → IsAlike predeclared a t → a ≡ t
+unfolding is_plain
+own_alone (same is) = is
+own_alone (pointers {a} {b} {s} {t} at bt h) = absurd (false≢true (ranked_at predeclared 0 all_ranked a (Pointer s) at).1)
+own_alone (arrays {a} {b} {s} {t} {n} {m} at bt h sizes) = absurd (false≢true (ranked_at predeclared 0 all_ranked a (Array s n) at).1)
+own_alone (functions {a} {b} {r} {s} {ps} {qs} {dots} at bt h hs) = absurd (false≢true (ranked_at predeclared 0 all_ranked a (Function r ps dots) at).1)
+
+-- a list in which each number is that of its place
+in_order : (xs : List ℕ) (k : ℕ) → ((t x : ℕ) → slice_get xs t ≡ Some x → x ≡ k + t) → xs ≡ range_with_len k (length xs)
+in_order [] k own = refl
+in_order (x ∷ xs) k own =
+    let head : x ≡ k = omega (arith, own 0 x refl) in
+    let tail = in_order xs (k + 1) (λ t y at. omega (arith, own (suc t) y at)) in
+    ap (λ y. y ∷ xs) head ∙ ap (λ ys. k ∷ ys) tail
+
+same_table : {types types' : List CType} {members members' : List (List StructMember)} {parts parts' least least' : List ℕ} → types ≡ types' → members ≡ members' → parts ≡ parts' → least ≡ least' →
+    ◌≡◌ {A = Table} (record { types = types; members = members; parts = parts; least = least }) (record { types = types'; members = members'; parts = parts'; least = least' })
+same_table p q r s = cc
+
+pub first_is : (table : Table) → IsTable table → table.types ≡ predeclared → table.members ≡ [] → table.parts ≡ [] → table ≡ first_table
+first_is table good types members parts =
+    let count : length table.least ≡ 19 = good.leasts ∙ ap length types in
+    let own = λ (t x : ℕ) (at : slice_get table.least t ≡ Some x).
+    let within = slice_get_within table.least t x at in
+    let known : IsKnown table t = omega (arith, good.leasts, within) in
+    let is = own_alone (subst (λ ts. IsAlike ts (least_of table t) t) types (good.least t known).alike) in
+    let number : x ≡ 0 + t = omega (arith, sym (ap (λ o. unwrap_or o t) at) ∙ is) in number in
+    same_table types members parts (in_order table.least 0 own ∙ ap (range_with_len 0) count)

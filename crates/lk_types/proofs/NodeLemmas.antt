@@ -1,5 +1,5 @@
 -- The nodes to which steps lead.
-use Rattle.std.proofs.Common.{◌≡◌, ◌∙◌, ◌≤◌, ◌<◌, ◌+◌, ◌-◌, ◌↔◌, ℕ, zero, suc, Bool, true, false, List, [], ◌∷◌, ◌++◌, length, map, refl, sym, ap, subst, arith, All, Option, Some, None, get_or, take, length-append}
+use Rattle.std.proofs.Common.{◌≡◌, ◌∙◌, ◌≤◌, ◌<◌, ◌+◌, ◌-◌, ℕ, zero, suc, Bool, true, false, List, [], ◌∷◌, ◌++◌, length, map, refl, sym, ap, subst, arith, All, Option, Some, None, get_or, take, length-append}
 use Rattle.std.specs.List.{flat_map, slice_get}
 use Rattle.std.specs.Option.{option_map}
 use Rattle.std.specs.Prelude.{unwrap_or}
@@ -10,25 +10,24 @@ use Rattle.std.proofs.lemmas.List.Elements.{All-head, All-tail}
 use Rattle.lk_types.specs.declared.member.StructMember.{StructMember}
 use Rattle.lk_types.specs.Building.{IsTable, IsMadeOf, types_of}
 use Rattle.lk_types.specs.Equal.IsEqualBut.{same}
-use Rattle.lk_types.specs.Nodes.{Node, IsNode, IsBase, node_of, entry_of, first, base_type, along, step, target_of, element_of, field_of}
+use Rattle.lk_types.specs.Nodes.{IsNode, IsBase, node_of, entry_of, first, base_type}
 use Rattle.lk_types.specs.Places.{entry_at, is_node, branch_of, IsSamePart, IsInPart, nodes_before, nodes_of_all}
-use Rattle.lk_types.specs.Sizes.{nodes_of, steps_of, size_at, is_too_large}
+use Rattle.lk_types.specs.Sizes.{nodes_of, steps_of, size_at}
 use Rattle.lk_types.specs.Table.{Table, type_at, least_of, fields_of, members_of, IsKnown}
-use Rattle.lk_types.specs.Walks.{Branch, Entry, at_branch, under, start, nodes, target, element, field, fields, branches, below_start, has_tag}
+use Rattle.lk_types.specs.Walks.{Branch, Entry, at_branch, under, start, nodes, target, element, field, fields, branches, has_tag}
 use Rattle.lk_types.specs.declared.c_type.CType.{CType}
 use Rattle.lk_types.specs.declared.c_type.CType.TheVariants.{Void, Int, ThreadId, Mutex, Cond, Pointer, Array, Struct, Function, Opaque}
 use Rattle.lk_types.specs.declared.node.Base.{Base}
 use Rattle.lk_types.specs.declared.node.Base.TheVariants.{Start, Tag}
 use Rattle.lk_types.specs.declared.node.NodeId.{NodeId}
 use Rattle.lk_types.specs.declared.node.Sel.{Sel}
-use Rattle.lk_types.specs.declared.node.Sel.TheVariants.{Target, Element, Field, Part}
-use Rattle.lk_types.proofs.AlikeLemmas.{form_there}
+use Rattle.lk_types.specs.declared.node.Sel.TheVariants.{Target, Element, Field}
 use Rattle.lk_types.proofs.Fuel.{few_of}
 use Rattle.lk_types.proofs.KeptLemmas.{small_at}
 use Rattle.lk_types.proofs.PartLemmas.{target_by}
 use Rattle.lk_types.proofs.PathLemmas.{entry_got}
 use Rattle.lk_types.proofs.PlaceLemmas.{Stands, here, later, inside_is}
-use Rattle.lk_types.proofs.SubwalkLemmas.{first_of, first_entry, out_of_part, in_part, subwalk, split, below}
+use Rattle.lk_types.proofs.SubwalkLemmas.{first_of, first_entry, out_of_part, subwalk, split}
 
 tag_alone : (k : ℕ) (e : Entry) → e.tag ≡ true → option_map (λ e. e.tag) (slice_get (e ∷ []) k) ≡ Some false → ⊥
 tag_alone zero e tagged is = false≢true (sym (same_Some e.tag false is) ∙ tagged)
@@ -119,6 +118,13 @@ field_known table t (Array v n) known made k u at = absurd (none-some u at)
 field_known table t (Struct s) known made k u at = all_got (IsKnown table) (fields_of table (Struct s)) k u made.1 at
 field_known table t (Function result params dots) known made k u at = let less : u < t = all_got (λ u. u < t) (result ∷ params) k u made at in omega (arith, less, known)
 field_known table t (Opaque n) known made k u at = absurd (none-some u at)
+
+-- an entry and that of the part in whose walk it stands have one type and one tag
+pub same_part : (table : Table) (t k u rest : ℕ) → IsInPart table t k u rest → IsSamePart (entry_at table t (suc k)) (entry_at table u rest)
+same_part table t k u rest part = record {
+  type = ap (option_map (λ e. e.type)) part.same ∙ map_twice (λ e. e.type) (under part.sel) (entry_at table u rest);
+  tag = ap (option_map (λ e. e.tag)) part.same ∙ map_twice (λ e. e.tag) (under part.sel) (entry_at table u rest);
+}
 
 module _ (table : Table) (good : IsTable table) where
   -- the way into a part
@@ -235,13 +241,12 @@ module _ (table : Table) (good : IsTable table) where
       let got = out_of_part table good t known (field k u) place stands refl rest e entry in
       let same : slice_get (nodes table t) (suc number) ≡ Some (under (Field k) e) = ap (λ n. slice_get (nodes table t) (suc n)) is ∙ got in
       record {
+        sel = Field k;
+        part = ap (option_map (field k)) at;
         known = there;
         nearer = omega arith;
         within = within;
-        same = record {
-          type = ap (option_map (λ e. e.type)) same ∙ sym (ap (option_map (λ e. e.type)) entry);
-          tag = ap (option_map (λ e. e.tag)) same ∙ sym (ap (option_map (λ e. e.tag)) entry);
-        };
+        same = same ∙ sym (ap (option_map (under (Field k))) entry);
       }
 
   -- past the fields there is no entry
@@ -251,19 +256,22 @@ module _ (table : Table) (good : IsTable table) where
       none-some false (sym (ap (option_map (λ e. e.tag)) (slice_get_past (nodes table t) (suc number) (omega (arith, fielded_nodes t known is)))) ∙ node)
 
   -- an entry of the walk of the one part of a type
-  pub in_only : (t : ℕ) → IsKnown table t → (b : Branch) → b.tag ≡ false → branches table (type_at table t) ≡ b ∷ [] → IsKnown table b.type → (number : ℕ) → is_node (entry_at table t (suc number)) →
+  pub in_only : (t : ℕ) → IsKnown table t → (b : Branch) → b.tag ≡ false → branches table (type_at table t) ≡ b ∷ [] →
+      branch_of table (type_at table t) b.sel ≡ Some (record { sel = b.sel; type = b.type; tag = false }) → IsKnown table b.type → (number : ℕ) → is_node (entry_at table t (suc number)) →
       IsInPart table t number b.type number
-  in_only t known b plain is there number node =
+  in_only t known b plain is part there number node =
       let whole : nodes table t ≡ start t ∷ (map (under b.sel) (nodes table b.type) ++ []) =
       split table good t known ∙ ap (λ bs. start t ∷ flat_map (at_branch (nodes table)) bs) is ∙ ap (λ es. start t ∷ (es ++ [])) (inside_is (nodes table) b plain) in
       let same : slice_get (nodes table t) (suc number) ≡ option_map (under b.sel) (slice_get (nodes table b.type) number) =
       ap (λ es. slice_get es (suc number)) whole ∙ ap (λ es. slice_get es number) (sym (append-nil (map (under b.sel) (nodes table b.type)))) ∙ slice_get-map (under b.sel) (nodes table b.type) number in
       let tags = ap (option_map (λ e. e.tag)) same ∙ map_twice (λ e. e.tag) (under b.sel) (slice_get (nodes table b.type) number) in
       record {
+        sel = b.sel;
+        part = part;
         known = there;
         nearer = omega arith;
         within = some_within (nodes table b.type) number (sym tags ∙ node);
-        same = record { type = ap (option_map (λ e. e.type)) same ∙ map_twice (λ e. e.type) (under b.sel) (slice_get (nodes table b.type) number); tag = tags };
+        same = same;
       }
 
   -- the node that a way inside leads to
@@ -309,7 +317,9 @@ module _ (table : Table) (good : IsTable table) where
   in_target t known u is there number node = of (has_tag table u) refl
     where
       of : (tag : Bool) → has_tag table u ≡ tag → IsInPart table t number u number
-      of false plain = in_only t known (record { sel = Target; type = u; tag = false }) refl (ap (branches table) is ∙ ap (λ b. b ∷ []) (target_plain u plain)) there number node
+      of false plain =
+          in_only t known (record { sel = Target; type = u; tag = false }) refl (ap (branches table) is ∙ ap (λ b. b ∷ []) (target_plain u plain))
+          (ap (λ form. branch_of table form Target) is ∙ ap Some (target_plain u plain)) there number node
       of true tagged =
           let whole : nodes table t ≡ start t ∷ (record { path = Target ∷ []; type = least_of table u; tag = true } ∷ []) =
           split table good t known ∙ ap (λ bs. start t ∷ flat_map (at_branch (nodes table)) bs) (ap (branches table) is ∙ ap (λ b. b ∷ []) (target_tag u tagged)) in

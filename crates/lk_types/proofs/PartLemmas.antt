@@ -1,15 +1,14 @@
 -- The parts of a type of a table are in the table.
-use Rattle.std.proofs.Common.{◌≡◌, ◌∙◌, ◌≤◌, ◌<◌, ◌+◌, ℕ, zero, suc, Bool, true, false, List, [], ◌∷◌, ◌++◌, length, map, refl, sym, ap, subst, arith, All, Option, Some, None}
-use Rattle.std.specs.List.{flat_map, slice_get}
-use Rattle.std.specs.Prelude.{unwrap_or, if◌then◌else◌}
+use Rattle.std.proofs.Common.{◌≡◌, ◌<◌, ℕ, suc, Bool, true, false, List, [], ◌∷◌, refl, sym, arith, All}
+use Rattle.std.specs.Prelude.{if◌then◌else◌}
 use Rattle.std.proofs.lemmas.Bool.{false≢true}
 use Rattle.std.proofs.lemmas.List.Elements.{All-nil, All-cons, All-head, All-tail, All-weaker}
-use Rattle.lk_types.specs.Building.{IsTable, IsMadeOf, IsClosed, IsClosedPart, types_of}
-use Rattle.lk_types.specs.Table.{Table, type_at, least_of, members_of, fields_of, IsKnown}
+use Rattle.lk_types.specs.Building.{IsTable, IsMadeOf, IsClosed}
+use Rattle.lk_types.specs.Table.{Table, type_at, least_of, fields_of, IsKnown}
 use Rattle.lk_types.specs.Walks.{Branch, target, element, field, fields, branches, has_tag}
 use Rattle.lk_types.specs.declared.c_type.CType.{CType}
 use Rattle.lk_types.specs.declared.c_type.CType.TheVariants.{Void, Int, ThreadId, Mutex, Cond, Pointer, Array, Struct, Function, Opaque}
-use Rattle.lk_types.specs.declared.node.Sel.TheVariants.{Target, Element, Field, Part}
+use Rattle.lk_types.specs.declared.node.Sel.TheVariants.{Target}
 use Rattle.lk_types.proofs.Entries.{OfParts}
 
 abbrev pub target_by : Bool → ℕ → ℕ → Branch

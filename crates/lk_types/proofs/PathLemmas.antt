@@ -1,20 +1,20 @@
 -- No path stands twice in a walk.
-use Rattle.std.proofs.Common.{◌≡◌, ◌∙◌, ◌≤◌, ◌<◌, ◌+◌, ℕ, zero, suc, Bool, true, false, List, [], ◌∷◌, ◌++◌, length, map, refl, sym, ap, subst, arith, Option, Some, None}
+use Rattle.std.proofs.Common.{◌≡◌, ◌∙◌, ◌≤◌, ◌<◌, ◌+◌, ℕ, zero, suc, List, [], ◌∷◌, length, refl, sym, ap, subst, arith, Some}
 use Rattle.std.specs.List.{flat_map, slice_get}
 use Rattle.std.proofs.lemmas.Bool.{false≢true}
-use Rattle.std.proofs.lemmas.Option.{none-some, same_Some, slice_get_within}
-use Rattle.std.proofs.lemmas.Option.{slice_get-get_or, get_or_from_slice_get, unwrap_or-slice_get}
+use Rattle.std.proofs.lemmas.Option.{none-some, same_Some}
+use Rattle.std.proofs.lemmas.Option.{slice_get-get_or, unwrap_or-slice_get}
 use Rattle.lk_types.specs.Laws.{NoPathStandsTwice, EqualNodesHaveEqualIds}
-use Rattle.lk_types.specs.Nodes.{IsNode, node_of, entry_of, base_type}
+use Rattle.lk_types.specs.Nodes.{entry_of, base_type}
 use Rattle.lk_types.specs.Table.{Table, type_at, fields_of}
-use Rattle.lk_types.specs.Walks.{Branch, Entry, at_branch, under, start, nodes, walk, most_steps, field, fields, target, element, branches, below_start}
+use Rattle.lk_types.specs.Walks.{Branch, Entry, at_branch, start, nodes, walk, most_steps, field, fields, target, element, branches}
 use Rattle.lk_types.specs.declared.c_type.CType.{CType}
 use Rattle.lk_types.specs.declared.c_type.CType.TheVariants.{Void, Int, ThreadId, Mutex, Cond, Pointer, Array, Struct, Function, Opaque}
 use Rattle.lk_types.specs.declared.node.Base.{Base}
 use Rattle.lk_types.specs.declared.node.NodeId.{NodeId}
 use Rattle.lk_types.specs.declared.node.Sel.{Sel}
 use Rattle.lk_types.specs.declared.node.Sel.TheVariants.{Target, Element, Field, Part}
-use Rattle.lk_types.proofs.PlaceLemmas.{Stands, here, later, Located, located, IsOfPart, of_tag, of_walk, of_part_entry}
+use Rattle.lk_types.proofs.PlaceLemmas.{Stands, here, later, located, IsOfPart, of_tag, of_walk, of_part_entry}
 
 -- parts with one step between them are one part
 abbrev AreApart : (f : ℕ → List Entry) → List Branch → Type 0

@@ -1,15 +1,10 @@
 -- Where the walks of parts stand in the walk of a type.
-use Rattle.std.proofs.Common.{◌≡◌, ◌∙◌, ◌≤◌, ◌<◌, ◌+◌, ◌⊎◌, inl, inr, ℕ, zero, suc, Bool, true, false, List, [], ◌∷◌, ◌++◌, length, map, refl, sym, ap, subst, arith, All, length-append, Option, Some, None, take, sum, append_assoc}
+use Rattle.std.proofs.Common.{◌≡◌, ◌∙◌, ◌+◌, ◌⊎◌, inl, inr, ℕ, zero, suc, Bool, true, false, List, [], ◌∷◌, ◌++◌, length, map, refl, sym, ap, arith, Option, Some, None}
 use Rattle.std.specs.List.{flat_map, slice_get}
 use Rattle.std.specs.Option.{option_map}
-use Rattle.std.proofs.lemmas.Bool.{false≢true}
-use Rattle.std.proofs.lemmas.List.{length-map}
 use Rattle.std.proofs.lemmas.List.Elements.{All-head, All-tail}
-use Rattle.std.proofs.lemmas.Option.{none-some, same_Some, slice_get-map, slice_get_within}
-use Rattle.lk_types.specs.Table.{Table, type_at, fields_of}
-use Rattle.lk_types.specs.Walks.{Branch, Entry, at_branch, under, start, nodes, field, fields, branches, below_start}
-use Rattle.lk_types.specs.Sizes.{nodes_of}
-use Rattle.lk_types.specs.declared.node.Sel.{Sel}
+use Rattle.std.proofs.lemmas.Option.{none-some, same_Some, slice_get-map}
+use Rattle.lk_types.specs.Walks.{Branch, Entry, at_branch, under}
 use Rattle.lk_types.proofs.Entries.{OfParts}
 
 -- the entries of a part begin at this place below a Start
@@ -27,7 +22,7 @@ get-right [] ys j = let e : 0 + j ≡ j = omega arith in ap (slice_get ys) e
 get-right (x ∷ xs) ys j = let e : suc (length xs) + j ≡ suc (length xs + j) = omega arith in ap (slice_get (x ∷ (xs ++ ys))) e ∙ get-right xs ys j
 
 -- what stands in two lists together stands in the first or in the second
-get-either : {X : Type 0} (xs ys : List X) (k : ℕ) (x : X) → slice_get (xs ++ ys) k ≡ Some x →
+pub get-either : {X : Type 0} (xs ys : List X) (k : ℕ) (x : X) → slice_get (xs ++ ys) k ≡ Some x →
     (slice_get xs k ≡ Some x) ⊎ ((j : ℕ) × (k ≡ length xs + j) × (slice_get ys j ≡ Some x))
 get-either [] ys k x is = inr (k, omega arith, is)
 get-either (y ∷ xs) ys zero x is = inl is
@@ -80,7 +75,7 @@ mapped_from : {X Y : Type 0} (g : X → Y) (o : Option X) (y : Y) → option_map
 mapped_from g None y is = absurd (none-some y is)
 mapped_from g (Some x) y is = (x, refl, sym (same_Some (g x) y is))
 
-single : {X : Type 0} (z : X) (j : ℕ) (x : X) → slice_get (z ∷ []) j ≡ Some x → (j ≡ 0) × (x ≡ z)
+pub single : {X : Type 0} (z : X) (j : ℕ) (x : X) → slice_get (z ∷ []) j ≡ Some x → (j ≡ 0) × (x ≡ z)
 single z zero x is = (refl, sym (same_Some z x is))
 single z (suc j) x is = absurd (none-some x is)
 

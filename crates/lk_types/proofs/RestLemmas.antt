@@ -1,24 +1,21 @@
 -- What is kept stays true while the types of a table stay as they are.
-use Rattle.std.proofs.Common.{◌≡◌, ◌∙◌, ◌≤◌, ◌<◌, ◌+◌, ◌↔◌, ◌⊎◌, inl, inr, ℕ, zero, suc, Bool, true, false, List, [], ◌∷◌, ◌++◌, length, map, refl, sym, ap, subst, arith, All, Option, Some, None, get_or, length-append}
+use Rattle.std.proofs.Common.{◌≡◌, ◌∙◌, ◌≤◌, ◌<◌, ◌⊎◌, inl, inr, ℕ, zero, suc, false, List, [], ◌∷◌, ◌++◌, length, map, refl, sym, ap, subst, arith, Option, Some, None, length-append}
 use Rattle.std.specs.List.{slice_get}
 use Rattle.std.specs.Option.{option_map}
 use Rattle.std.specs.Prelude.{unwrap_or}
 use Rattle.std.proofs.lemmas.List.{length-map}
-use Rattle.std.proofs.lemmas.List.Elements.{All-weaker, All-nil}
+use Rattle.std.proofs.lemmas.List.Elements.{All-nil}
 use Rattle.std.proofs.lemmas.Bool.{false≢true}
 use Rattle.std.proofs.lemmas.Option.{none-some, same_Some, slice_get-map, slice_get_within}
-use Rattle.lk_types.specs.Building.{IsTable, IsType, IsLonger, IsLeast, IsClosed, IsMadeOf, ArePartsOf, types_of}
+use Rattle.lk_types.specs.Building.{IsTable, IsType, IsLonger, IsClosed, IsMadeOf, ArePartsOf, types_of}
 use Rattle.lk_types.specs.Kept.{table_of, AreKept, kept_size, size_by, IsSized}
-use Rattle.lk_types.specs.Sizes.{size_at, fields_size, is_too_large}
-use Rattle.lk_types.specs.Table.{Table, type_at, least_of, members_of, is_open, is_empty, struct_of, IsKnown}
-use Rattle.lk_types.specs.Walks.{holds_struct, fields}
+use Rattle.lk_types.specs.Table.{Table, type_at, members_of, is_open, is_empty, struct_of, IsKnown}
+use Rattle.lk_types.specs.Walks.{fields}
 use Rattle.lk_types.specs.declared.c_type.CType.{CType}
-use Rattle.lk_types.specs.declared.c_type.CType.TheVariants.{Struct}
 use Rattle.lk_types.specs.declared.facts.StructEntry.{StructEntry}
 use Rattle.lk_types.specs.declared.facts.TypeFacts.{TypeFacts}
 use Rattle.lk_types.specs.declared.member.StructMember.{StructMember}
-use Rattle.lk_types.specs.declared.size.TypeSize.{TypeSize}
-use Rattle.lk_types.proofs.GrowLemmas.{IsOwn, get_before, type_grown, size_same, holds_struct_same, known_same, type_same, closed_same, parts_size_same}
+use Rattle.lk_types.proofs.GrowLemmas.{IsOwn, get_before, type_grown, size_same, holds_struct_same, known_same, closed_same, parts_size_same}
 use Rattle.lk_types.proofs.KeptLemmas.{known_got, struct_within}
 use Rattle.lk_types.proofs.PartLemmas.{of_fields}
 
@@ -46,7 +43,10 @@ rest_table table members parts good types = record {
 }
 
 pub parts_rest : (table : Table) (members : List (List StructMember)) (parts : List ℕ) → ArePartsOf table parts → ArePartsOf (with_rest table members parts) parts
-parts_rest table members parts ok = record { known = ok.known; no_void = ok.no_void; least = ok.least; different = ok.different }
+parts_rest table members parts ok = record {
+  each = λ k d within. let part = ok.each k d within in record { known = part.known; no_void = part.no_void; least = part.least };
+  different = ok.different;
+}
 
 within_or : (s n : ℕ) → (s < n) ⊎ (n ≤ s)
 within_or s zero = inr (omega arith)

@@ -1,14 +1,14 @@
 -- Sizes that grow part by part.
-use Rattle.std.proofs.Common.{◌≡◌, ◌∙◌, ◌≤◌, ◌<◌, ◌+◌, ℕ, zero, suc, Bool, true, false, List, [], ◌∷◌, ◌++◌, length, map, max, refl, sym, ap, subst, arith, All, Option, Some, None, take, drop, get_or}
+use Rattle.std.proofs.Common.{◌≡◌, ◌∙◌, ◌≤◌, ◌<◌, ◌+◌, ℕ, zero, suc, Bool, true, false, List, [], ◌∷◌, ◌++◌, length, refl, sym, ap, subst, arith, All, Option, Some, None, take, drop, get_or}
 use Rattle.std.specs.List.{fold, slice_get}
-use Rattle.std.specs.Prelude.{nat_lt, ◌||◌, ◌↔◌, IsTrue}
+use Rattle.std.specs.Prelude.{◌↔◌, IsTrue}
 use Rattle.std.proofs.lemmas.Bool.{false≢true}
 use Rattle.std.proofs.lemmas.Bool.Decides.{nat_tests}
 use Rattle.std.proofs.lemmas.List.Sums.{fold_push}
 use Rattle.std.proofs.lemmas.List.{take-append-drop}
-use Rattle.lk_types.specs.Sizes.{with_part, part_size, size_of_parts, start_size, size_at, fields_size, form_size, with_types, is_too_large, Fits}
+use Rattle.lk_types.specs.Sizes.{with_part, part_size, start_size, size_at, fields_size, form_size, with_types, is_too_large, Fits}
 use Rattle.lk_types.specs.Table.{Table, IsKnown}
-use Rattle.lk_types.specs.Walks.{Branch, field, fields}
+use Rattle.lk_types.specs.Walks.{fields}
 use Rattle.lk_types.specs.declared.size.TypeSize.{TypeSize}
 use Rattle.std.proofs.lemmas.List.Elements.{All-head, All-tail, All-cons, All-map, All-weaker}
 use Rattle.std.proofs.lemmas.Option.{none-some, same_Some, slice_get-map, slice_get-get_or}

@@ -1,13 +1,12 @@
 -- The walk of a node's type stands in the walk in which the node has its number.
-use Rattle.std.proofs.Common.{◌≡◌, ◌∙◌, ◌≤◌, ◌<◌, ◌+◌, ℕ, zero, suc, Bool, true, false, List, [], ◌∷◌, ◌++◌, length, map, refl, sym, ap, subst, arith, All, Option, Some, None}
-use Rattle.std.specs.List.{flat_map, slice_get}
+use Rattle.std.proofs.Common.{◌≡◌, ◌∙◌, ◌≤◌, ◌+◌, ℕ, zero, suc, false, List, ◌∷◌, ◌++◌, refl, sym, ap, subst, arith, Some}
+use Rattle.std.specs.List.{slice_get}
 use Rattle.std.proofs.lemmas.Bool.{false≢true}
-use Rattle.std.proofs.lemmas.Option.{none-some, same_Some, slice_get_within}
+use Rattle.std.proofs.lemmas.Option.{same_Some}
 use Rattle.lk_types.specs.Building.{IsTable, IsClosed}
-use Rattle.lk_types.specs.Sizes.{deepest, nodes_of, steps_of}
+use Rattle.lk_types.specs.Sizes.{deepest, steps_of}
 use Rattle.lk_types.specs.Table.{Table, type_at, IsKnown}
-use Rattle.lk_types.specs.Walks.{Branch, Entry, at_branch, under, start, nodes, walk, most_steps, branches, below_start}
-use Rattle.lk_types.specs.declared.c_type.CType.{CType}
+use Rattle.lk_types.specs.Walks.{Branch, Entry, under, start, nodes, walk, most_steps, branches, below_start}
 use Rattle.lk_types.specs.declared.node.Sel.{Sel}
 use Rattle.lk_types.proofs.Entries.{OfParts, part_lower}
 use Rattle.lk_types.proofs.Fuel.{walk_is, walk-begins}

@@ -1,8 +1,8 @@
 -- How a table grows, and what holds in each table.
-use Rattle.std.specs.Prelude.{ℕ, ◌≡◌, ◌≢◌, ◌↔◌, ◌<◌, ◌≤◌, Bool, true, false, List, [], ◌∷◌, ◌++◌, map, length, All, slice_get, slice_set, Some, if◌then◌else◌, ⊤, nat_eq}
-use Rattle.lk_types.specs.Table.{Table, type_at, members_of, least_of, is_open, is_complete, is_empty, fields_of, IsKnown, HasKnown}
+use Rattle.std.specs.Prelude.{ℕ, ◌≡◌, ◌↔◌, ◌<◌, ◌≤◌, true, false, List, [], ◌∷◌, ◌++◌, map, length, All, slice_get, slice_set, Some, ⊤}
+use Rattle.lk_types.specs.Table.{Table, type_at, members_of, least_of, is_open, is_complete, is_empty, IsKnown}
 use Rattle.lk_types.specs.Walks.{Branch, branches, holds_struct, is_void}
-use Rattle.lk_types.specs.Sizes.{form_size, fields_size, is_too_large, size_at, steps_of}
+use Rattle.lk_types.specs.Sizes.{form_size, fields_size, is_too_large}
 use Rattle.lk_types.specs.Equal.{IsAlike}
 use Rattle.lk_types.specs.declared.c_type.CType.{CType}
 use Rattle.lk_types.specs.declared.c_type.CType.TheVariants.{Void, Int, ThreadId, Mutex, Cond, Pointer, Array, Struct, Function, Opaque}
@@ -118,9 +118,13 @@ pub data IsPut (old new : Table) (form : CType) (t : ℕ) : Type 0 where
   found : slice_get old.types t ≡ Some form → new ≡ old → IsPut old new form t
   added : ((u : ℕ) → slice_get old.types u ≡ Some form → ⊥) → t ≡ length old.types → IsAdded old new form → IsPut old new form t
 
--- the list of Parts names known types that aren't void, each by the least number of those that are equal to it but for the sizes of arrays
+-- a type that may be a Part of void: it is known, isn't void, and is the least of those that are equal to it but for the sizes of arrays
+pub record IsPart (table : Table) (t : ℕ) : Type 0 where
+  pub known : IsKnown table t
+  pub no_void : is_void (type_at table t) ≡ false
+  pub least : least_of table t ≡ t
+
+-- the Parts of void may be these types: each is one that may, and none stands twice
 pub record ArePartsOf (table : Table) (parts : List ℕ) : Type 0 where
-  pub known : All (IsKnown table) parts
-  pub no_void : All (λ t. is_void (type_at table t) ≡ false) parts
-  pub least : All (λ t. least_of table t ≡ t) parts
+  pub each : All (IsPart table) parts
   pub different : (i j t : ℕ) → slice_get parts i ≡ Some t → slice_get parts j ≡ Some t → i ≡ j

@@ -1,5 +1,5 @@
 -- When two types count as one although an array in them has another size.
-use Rattle.std.specs.Prelude.{ℕ, ◌≡◌, ◌≤◌, ◌⊎◌, Bool, List, [], ◌∷◌, Some, slice_get, ⊤}
+use Rattle.std.specs.Prelude.{ℕ, ◌≡◌, ◌⊎◌, Bool, List, [], ◌∷◌, Some, slice_get, ⊤}
 use Rattle.lk_types.specs.declared.c_type.CType.{CType}
 use Rattle.lk_types.specs.declared.c_type.CType.TheVariants.{Pointer, Array, Function}
 
@@ -31,3 +31,10 @@ IsAlike types a b = IsEqualBut AnySizes types a b
 -- equal but for absent sizes, as two declarations of one object may be (C99 6.2.7)
 abbrev pub IsRedeclarable : List CType → ℕ → ℕ → Type 0
 IsRedeclarable types a b = IsEqualBut SizesOrNone types a b
+
+-- two forms are made in the same way of types that are equal but for absent sizes
+abbrev pub AreMadeAlike : List CType → CType → CType → Type 0
+AreMadeAlike types (Pointer s) (Pointer t) = IsRedeclarable types s t
+AreMadeAlike types (Array s n) (Array t m) = SizesOrNone n m × IsRedeclarable types s t
+AreMadeAlike types (Function r ps dots) (Function s qs dots') = (dots ≡ dots') × IsRedeclarable types r s × AreEqualBut SizesOrNone types ps qs
+AreMadeAlike types _ _ = ⊥

@@ -1,7 +1,7 @@
 -- What a table keeps of its types, and what that tells.
-use Rattle.std.specs.Prelude.{ℕ, ◌≡◌, ◌<◌, List, [], ◌∷◌, map, length, All, false, ◌≤◌, slice_get, Some, Option, None, unwrap_or}
+use Rattle.std.specs.Prelude.{ℕ, ◌≡◌, List, map, length, All, false, ◌≤◌, slice_get, Some, Option, None}
 use Rattle.std.specs.Option.{option_map}
-use Rattle.lk_types.specs.Table.{Table, type_at, members_of, least_of, struct_of, IsKnown}
+use Rattle.lk_types.specs.Table.{Table, type_at, least_of, struct_of, IsKnown}
 use Rattle.lk_types.specs.Walks.{holds_struct}
 use Rattle.lk_types.specs.Sizes.{size_at, fields_size, is_too_large}
 use Rattle.lk_types.specs.Building.{IsTable, ArePartsOf, IsClosed, types_of}

@@ -1,4 +1,5 @@
 pub mod Table
+pub mod Steps
 pub mod Walks
 pub mod Sizes
 pub mod Nodes

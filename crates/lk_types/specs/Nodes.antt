@@ -1,5 +1,5 @@
 -- The nodes of a type, and the steps between them.
-use Rattle.std.specs.Prelude.{ℕ, ◌≡◌, ◌<◌, ◌==◌, ◌&&◌, Bool, true, false, List, [], ◌∷◌, ◌++◌, Option, None, Some, slice_get, length, unwrap_or, if◌then◌else◌, ⊤}
+use Rattle.std.specs.Prelude.{ℕ, ◌≡◌, ◌<◌, ◌==◌, ◌&&◌, Bool, false, List, [], ◌∷◌, ◌++◌, Option, None, Some, slice_get, length, unwrap_or, if◌then◌else◌, ⊤}
 use Rattle.std.specs.List.{list_any}
 use Rattle.std.specs.Option.{option_map}
 use Rattle.lk_types.specs.Table.{Table, type_at, least_of, fields_of, IsKnown}
@@ -90,6 +90,14 @@ has_part table t = list_any (λ u. u == least_of table t) table.parts
 -- the Tag to which a Part leads, where a walk begins at the Tag of void
 abbrev pub part_of_void : Table → Base → ℕ → Option Node
 part_of_void table base t = if is_void_tag table base && has_part table t then Some (first (Tag (least_of table t))) else None
+
+-- the path goes into no array
+abbrev pub HasNoElement : List Sel → Type 0
+HasNoElement [] = ⊤
+HasNoElement (Target ∷ path) = HasNoElement path
+HasNoElement (Element ∷ path) = ⊥
+HasNoElement (Field k ∷ path) = HasNoElement path
+HasNoElement (Part t ∷ path) = HasNoElement path
 
 -- the type that a step names is in the table
 abbrev pub IsSel : Table → Sel → Type 0

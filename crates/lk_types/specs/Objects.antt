@@ -1,5 +1,5 @@
 -- What an object of a type is made of: its scalar parts, its bytes, and its parts with indices counted up.
-use Rattle.std.specs.Prelude.{ℕ, ◌≡◌, ◌*◌, ◌+◌, zero, suc, Bool, true, false, ◌&&◌, ◌||◌, ◌++◌, not, List, [], ◌∷◌, map, filter, Option, None, Some, if◌then◌else◌, nat_eq}
+use Rattle.std.specs.Prelude.{ℕ, ◌*◌, zero, suc, Bool, true, false, ◌&&◌, ◌||◌, ◌++◌, List, [], ◌∷◌, map, filter, Option, None, Some, if◌then◌else◌, nat_eq}
 use Rattle.std.specs.List.{list_all, flat_map}
 use Rattle.std.specs.Option.{option_map}
 use Rattle.lk_base.specs.declared.kind.Kind.{Kind}

@@ -1,9 +1,9 @@
 -- Places in walks.
-use Rattle.std.specs.Prelude.{ℕ, ◌≡◌, ◌<◌, ◌≤◌, ◌+◌, zero, suc, Bool, false, List, [], ◌∷◌, Option, None, Some, true, length, slice_get, take}
+use Rattle.std.specs.Prelude.{ℕ, ◌≡◌, ◌<◌, ◌≤◌, ◌+◌, suc, false, List, [], ◌∷◌, Option, None, Some, true, length, slice_get, take}
 use Rattle.std.specs.Option.{option_map}
 use Rattle.lk_types.specs.Nodes.{Node, along, target_of, element_of, field_of, IsBase}
 use Rattle.lk_types.specs.Table.{Table, type_at, fields_of, IsKnown}
-use Rattle.lk_types.specs.Walks.{Entry, Branch, nodes}
+use Rattle.lk_types.specs.Walks.{Entry, Branch, under, nodes}
 use Rattle.lk_types.specs.Sizes.{nodes_of}
 use Rattle.lk_types.specs.declared.c_type.CType.{CType}
 use Rattle.lk_types.specs.declared.node.Base.TheVariants.{Tag}
@@ -25,12 +25,21 @@ pub record IsSamePart (a b : Option Entry) : Type 0 where
   pub type : option_map (λ e. e.type) a ≡ option_map (λ e. e.type) b
   pub tag : option_map (λ e. e.tag) a ≡ option_map (λ e. e.tag) b
 
--- entry k + 1 of the walk of t is entry `rest` of the walk of its part u
+-- the part to which a step leads
+abbrev pub branch_of : Table → CType → Sel → Option Branch
+branch_of table form Target = target_of table form
+branch_of table form Element = element_of form
+branch_of table form (Field k) = field_of table form k
+branch_of table form (Part t) = None
+
+-- entry k + 1 of the walk of t is entry `rest` of the walk of its part u, below the step to that part
 pub record IsInPart (table : Table) (t k u rest : ℕ) : Type 0 where
+  pub sel : Sel
+  pub part : branch_of table (type_at table t) sel ≡ Some (record { sel = sel; type = u; tag = false })
   pub known : IsKnown table u
   pub nearer : rest ≤ k
   pub within : rest < nodes_of table u
-  pub same : IsSamePart (entry_at table t (suc k)) (entry_at table u rest)
+  pub same : entry_at table t (suc k) ≡ option_map (under sel) (entry_at table u rest)
 
 -- how many entries the walks of these types have together
 abbrev pub nodes_of_all : Table → List ℕ → ℕ
@@ -45,13 +54,6 @@ nodes_before table t k = nodes_of_all table (take k (fields_of table (type_at ta
 pub record IsPlaceOfField (table : Table) (t k place : ℕ) : Type 0 where
   pub field : k < length (fields_of table (type_at table t))
   pub place_is : place ≡ nodes_before table t k
-
--- the part to which a step leads
-abbrev pub branch_of : Table → CType → Sel → Option Branch
-branch_of table form Target = target_of table form
-branch_of table form Element = element_of form
-branch_of table form (Field k) = field_of table form k
-branch_of table form (Part t) = None
 
 -- the node to which a step leads that is no Part
 abbrev pub step_inside : Table → Node → Sel → Option Node

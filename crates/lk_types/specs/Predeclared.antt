@@ -1,5 +1,6 @@
 -- The types that a table has from the start.
-use Rattle.std.specs.Prelude.{ℕ, ◌≡◌, ◌++◌, List, [], ◌∷◌}
+use Rattle.std.specs.Prelude.{ℕ, ◌≡◌, ◌++◌, List, [], ◌∷◌, length}
+use Rattle.std.specs.List.{range_with_len}
 use Rattle.lk_base.specs.declared.kind.Kind.{Kind}
 use Rattle.lk_base.specs.declared.kind.Kind.TheVariants.{Bool, Char, SChar, UChar, Short, UShort, Int as IntKind, UInt, Long, ULong, LLong, ULLong}
 use Rattle.lk_types.specs.Table.{Table}
@@ -11,6 +12,10 @@ abbrev pub predeclared : List CType
 predeclared =
     Void ∷ Int Bool ∷ Int Char ∷ Int SChar ∷ Int UChar ∷ Int Short ∷ Int UShort ∷ Int IntKind ∷ Int UInt ∷ Int Long ∷ Int ULong ∷ Int LLong ∷ Int ULLong ∷
     ThreadId ∷ Mutex ∷ Cond ∷ Opaque 0 ∷ Opaque 1 ∷ Opaque 2 ∷ []
+
+-- the table of these alone: each is the least of its kind, there are no structs, and void has no parts
+abbrev pub first_table : Table
+first_table = record { types = predeclared; members = []; parts = []; least = range_with_len 0 (length predeclared) }
 
 -- the table begins with the predeclared types
 abbrev pub HasPredeclared : Table → Type 0

@@ -1,6 +1,6 @@
 -- How large walks are, and the bounds of a type.
-use Rattle.std.specs.Prelude.{ℕ, ◌+◌, ◌||◌, ◌≡◌, ◌<◌, zero, suc, Bool, false, List, [], ◌∷◌, length, max, fold, nat_lt, if◌then◌else◌, All, ⊤, true, Option, MatchOption}
-use Rattle.lk_types.specs.Table.{Table, type_at, fields_of}
+use Rattle.std.specs.Prelude.{ℕ, ◌+◌, ◌||◌, ◌≡◌, ◌<◌, suc, Bool, false, List, [], ◌∷◌, length, max, fold, nat_lt, if◌then◌else◌, All, ⊤, true, Option, MatchOption}
+use Rattle.lk_types.specs.Table.{Table, fields_of}
 use Rattle.lk_types.specs.Walks.{Branch, Entry, nodes, branches, fields, has_tag}
 use Rattle.lk_types.specs.declared.c_type.CType.{CType}
 use Rattle.lk_types.specs.declared.c_type.CType.TheVariants.{Void, Int, ThreadId, Mutex, Cond, Pointer, Array, Struct, Function, Opaque}

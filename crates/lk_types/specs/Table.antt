@@ -1,5 +1,5 @@
 -- A table of types, as plain lists, and what is read from it.
-use Rattle.std.specs.Prelude.{ℕ, ◌≡◌, ◌<◌, zero, suc, Bool, true, false, not, Option, Some, None, List, [], ◌∷◌, map, length, slice_get, unwrap_or, if◌then◌else◌, nat_eq, All, ⊤}
+use Rattle.std.specs.Prelude.{ℕ, ◌<◌, Bool, true, false, not, Option, Some, None, List, [], ◌∷◌, map, length, slice_get, unwrap_or, nat_eq, All, ⊤}
 use Rattle.lk_types.specs.declared.c_type.CType.{CType}
 use Rattle.lk_types.specs.declared.c_type.CType.TheVariants.{Void, Int, ThreadId, Mutex, Cond, Pointer, Array, Struct, Function, Opaque}
 use Rattle.lk_types.specs.declared.member.StructMember.{StructMember}

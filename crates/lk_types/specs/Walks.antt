@@ -1,12 +1,11 @@
 -- The walk of a type: what its pointers, elements and fields lead to, depth first.
-use Rattle.std.specs.Prelude.{ℕ, ◌≡◌, zero, suc, Bool, true, false, ◌||◌, List, [], ◌∷◌, ◌++◌, map, Option, None, Some, slice_get, if◌then◌else◌}
+use Rattle.std.specs.Prelude.{ℕ, zero, suc, Bool, true, false, ◌||◌, List, [], ◌∷◌, map, if◌then◌else◌}
 use Rattle.std.specs.List.{flat_map}
-use Rattle.std.specs.Option.{option_map}
 use Rattle.lk_types.specs.Table.{Table, type_at, least_of, fields_of}
 use Rattle.lk_types.specs.declared.c_type.CType.{CType}
 use Rattle.lk_types.specs.declared.c_type.CType.TheVariants.{Void, Int, ThreadId, Mutex, Cond, Pointer, Array, Struct, Function, Opaque}
 use Rattle.lk_types.specs.declared.node.Sel.{Sel}
-use Rattle.lk_types.specs.declared.node.Sel.TheVariants.{Target, Element, Field, Part}
+use Rattle.lk_types.specs.declared.node.Sel.TheVariants.{Target, Element, Field}
 
 -- whether the form is a struct, or an array whose elements are or hold one by `below`
 abbrev pub holds : (ℕ → Bool) → CType → Bool

@@ -1,10 +1,10 @@
 //! The table of types.
-ghost use Rattle.std.specs.Prelude.{ℕ, ◌≡◌, ◌↔◌, ◌<◌, ◌≤◌, length, slice_get, Some, false};
+ghost use Rattle.std.specs.Prelude.{IsTrue, ℕ, ◌≡◌, ◌↔◌, ◌<◌, ◌≤◌, length, slice_get, Some, false};
 ghost use Rattle.lk_types.specs.Table.{IsKnown, members_of, least_of};
 ghost use Rattle.lk_types.specs.Walks.{holds_struct};
 ghost use Rattle.lk_types.specs.Sizes.{size_at, is_too_large, HasLowerParts};
 ghost use Rattle.lk_types.specs.Equal.{IsAlike};
-ghost use Rattle.lk_types.specs.Building.{IsTable, IsMadeOf, IsLeast, ArePartsOf};
+ghost use Rattle.lk_types.specs.Building.{IsTable, IsMadeOf, IsLeast, IsPart, ArePartsOf};
 
 use crate::c_type::CType;
 use crate::facts::{StructEntry, TypeFacts};
@@ -120,6 +120,26 @@ impl TypeTable {
         ensures alike { (u : ℕ) → IsKnown self.now u → IsAlike self.now.types t u ↔ (result ≡ least_of self.now u) }
     {
         self.types.at(t.index()).1.least
+    }
+
+    /// Whether a type may be a Part of `void`: it is known, isn't `void`, and is the least of those that are equal to it
+    /// but for the sizes of arrays.
+    fn is_part(&self, t: TypeId) -> bool
+        ensures { IsTrue result ↔ IsPart self.now t }
+    {
+        t.0 < self.count() && !matches!(self.get(t), CType::Void) && self.least_alike(t) == t
+    }
+
+    /// Whether these types may be the Parts of `void`: each is one that may, and none stands twice.
+    pub fn are_parts(&self, parts: &[TypeId]) -> bool
+        ensures { IsTrue result ↔ ArePartsOf self.now parts.now }
+    {
+        for place in 0..parts.len() {
+            if !self.is_part(parts[place]) || parts[..place].contains(&parts[place]) {
+                return false;
+            }
+        }
+        true
     }
 
     /// The same table with another list of the types for which `void` has a Part. It takes no memory.

@@ -1,11 +1,11 @@
 //! The numbers of nodes in the walk of a type.
-ghost use Rattle.std.specs.Prelude.{◌≡◌, ◌<◌, ◌≤◌, ◌+◌, length, slice_get, Some, None, IfSome, MatchOption};
+ghost use Rattle.std.specs.Prelude.{◌≡◌, ◌↔◌, IsTrue, ◌<◌, ◌≤◌, ◌+◌, length, slice_get, Some, None, IfSome, MatchOption};
 ghost use Rattle.std.specs.Option.{option_map};
 ghost use Rattle.lk_types.specs.Table.{IsKnown, type_at, fields_of, least_of};
 ghost use Rattle.lk_types.specs.Walks.{has_tag, branches, fields};
 ghost use Rattle.lk_types.specs.Building.{IsTable};
 ghost use Rattle.lk_types.specs.Sizes.{nodes_of};
-ghost use Rattle.lk_types.specs.Nodes.{IsNode, Node, node_of, first, step, base_type, is_void_tag, has_part, part_of_void, IsBase, IsSel};
+ghost use Rattle.lk_types.specs.Nodes.{IsNode, Node, node_of, first, step, base_type, is_void_tag, has_part, part_of_void, IsBase, IsSel, HasNoElement};
 ghost use Rattle.lk_types.specs.Places.{entry_at, is_node, branch_of, step_inside, IsInPart, IsWay, IsPlaceOfField};
 ghost use Rattle.lk_types.specs.declared.node.Base.TheVariants.{Start, Tag};
 ghost use Rattle.lk_types.specs.declared.node.Sel.TheVariants.{Target, Element, Field};
@@ -157,6 +157,25 @@ impl TypeTable {
             number = rest;
         }
         t
+    }
+
+    /// Whether the path of a node goes into no array, so that the node of an object is one part of it at most.
+    pub fn has_no_element(&self, n: NodeId) -> bool
+        requires { IsNode self.now n }
+        ensures { IsTrue result ↔ HasNoElement (node_of self.now n).path }
+    {
+        self.is_table();
+        let mut t = n.base.ty();
+        let mut number = n.number;
+        while number > 0 {
+            let (part, rest) = self.part_at(t, number - 1);
+            if matches!(self.get(t), CType::Array(_, _)) {
+                return false;
+            }
+            t = part;
+            number = rest;
+        }
+        true
     }
 
     /// How a pointer leads to what it points to.

@@ -3,7 +3,7 @@ ghost use Rattle.std.specs.Prelude.{◌≡◌, ◌↔◌, IsTrue, ℕ, ⊤, All,
 ghost use Rattle.lk_types.specs.Table.{IsKnown, is_complete, least_of};
 ghost use Rattle.lk_types.specs.Walks.{holds, holds_struct};
 ghost use Rattle.lk_types.specs.Kept.{key_form};
-ghost use Rattle.lk_types.specs.Predeclared.{predeclared};
+ghost use Rattle.lk_types.specs.Predeclared.{first_table};
 ghost use Rattle.lk_types.specs.Sizes.{size_at, form_size, fields_size, with_part, with_types, start_size, is_too_large, Fits};
 ghost use Rattle.lk_types.specs.Building.{IsForm, IsPassed, IsPartOfObjects, IsPut, IsAdded, types_of, IsLonger, CanComplete, with_members};
 
@@ -22,9 +22,7 @@ use std::alloc::Global;
 impl TypeTable {
     /// A table of the predeclared types. It has no structs, and `void` has no parts.
     pub fn new(alloc: Global) -> Result<TypeTable, NoMemory>
-        ensures types { IfOk result (λ table. table.types ≡ predeclared) }
-        ensures structs { IfOk result (λ table. table.members ≡ []) }
-        ensures parts { IfOk result (λ table. table.parts ≡ []) }
+        ensures { IfOk result (λ table. table ≡ first_table) }
     {
         let mut table = TypeTable {
             types: Forms::new(alloc),
@@ -37,6 +35,7 @@ impl TypeTable {
             table.add(form)?;
             number += 1;
         }
+        table.is_table();
         Ok(table)
     }
 

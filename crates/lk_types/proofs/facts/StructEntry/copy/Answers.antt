@@ -1,4 +1,4 @@
-use Rattle.std.proofs.Common.{◌≡◌, ◌∙◌, ◌≤◌, List, length, ap, subst}
+use Rattle.std.proofs.Common.{◌∙◌, ◌≤◌, List, length, ap, subst}
 use Rattle.lk_types.specs.declared.facts.StructEntry.{StructEntry}
 use Rattle.lk_types.specs.declared.member.StructMember.{StructMember}
 use Rattle.lk_types.proofs.SizeLemmas.{all_taken}

@@ -1,4 +1,4 @@
-use Rattle.std.proofs.Common.{◌≡◌, ◌∙◌, Some, slice_get, sym, subst, ap}
+use Rattle.std.proofs.Common.{◌≡◌, Some, slice_get, sym, subst}
 use Rattle.lk_types.specs.Forms.{IsAbsent}
 use Rattle.lk_types.proofs.FormEq.{absent_from_lookup, key_found}
 use Rattle.lk_types.proofs.forms.Forms.find.Goals as goal

@@ -1,4 +1,4 @@
-use Rattle.std.proofs.Common.{◌≡◌, ◌∙◌, ◌++◌, ◌∷◌, [], sym, subst, ap}
+use Rattle.std.proofs.Common.{◌∙◌, ◌++◌, ◌∷◌, [], sym, subst, ap}
 use Rattle.lk_types.specs.Forms.{IsAbsent}
 use Rattle.lk_types.proofs.FormEq.{put_last}
 use Rattle.lk_types.proofs.forms.Forms.push.Goals as goal

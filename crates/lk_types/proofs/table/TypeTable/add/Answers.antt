@@ -1,6 +1,5 @@
-use Rattle.std.proofs.Common.{◌≡◌, ◌∙◌, Some, slice_get, length, refl, ap, sym, subst}
-use Rattle.std.proofs.lemmas.Option.{MatchOption-at_some}
-use Rattle.lk_types.specs.Sizes.{form_size, is_too_large}
+use Rattle.std.proofs.Common.{◌≡◌, Some, slice_get, refl, subst}
+use Rattle.lk_types.specs.Sizes.{form_size}
 use Rattle.lk_types.specs.Table.{Table}
 use Rattle.lk_types.specs.declared.facts.TypeFacts.{TypeFacts}
 use Rattle.lk_types.proofs.AddLemmas.{IsAddable, added_found, added_fresh, entry_at_key}

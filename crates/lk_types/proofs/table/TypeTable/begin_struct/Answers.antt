@@ -1,8 +1,7 @@
-use Rattle.std.proofs.Common.{◌≡◌, ◌∙◌, ◌<◌, ◌++◌, ◌∷◌, [], length, sym, subst, ap, arith}
+use Rattle.std.proofs.Common.{◌∙◌, ◌<◌, length, subst, arith}
 use Rattle.std.proofs.lemmas.List.{length-map}
 use Rattle.lk_types.specs.Building.{IsLonger}
 use Rattle.lk_types.specs.Kept.{table_of}
-use Rattle.lk_types.specs.declared.facts.StructEntry.{StructEntry}
 use Rattle.lk_types.proofs.RestLemmas.{kept_begun, longer_begun, begun_is}
 use Rattle.lk_types.proofs.table.TypeTable.begin_struct.Goals as goal
 

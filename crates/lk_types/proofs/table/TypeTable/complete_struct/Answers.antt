@@ -1,4 +1,4 @@
-use Rattle.std.proofs.Common.{◌≡◌, ◌∙◌, List, All, ap, sym, subst}
+use Rattle.std.proofs.Common.{◌∙◌, List, All, ap, sym, subst}
 use Rattle.std.specs.Prelude.{slice_set}
 use Rattle.lk_types.specs.Building.{CanComplete, IsPartOfObjects, IsLonger, types_of, with_members}
 use Rattle.lk_types.specs.Kept.{table_of}

@@ -1,4 +1,4 @@
-use Rattle.std.proofs.Common.{◌≡◌, ◌∙◌, ◌≤◌, List, ℕ, length, ap, sym, subst}
+use Rattle.std.proofs.Common.{◌∙◌, ◌≤◌, List, ℕ, length, subst}
 use Rattle.lk_types.specs.declared.facts.StructEntry.{StructEntry}
 use Rattle.lk_types.proofs.SizeLemmas.{kept_equal, all_taken}
 use Rattle.lk_types.proofs.table.TypeTable.copy.Goals as goal

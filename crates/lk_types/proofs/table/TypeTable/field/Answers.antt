@@ -1,4 +1,4 @@
-use Rattle.std.proofs.Common.{◌≡◌, ◌∙◌, ◌∷◌, Some, slice_get, subst, ap, refl, sym}
+use Rattle.std.proofs.Common.{◌∙◌, ◌∷◌, Some, slice_get, subst, ap, sym}
 use Rattle.lk_types.specs.Table.{fields_of, IsKnown}
 use Rattle.lk_types.specs.declared.c_type.CType.TheVariants.{Struct, Function}
 use Rattle.lk_types.specs.Building.{IsMadeOf}

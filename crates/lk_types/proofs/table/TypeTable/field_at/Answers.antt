@@ -1,6 +1,5 @@
-use Rattle.std.proofs.Common.{◌≡◌, ◌∙◌, ◌≤◌, ◌<◌, ◌+◌, ap, arith, sym, subst, suc}
+use Rattle.std.proofs.Common.{◌≡◌, ◌∙◌, ◌+◌, ap, arith, sym, subst, suc}
 use Rattle.lk_types.specs.Places.{entry_at, is_node}
-use Rattle.lk_types.specs.Sizes.{nodes_of}
 use Rattle.lk_types.specs.Table.{fields_of, type_at}
 use Rattle.lk_types.proofs.NodeLemmas.{in_field, some_nodes, more_fields, no_entry, none_past, all_fields_before}
 use Rattle.lk_types.proofs.table.TypeTable.field_at.Goals as goal

@@ -1,5 +1,5 @@
-use Rattle.std.proofs.Common.{◌≡◌, ◌∙◌, Some, slice_get, sym, subst, ap}
-use Rattle.lk_types.specs.Building.{IsTable, IsMadeOf}
+use Rattle.std.proofs.Common.{◌≡◌, Some, slice_get, subst}
+use Rattle.lk_types.specs.Building.{IsMadeOf}
 use Rattle.lk_types.specs.Sizes.{HasLowerParts}
 use Rattle.lk_types.proofs.KeptLemmas.{form_got, made_of_got, lower_got, at_number}
 use Rattle.lk_types.proofs.table.TypeTable.get.Goals as goal

@@ -1,4 +1,4 @@
-use Rattle.std.proofs.Common.{◌≡◌, List, ℕ, All, sym, subst}
+use Rattle.std.proofs.Common.{List, ℕ, All, sym, subst}
 use Rattle.std.proofs.lemmas.List.Elements.{All-tail}
 use Rattle.lk_types.specs.Table.{IsKnown}
 use Rattle.lk_types.proofs.SizeLemmas.{passed_known}

@@ -1,4 +1,4 @@
-use Rattle.std.proofs.Common.{◌≡◌, ◌∙◌, map, ap, sym, subst}
+use Rattle.std.proofs.Common.{◌∙◌, map, ap}
 use Rattle.lk_types.specs.Table.{least_of}
 use Rattle.lk_types.proofs.SizeLemmas.{all_taken}
 use Rattle.lk_types.proofs.table.TypeTable.least_of_all.Goals as goal

@@ -1,7 +1,7 @@
-use Rattle.std.proofs.Common.{◌≡◌, ◌∙◌, ◌≤◌, ◌+◌, true, take, length, arith, ap, sym, subst}
+use Rattle.std.proofs.Common.{◌≡◌, ◌∙◌, true, arith, ap, sym, subst}
 use Rattle.std.proofs.lemmas.List.{length-map}
 use Rattle.lk_types.specs.Building.{types_of}
-use Rattle.lk_types.specs.Sizes.{start_size, is_too_large, with_part, with_types, fields_size}
+use Rattle.lk_types.specs.Sizes.{start_size, is_too_large, with_part, with_types}
 use Rattle.lk_types.specs.Table.{IsKnown}
 use Rattle.lk_types.proofs.SizeLemmas.{fields_size_is, step_size, step_large, all_taken, types_got, all_read}
 use Rattle.lk_types.proofs.table.TypeTable.members_size.Goals as goal

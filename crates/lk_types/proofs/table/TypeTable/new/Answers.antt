@@ -1,5 +1,7 @@
-use Rattle.std.proofs.Common.{◌≡◌, ◌∙◌, arith, sym}
-use Rattle.lk_types.proofs.NewLemmas.{kept_empty, predeclared_form, predeclared_small, predeclared_new, predeclared_more, predeclared_within}
+use Rattle.std.proofs.Common.{◌≡◌, ◌∙◌, ap, arith, sym, take}
+use Rattle.lk_types.specs.Predeclared.{predeclared}
+use Rattle.lk_types.proofs.NodeLemmas.{none_past}
+use Rattle.lk_types.proofs.NewLemmas.{kept_empty, first_is, predeclared_form, predeclared_small, predeclared_new, predeclared_more, predeclared_within}
 use Rattle.lk_types.proofs.table.TypeTable.new.Goals as goal
 
 pub invariant_of-table : goal.invariant_of-table
@@ -23,3 +25,9 @@ loop-form-preserved c =
       added.parts ∙ c.loop-form.invariant.2,
       omega arith,
     )
+
+pub returns : goal.returns
+returns c =
+    let past = none_past predeclared c.loop-form.number (sym c.predeclared.ensures ∙ c.in_default.is) in
+    let number : c.loop-form.number ≡ 19 = omega (arith, past, c.loop-form.invariant.3) in
+    first_is c.loop-form.table c.is_table.ensures (c.loop-form.invariant.0 ∙ ap (λ n. take n predeclared) number) c.loop-form.invariant.1 c.loop-form.invariant.2

@@ -1,7 +1,6 @@
-use Rattle.std.proofs.Common.{◌≡◌, ◌∙◌, ◌≤◌, ◌<◌, ◌+◌, ap, arith, sym, subst, length, take}
+use Rattle.std.proofs.Common.{◌≡◌, ap, arith, sym, subst, take}
 use Rattle.lk_types.specs.Places.{nodes_of_all}
 use Rattle.std.proofs.lemmas.Option.{slice_get_within}
-use Rattle.lk_types.specs.Sizes.{nodes_of}
 use Rattle.lk_types.specs.Table.{fields_of, type_at}
 use Rattle.lk_types.proofs.NodeLemmas.{fields_bound, more_fields, none_past}
 use Rattle.lk_types.proofs.table.TypeTable.nodes_before.Goals as goal

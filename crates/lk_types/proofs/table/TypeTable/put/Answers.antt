@@ -1,4 +1,4 @@
-use Rattle.std.proofs.Common.{◌≡◌, ◌∙◌, Some, slice_get, length, refl, ap, sym, subst}
+use Rattle.std.proofs.Common.{◌≡◌, Some, slice_get, refl, subst}
 use Rattle.lk_types.specs.Building.IsPut.{found, added}
 use Rattle.lk_types.specs.Table.{Table}
 use Rattle.lk_types.proofs.AddLemmas.{absent_from, added_there}

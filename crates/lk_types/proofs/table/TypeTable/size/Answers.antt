@@ -1,4 +1,4 @@
-use Rattle.std.proofs.Common.{◌≡◌, ◌∙◌, false, arith, sym, subst, ap}
+use Rattle.std.proofs.Common.{◌≡◌, ◌∙◌, arith, sym, subst, ap}
 use Rattle.lk_types.specs.Sizes.{size_at, is_too_large}
 use Rattle.lk_types.proofs.KeptLemmas.{size_kept, struct_size_kept, struct_within, size_small, at_number, read_got}
 use Rattle.lk_types.proofs.table.TypeTable.size.Goals as goal

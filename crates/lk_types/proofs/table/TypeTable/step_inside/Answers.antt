@@ -1,4 +1,4 @@
-use Rattle.std.proofs.Common.{◌≡◌, ◌∙◌, ◌+◌, ◌++◌, ◌∷◌, [], Some, false, refl, ap, arith, sym, subst}
+use Rattle.std.proofs.Common.{◌∙◌, ◌+◌, ◌++◌, ◌∷◌, [], Some, false, refl, ap, arith, sym, subst}
 use Rattle.std.specs.Option.{option_map}
 use Rattle.lk_types.specs.Nodes.{Node, along, node_of, entry_of}
 use Rattle.lk_types.specs.Places.{IsWay}

@@ -1,4 +1,4 @@
-use Rattle.std.proofs.Common.{◌≡◌, ◌∙◌, Some, ap, refl}
+use Rattle.std.proofs.Common.{◌∙◌, Some, ap}
 use Rattle.lk_types.specs.Nodes.{element_of}
 use Rattle.lk_types.proofs.NodeLemmas.{way_to_element, type_is}
 use Rattle.lk_types.proofs.table.TypeTable.way_to_element.Goals as goal

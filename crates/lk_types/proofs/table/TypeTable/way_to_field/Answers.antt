@@ -1,10 +1,8 @@
-use Rattle.std.proofs.Common.{◌≡◌, ◌∙◌, ◌+◌, ◌∷◌, [], Some, None, false, suc, ap, arith, sym, subst, get_or, slice_get}
+use Rattle.std.proofs.Common.{ap, get_or}
 use Rattle.std.specs.Option.{option_map}
 use Rattle.std.proofs.lemmas.Option.{slice_get-get_or, slice_get_past}
-use Rattle.lk_types.specs.Places.{entry_at}
 use Rattle.lk_types.specs.Table.{fields_of, type_at}
 use Rattle.lk_types.specs.Walks.{field}
-use Rattle.lk_types.specs.declared.node.Sel.TheVariants.{Field}
 use Rattle.lk_types.proofs.NodeLemmas.{way_to_field}
 use Rattle.lk_types.proofs.table.TypeTable.way_to_field.Goals as goal
 

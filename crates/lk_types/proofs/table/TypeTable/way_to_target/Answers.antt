@@ -1,4 +1,4 @@
-use Rattle.std.proofs.Common.{◌≡◌, ◌∙◌, Some, ap, refl, sym}
+use Rattle.std.proofs.Common.{◌∙◌, Some, ap, sym}
 use Rattle.lk_types.specs.Nodes.{target_of}
 use Rattle.lk_types.proofs.NodeLemmas.{way_to_target, target_plain, type_is}
 use Rattle.lk_types.proofs.table.TypeTable.way_to_target.Goals as goal

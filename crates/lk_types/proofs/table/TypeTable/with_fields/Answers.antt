@@ -1,7 +1,5 @@
-use Rattle.std.proofs.Common.{◌≡◌, ◌∙◌, ◌+◌, true, take, ap, sym, subst}
-use Rattle.std.proofs.lemmas.Option.{slice_get-get_or}
+use Rattle.std.proofs.Common.{◌≡◌, ◌∙◌, true, ap, sym, subst}
 use Rattle.lk_types.specs.Sizes.{is_too_large, with_part, with_types}
-use Rattle.lk_types.specs.Table.{IsKnown}
 use Rattle.lk_types.proofs.KeptLemmas.{read_got}
 use Rattle.lk_types.proofs.SizeLemmas.{step_size, step_large, all_taken}
 use Rattle.lk_types.proofs.table.TypeTable.with_fields.Goals as goal

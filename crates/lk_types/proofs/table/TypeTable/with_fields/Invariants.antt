@@ -1,5 +1,5 @@
 use Rattle.std.proofs.Common.{◌≡◌, false, take}
-use Rattle.lk_types.specs.Sizes.{start_size, is_too_large, with_types}
+use Rattle.lk_types.specs.Sizes.{is_too_large, with_types}
 use Rattle.lk_types.proofs.table.TypeTable.with_fields.Given as goal
 
 abbrev pub invariant-loop-t : goal.invariant-loop-t

@@ -1,4 +1,4 @@
-use Rattle.std.proofs.Common.{◌≡◌, ◌∙◌, ◌<◌, ℕ, arith, length, refl, sym, subst, ap}
+use Rattle.std.proofs.Common.{arith, refl, sym, subst}
 use Rattle.lk_types.specs.Building.{ArePartsOf}
 use Rattle.lk_types.specs.Kept.{table_of}
 use Rattle.lk_types.proofs.RestLemmas.{kept_longer, none_past}
