@@ -1,11 +1,11 @@
 -- What crosses sites: lists of labels, and for each label inside the labels outside.
-use Rattle.std.proofs.Common.{ℕ, ◌+◌, ◌-◌, ◌<◌, ◌≤◌, ◌≡◌, ◌↔◌, ◌⊎◌, Bool, true, false, eqb, List, [], ◌∷◌, ◌++◌, length, get_or, take, All, Contains, Some, None, refl, sym, ap, ◌∙◌, subst, inl, inr, arith}
-use Rattle.std.specs.Prelude.{slice_get, unwrap_or}
+use Rattle.std.proofs.Common.{ℕ, ◌+◌, ◌<◌, ◌≤◌, ◌≡◌, ◌↔◌, Bool, true, false, eqb, List, [], ◌∷◌, ◌++◌, length, get_or, take, All, Contains, Some, refl, sym, ap, ◌∙◌, subst, inl, inr, arith}
+use Rattle.std.specs.Prelude.{slice_get}
 use Rattle.std.specs.Option.{option_map_or}
 use Rattle.std.specs.List.{position_or_len}
 use Rattle.std.specs.List.Sorted.{IsStrictlyIncreasing}
 use Rattle.std.proofs.lemmas.Bool.{both_ways, cases_eq, cases_lt}
-use Rattle.std.proofs.lemmas.List.{get_or_append_left, get_or_default, get_or_past, get_or_push, length-append, take_all}
+use Rattle.std.proofs.lemmas.List.{get_or_append_left, get_or_default, get_or_past, get_or_push, length-append}
 use Rattle.lk_facts.specs.declared.edge.Edge.{Edge}
 use Rattle.lk_facts.specs.declared.edge.Mark.TheVariants.{Enter}
 use Rattle.lk_facts.specs.Paths.{HasEdge, edge_of}
@@ -19,7 +19,7 @@ use Rattle.lk_sets.specs.Ids.{has_id}
 use Rattle.lk_sets.specs.Rows.{Rows, has, row_of, IsSquare}
 use Rattle.lk_sets.proofs.Members.{Contains-from_has_id, has_id-from_Contains}
 use Rattle.lk_sets.proofs.Reading.{has_id-row}
-use Rattle.lk_facts.specs.Origins.{outside_of, IsSetBelow, AreSetsBelow, IsCrossingInRange}
+use Rattle.lk_facts.specs.Origins.{outside_of, IsSetBelow, IsCrossingInRange}
 use Rattle.lk_facts.specs.declared.crossing.Crossing.{Crossing}
 use Rattle.lk_facts.proofs.Sets.{place_found, place_missing}
 use Rattle.lk_match.specs.declared.passage.Passage.{Passage}

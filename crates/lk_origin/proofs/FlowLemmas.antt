@@ -1,8 +1,7 @@
 -- What flows along arrows, and that All and Inner are just that.
-use Rattle.std.proofs.Common.{ℕ, ◌<◌, ◌≡◌, ◌↔◌, ◌⊎◌, ◌||◌, ◌&&◌, Bool, true, false, eqb, List, length, All, Contains, refl, sym, ◌∙◌, subst, inl, inr}
+use Rattle.std.proofs.Common.{ℕ, ◌<◌, ◌≡◌, ◌↔◌, ◌⊎◌, ◌||◌, Bool, true, false, List, length, All, Contains, refl, sym, subst, inl, inr}
 use Rattle.std.proofs.lemmas.Bool.{both_ways, or_right}
 use Rattle.std.proofs.lemmas.List.Elements.{All-contains, All-contains_itself, All-weaker}
-use Rattle.lk_sets.specs.Adding.{IsGiven}
 use Rattle.lk_sets.specs.Closing.{Grows}
 use Rattle.lk_sets.specs.Rows.{Rows, has, IsSquare}
 use Rattle.lk_sets.specs.Spread.{IsWithin, PassesOn, Spread}
@@ -28,7 +27,7 @@ use Rattle.lk_match.specs.Passages.{mark_of}
 use Rattle.lk_match.specs.declared.passage.Side.{Side}
 use Rattle.lk_match.specs.declared.passage.Side.TheVariants.{Into, OutOf}
 use Rattle.lk_match.specs.declared.summary.SummaryEdge.{SummaryEdge}
-use Rattle.lk_origin.specs.Arrows.{passes, IsAlong, IsArrow, Flows}
+use Rattle.lk_origin.specs.Arrows.{passes, Flows}
 use Rattle.lk_origin.specs.Flowing.{LeadsOn, AreWays, AreSound, AreClosed, Flowed}
 
 -- what arrows keep, spread rows have

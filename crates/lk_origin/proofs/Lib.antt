@@ -1,3 +1,4 @@
 pub mod CrossingLemmas
 pub mod FlowLemmas
+pub mod InflowLemmas
 pub mod TakeLemmas

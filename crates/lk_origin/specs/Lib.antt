@@ -1,3 +1,4 @@
 pub mod Arrows
 pub mod Crossings
 pub mod Flowing
+pub mod Inflows

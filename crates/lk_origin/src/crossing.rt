@@ -11,6 +11,7 @@ ghost use Rattle.lk_sets.specs.Rows.{has, row_of};
 ghost use Rattle.lk_sets.specs.Adding.{Adds, IsGiven};
 ghost use Rattle.lk_origin.specs.Crossings.{IsPassageWithin, LeadsTo, LeadsInto, crossed_of};
 
+use crate::inflow::{inflows, outside_at};
 use lk_base::{NoMemory, Seq};
 use lk_facts::{Crossing, Edge, Site};
 use lk_match::{Passage, Side, of_site, passages};
@@ -65,9 +66,10 @@ fn crossing(alloc: Global, entrances: &[Passage], levels: &BitRows) -> Result<Cr
     ensures each { IfOk result (λ crossing. (b m : ℕ) → (has_id (outside_of crossing b) m ≡ true) ↔ IsGiven (LeadsInto levels.now b) entrances.now m) }
 {
     let inside = reached(alloc, entrances, levels)?;
+    let inflows = inflows(alloc, entrances, levels)?;
     let mut outside = Vec::new(alloc);
     for label in inside.ids() {
-        let labels = outside_at(alloc, entrances, *label, levels)?;
+        let labels = outside_at(alloc, &inflows, *label)?;
         outside.push(labels)?;
     }
     Ok(Crossing {
@@ -102,45 +104,8 @@ fn push_row(entrance: &Passage, levels: &BitRows, list: &mut Vec<u32>) -> Result
     Ok(())
 }
 
-/// The labels outside that flow to this label inside, in ascending order.
-fn outside_at(
-    alloc: Global,
-    entrances: &[Passage],
-    label: u32,
-    levels: &BitRows,
-) -> Result<IdSet, NoMemory>
-    requires label { label < levels.now.size }
-    requires within { All (IsPassageWithin levels.now.size) entrances.now }
-    ensures within { IfOk result (IsSetBelow levels.now.size) }
-    ensures each { IfOk result (λ ids. (m : ℕ) → (has_id ids m ≡ true) ↔ IsGiven (LeadsInto levels.now label) entrances.now m) }
-{
-    let mut list = Vec::new(alloc);
-    for entrance in entrances {
-        push_outside(entrance, label, levels, &mut list)?;
-    }
-    let ids = ascending(alloc, &list)?;
-    Ok(ids)
-}
-
-/// Puts the label where an entrance begins behind the others, where the label inside is in the level behind it.
-fn push_outside(
-    entrance: &Passage,
-    label: u32,
-    levels: &BitRows,
-    list: &mut Vec<u32>,
-) -> Result<(), NoMemory>
-    requires label { label < levels.now.size }
-    requires within { IsPassageWithin levels.now.size entrance.now }
-    ensures { OnOk result (Adds (LeadsInto levels.now label entrance.now) list.old.items list.new.items) }
-{
-    if levels.has(entrance.to.0, label) {
-        list.push(entrance.from.0)?;
-    }
-    Ok(())
-}
-
 /// The numbers of a list, as a set.
-fn ascending(alloc: Global, list: &[u32]) -> Result<IdSet, NoMemory>
+pub(crate) fn ascending(alloc: Global, list: &[u32]) -> Result<IdSet, NoMemory>
     ensures each { IfOk result (λ ids. (x : ℕ) → has_id ids x ≡ has_id list.now x) }
     ensures sorted { IfOk result IsStrictlyIncreasing }
 {

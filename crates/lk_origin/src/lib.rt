@@ -4,6 +4,7 @@
 mod arrows;
 mod crossing;
 mod flow;
+mod inflow;
 mod taking;
 
 pub use flow::origins;
