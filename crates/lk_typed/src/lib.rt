@@ -1,0 +1,18 @@
+//! The tree of a checked source: a type at each expression, each conversion written out, each name resolved.
+//!
+//! Trees are plain values: a contract compares two of them by `≡`.
+#![tactic(auto)]
+
+mod entity;
+mod expression;
+mod initialiser;
+mod library;
+mod statement;
+mod unit;
+
+pub use entity::{Declaration, Defines, Entity, EntityKind, Linkage, Use};
+pub use expression::{Callee, Change, Storage, TypedExpr, TypedForm};
+pub use initialiser::{LocalPart, LocalValue, StaticObject, StaticPart, StaticValue};
+pub use library::LibraryCall;
+pub use statement::{LocalInit, SwitchCase, TypedFirst, TypedItem, TypedStmt, TypedStmtForm};
+pub use unit::{Body, Local, StructTag, TypedUnit};
