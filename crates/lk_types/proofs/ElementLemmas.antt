@@ -4,7 +4,7 @@ use Rattle.std.specs.Option.{option_map}
 use Rattle.std.proofs.lemmas.Option.{none-some, same_Some, slice_get-get_or}
 use Rattle.lk_types.specs.Building.{IsTable}
 use Rattle.lk_types.specs.Nodes.{IsNode, entry_of, base_type, element_of, HasNoElement}
-use Rattle.lk_types.specs.Places.{entry_at, is_node, branch_of, IsSamePart, IsInPart}
+use Rattle.lk_types.specs.Places.{entry_at, is_node, branch_of, IsInPart}
 use Rattle.lk_types.specs.Table.{Table, type_at, IsKnown}
 use Rattle.lk_types.specs.Walks.{Branch, Entry, under, start, nodes}
 use Rattle.lk_types.specs.declared.c_type.CType.{CType}
@@ -12,7 +12,7 @@ use Rattle.lk_types.specs.declared.c_type.CType.TheVariants.{Void, Int, ThreadId
 use Rattle.lk_types.specs.declared.node.NodeId.{NodeId}
 use Rattle.lk_types.specs.declared.node.Sel.{Sel}
 use Rattle.lk_types.specs.declared.node.Sel.TheVariants.{Target, Element, Field, Part}
-use Rattle.lk_types.proofs.NodeLemmas.{known_base, same_part}
+use Rattle.lk_types.proofs.NodeLemmas.{IsSamePart, known_base, same_part}
 use Rattle.lk_types.proofs.PathLemmas.{entry_got}
 use Rattle.lk_types.proofs.SubwalkLemmas.{first_entry}
 

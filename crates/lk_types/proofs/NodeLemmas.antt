@@ -11,7 +11,7 @@ use Rattle.lk_types.specs.declared.member.StructMember.{StructMember}
 use Rattle.lk_types.specs.Building.{IsTable, IsMadeOf, types_of}
 use Rattle.lk_types.specs.Equal.IsEqualBut.{same}
 use Rattle.lk_types.specs.Nodes.{IsNode, IsBase, node_of, entry_of, first, base_type}
-use Rattle.lk_types.specs.Places.{entry_at, is_node, branch_of, IsSamePart, IsInPart, nodes_before, nodes_of_all}
+use Rattle.lk_types.specs.Places.{entry_at, is_node, branch_of, IsInPart, nodes_before, nodes_of_all}
 use Rattle.lk_types.specs.Sizes.{nodes_of, steps_of, size_at}
 use Rattle.lk_types.specs.Table.{Table, type_at, least_of, fields_of, members_of, IsKnown}
 use Rattle.lk_types.specs.Walks.{Branch, Entry, at_branch, under, start, nodes, target, element, field, fields, branches, has_tag}
@@ -118,6 +118,11 @@ field_known table t (Array v n) known made k u at = absurd (none-some u at)
 field_known table t (Struct s) known made k u at = all_got (IsKnown table) (fields_of table (Struct s)) k u made.1 at
 field_known table t (Function result params dots) known made k u at = let less : u < t = all_got (λ u. u < t) (result ∷ params) k u made at in omega (arith, less, known)
 field_known table t (Opaque n) known made k u at = absurd (none-some u at)
+
+-- two entries have the same type, and are both the place of a Tag or both not
+pub record IsSamePart (a b : Option Entry) : Type 0 where
+  pub type : option_map (λ e. e.type) a ≡ option_map (λ e. e.type) b
+  pub tag : option_map (λ e. e.tag) a ≡ option_map (λ e. e.tag) b
 
 -- an entry and that of the part in whose walk it stands have one type and one tag
 pub same_part : (table : Table) (t k u rest : ℕ) → IsInPart table t k u rest → IsSamePart (entry_at table t (suc k)) (entry_at table u rest)

@@ -1,6 +1,6 @@
 -- What an object of a type is made of: its scalar parts, its bytes, and its parts with indices counted up.
 use Rattle.std.specs.Prelude.{ℕ, ◌*◌, zero, suc, Bool, true, false, ◌&&◌, ◌||◌, ◌++◌, List, [], ◌∷◌, map, filter, Option, None, Some, if◌then◌else◌, nat_eq}
-use Rattle.std.specs.List.{list_all, flat_map}
+use Rattle.std.specs.List.{list_all, flat_map, range_with_len}
 use Rattle.std.specs.Option.{option_map}
 use Rattle.lk_base.specs.declared.kind.Kind.{Kind}
 use Rattle.lk_base.specs.declared.kind.Kind.TheVariants.{Bool as BoolKind, Char, SChar, UChar, Short, UShort, Int as IntKind, UInt, Long, ULong, LLong, ULLong}
@@ -8,6 +8,8 @@ use Rattle.lk_types.specs.Table.{Table, type_at, fields_of}
 use Rattle.lk_types.specs.Walks.{Entry, nodes, most_steps}
 use Rattle.lk_types.specs.declared.c_type.CType.{CType}
 use Rattle.lk_types.specs.declared.c_type.CType.TheVariants.{Void, Int, ThreadId, Mutex, Cond, Pointer, Array, Struct, Function, Opaque}
+use Rattle.lk_types.specs.declared.cell.CellStep.{CellStep}
+use Rattle.lk_types.specs.declared.cell.CellStep.TheVariants.{Field as Member, Index}
 use Rattle.lk_types.specs.declared.node.Sel.{Sel}
 use Rattle.lk_types.specs.declared.node.Sel.TheVariants.{Target, Element, Field, Part}
 
@@ -117,42 +119,36 @@ bytes_within (suc depth) table t = form_bytes (bytes_within depth table) (type_a
 abbrev pub bytes_of : Table → ℕ → Option ℕ
 bytes_of table t = bytes_within (suc t) table t
 
--- the numbers below n, in order
-abbrev pub numbers_from : ℕ → ℕ → List ℕ
-numbers_from first zero = []
-numbers_from first (suc n) = first ∷ numbers_from (suc first) n
+-- a scalar part of an object: the steps to it, and its type
+abbrev pub Cells : Type 0
+Cells = List (List CellStep × ℕ)
 
-module _ {Step : Type 0} (member : ℕ → Step) (element : ℕ → Step) where
-  -- a scalar part of an object: the way to it, with indices, and its type
-  abbrev pub Cells : Type 0
-  Cells = List (List Step × ℕ)
+abbrev pub cells_under : CellStep → Cells → Cells
+cells_under step cells = map (λ cell. (step ∷ cell.0, cell.1)) cells
 
-  abbrev pub cells_under : Step → Cells → Cells
-  cells_under step cells = map (λ cell. (step ∷ cell.0, cell.1)) cells
+-- the cells of members numbered from k on
+abbrev pub member_cells : (ℕ → Cells) → ℕ → List ℕ → Cells
+member_cells below k [] = []
+member_cells below k (t ∷ ts) = cells_under (Member k) (below t) ++ member_cells below (suc k) ts
 
-  -- the cells of fields numbered from k on
-  abbrev pub field_cells : (ℕ → Cells) → ℕ → List ℕ → Cells
-  field_cells below k [] = []
-  field_cells below k (t ∷ ts) = cells_under (member k) (below t) ++ field_cells below (suc k) ts
+-- the cells of a form, in the order of members and of indices counted up
+abbrev pub form_cells : (ℕ → Cells) → Table → ℕ → CType → Cells
+form_cells below table t Void = []
+form_cells below table t (Int kind) = ([], t) ∷ []
+form_cells below table t ThreadId = ([], t) ∷ []
+form_cells below table t Mutex = ([], t) ∷ []
+form_cells below table t Cond = ([], t) ∷ []
+form_cells below table t (Pointer u) = ([], t) ∷ []
+form_cells below table t (Array u n) = flat_map (λ i. cells_under (Index i) (below u)) (range_with_len 0 n)
+form_cells below table t (Struct s) = member_cells below 0 (fields_of table (Struct s))
+form_cells below table t (Function result params dots) = []
+form_cells below table t (Opaque n) = []
 
-  -- the cells of a form, in the order of members and of indices counted up
-  abbrev pub form_cells : (ℕ → Cells) → Table → ℕ → CType → Cells
-  form_cells below table t Void = []
-  form_cells below table t (Int kind) = ([], t) ∷ []
-  form_cells below table t ThreadId = ([], t) ∷ []
-  form_cells below table t Mutex = ([], t) ∷ []
-  form_cells below table t Cond = ([], t) ∷ []
-  form_cells below table t (Pointer u) = ([], t) ∷ []
-  form_cells below table t (Array u n) = flat_map (λ i. cells_under (element i) (below u)) (numbers_from 0 n)
-  form_cells below table t (Struct s) = field_cells below 0 (fields_of table (Struct s))
-  form_cells below table t (Function result params dots) = []
-  form_cells below table t (Opaque n) = []
+-- the same of a type, down to a depth
+unfoldable pub cells_within : ℕ → Table → ℕ → Cells
+cells_within zero table t = form_cells (λ u. []) table t (type_at table t)
+cells_within (suc depth) table t = form_cells (cells_within depth table) table t (type_at table t)
 
-  -- the same of a type, down to a depth
-  unfoldable pub cells_within : ℕ → Table → ℕ → Cells
-  cells_within zero table t = form_cells (λ u. []) table t (type_at table t)
-  cells_within (suc depth) table t = form_cells (cells_within depth table) table t (type_at table t)
-
-  -- the cells of an object, each scalar part by its way with indices, in order
-  abbrev pub cells : Table → ℕ → Cells
-  cells table t = cells_within most_steps table t
+-- the cells of an object, each scalar part by its steps, in order
+abbrev pub cells : Table → ℕ → Cells
+cells table t = cells_within most_steps table t

@@ -20,11 +20,6 @@ entry_at table t k = slice_get (nodes table t) k
 abbrev pub is_node : Option Entry → Type 0
 is_node entry = option_map (λ e. e.tag) entry ≡ Some false
 
--- two entries have the same type, and are both the place of a Tag or both not
-pub record IsSamePart (a b : Option Entry) : Type 0 where
-  pub type : option_map (λ e. e.type) a ≡ option_map (λ e. e.type) b
-  pub tag : option_map (λ e. e.tag) a ≡ option_map (λ e. e.tag) b
-
 -- the part to which a step leads
 abbrev pub branch_of : Table → CType → Sel → Option Branch
 branch_of table form Target = target_of table form

@@ -1,6 +1,7 @@
 //! The forms of types.
 ghost use Rattle.std.specs.Prelude.{◌≡◌, IfOk};
 ghost use Rattle.lk_types.specs.Table.{struct_of};
+ghost use Rattle.lk_types.specs.Objects.{is_value, is_scalar};
 
 use crate::type_id::TypeId;
 use crate::type_ids::TypeIds;
@@ -57,6 +58,29 @@ impl CType {
             | CType::Function { .. }
             | CType::Opaque(_) => None,
         }
+    }
+
+    /// Whether an object of this type holds a value: it is an integer, a thread id or a pointer.
+    pub fn is_value(&self) -> bool
+        ensures { result ≡ is_value self.now }
+    {
+        match self {
+            CType::Int(_) | CType::ThreadId | CType::Pointer(_) => true,
+            CType::Void
+            | CType::Mutex
+            | CType::Cond
+            | CType::Array(_, _)
+            | CType::Struct(_)
+            | CType::Function { .. }
+            | CType::Opaque(_) => false,
+        }
+    }
+
+    /// Whether an object of this type is a cell: it holds a value, or is a mutex or a condition variable.
+    pub fn is_scalar(&self) -> bool
+        ensures { result ≡ is_scalar self.now }
+    {
+        self.is_value() || matches!(self, CType::Mutex | CType::Cond)
     }
 
     /// An equal type.

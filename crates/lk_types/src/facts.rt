@@ -8,7 +8,7 @@ use lk_base::{NoMemory, Seq};
 use std::alloc::Global;
 
 /// What a table keeps of a type.
-#[derive(Clone, Copy, Debug)]
+#[derive(Clone, Copy)]
 pub struct TypeFacts {
     /// How large its walk is; of a struct it stands with the members.
     pub size: TypeSize,
@@ -19,7 +19,7 @@ pub struct TypeFacts {
 }
 
 /// What a table keeps of a struct.
-#[derive(Debug, Drop)]
+#[derive(Drop)]
 pub struct StructEntry {
     /// Its members; none where it is incomplete.
     pub members: Seq<StructMember>,

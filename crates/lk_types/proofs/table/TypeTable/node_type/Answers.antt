@@ -1,7 +1,7 @@
 use Rattle.std.proofs.Common.{◌≡◌, ◌∙◌, ◌-◌, suc, ap, arith, subst}
 use Rattle.std.specs.Option.{option_map}
-use Rattle.lk_types.specs.Places.{entry_at, IsSamePart}
-use Rattle.lk_types.proofs.NodeLemmas.{last_type, same_part}
+use Rattle.lk_types.specs.Places.{entry_at}
+use Rattle.lk_types.proofs.NodeLemmas.{IsSamePart, last_type, same_part}
 use Rattle.lk_types.proofs.table.TypeTable.node_type.Goals as goal
 
 pub returns-clause-value : goal.returns-clause-value

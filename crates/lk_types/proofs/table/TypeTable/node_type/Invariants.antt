@@ -1,6 +1,7 @@
 use Rattle.lk_types.specs.Nodes.{base_type}
-use Rattle.lk_types.specs.Places.{entry_at, IsSamePart}
+use Rattle.lk_types.specs.Places.{entry_at}
 use Rattle.lk_types.specs.Table.{IsKnown}
+use Rattle.lk_types.proofs.NodeLemmas.{IsSamePart}
 use Rattle.lk_types.proofs.table.TypeTable.node_type.Given as goal
 
 abbrev pub invariant-loop-number : goal.invariant-loop-number
