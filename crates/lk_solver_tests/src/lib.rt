@@ -3,11 +3,15 @@
 #![tactic(auto)]
 
 #[cfg(test)]
+mod analysis;
+#[cfg(test)]
 mod checks;
 #[cfg(test)]
 mod graph;
 #[cfg(test)]
 mod held;
+#[cfg(test)]
+mod items;
 #[cfg(test)]
 mod paths;
 #[cfg(test)]
