@@ -16,3 +16,5 @@ mod items;
 mod paths;
 #[cfg(test)]
 mod programs;
+#[cfg(test)]
+mod rows;
