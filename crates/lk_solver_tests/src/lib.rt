@@ -18,3 +18,5 @@ mod paths;
 mod programs;
 #[cfg(test)]
 mod rows;
+#[cfg(test)]
+mod verdicts;
