@@ -13,6 +13,8 @@ mod held;
 #[cfg(test)]
 mod items;
 #[cfg(test)]
+mod links;
+#[cfg(test)]
 mod paths;
 #[cfg(test)]
 mod programs;
