@@ -1,11 +1,11 @@
 -- The arrows of a program's steps, and what rows are where they have passed on all that they can.
-use Rattle.std.proofs.Common.{◌≡◌, ◌<◌, ◌+◌, ◌-◌, ◌&&◌, ◌||◌, ◌++◌, ◌↔◌, ℕ, Bool, true, eqb, List, [], ◌∷◌, length, get_or, take, drop, drop-cons, add-one, map, All, Contains, refl, sym, ap, ◌∙◌, subst, ◌⊎◌, ⊎_elim, inl, inr, arith}
+use Rattle.std.proofs.Common.{◌≡◌, ◌<◌, ◌+◌, ◌&&◌, ◌||◌, ◌++◌, ◌↔◌, ℕ, true, eqb, List, [], ◌∷◌, length, get_or, take, drop, drop-cons, add-one, map, All, Contains, sym, ap, ◌∙◌, subst, inl, inr, arith}
 use Rattle.std.specs.List.{filter}
 use Rattle.std.specs.Option.{option_map_or}
 use Rattle.std.proofs.lemmas.Bool.{false≢true, and_from, and_parts, eqb-true, eq-eqb, or_cases, or_left, or_right}
 use Rattle.std.proofs.lemmas.List.{get_or-map, length-map, take_more}
 use Rattle.std.proofs.lemmas.List.Elements.{All-contains, All-contains_itself, All-weaker, Contains-append_cases, Contains-append_left, Contains-append_right, Contains-get_or, Contains-push, Contains-push_cases}
-use Rattle.std.proofs.lemmas.Option.{get_or_from_slice_get, slice_get_cases}
+use Rattle.std.proofs.lemmas.Option.{slice_get_cases}
 use Rattle.lk_facts.specs.declared.point.Point.{Point}
 use Rattle.lk_facts.specs.InRange.{IsInRange, IsPointInRange, sizes_of}
 use Rattle.lk_facts.specs.declared.program.Program.{Program}

@@ -1,2 +1,4 @@
+pub mod AgainLemmas
 pub mod Arrows
+pub mod FoundLemmas
 pub mod OrderLemmas

@@ -1,8 +1,8 @@
 -- Points that are marked and put into an order.
-use Rattle.std.proofs.Common.{◌≡◌, ◌<◌, ◌≤◌, ◌+◌, ◌||◌, ◌++◌, ◌↔◌, ℕ, Bool, true, false, eqb, List, [], ◌∷◌, length, get_or, refl, sym, ap, ◌∙◌, subst, inl, inr, arith}
+use Rattle.std.proofs.Common.{◌≡◌, ◌<◌, ◌≤◌, ◌+◌, ◌||◌, ◌++◌, ◌↔◌, ℕ, Bool, true, false, eqb, List, [], ◌∷◌, length, get_or, sym, ap, ◌∙◌, subst, inl, inr, arith}
 use Rattle.std.specs.Prelude.{slice_set}
 use Rattle.std.proofs.Math.Bool.{or-false}
-use Rattle.std.proofs.lemmas.Bool.{cases_eq, cases_lt, both_ways, eq-eqb, ne_eqb, or_left, or_right}
+use Rattle.std.proofs.lemmas.Bool.{cases_eq, cases_lt, both_ways, eq-eqb, ne_eqb, or_right}
 use Rattle.std.proofs.lemmas.List.{get_or-set_same, get_or-set_other, get_or_past}
 use Rattle.lk_graph.specs.Order.{AreMarked}
 use Rattle.lk_sets.specs.Ids.{has_id}

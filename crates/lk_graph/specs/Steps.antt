@@ -1,5 +1,5 @@
 -- The steps of a program, and the arrows that pass rows back along them.
-use Rattle.std.specs.Prelude.{◌≡◌, ℕ, Bool, true, List, map, Contains}
+use Rattle.std.specs.Prelude.{ℕ, Bool, true, List, map, Contains}
 use Rattle.std.specs.List.{filter}
 use Rattle.lk_facts.specs.declared.program.Program.{Program}
 use Rattle.lk_facts.specs.Program.{next_of, live_at}

@@ -1,9 +1,12 @@
-//! What can come after a control point, and which points can come again.
+//! What can come after a control point, which points can come again, and which may be performed more than once.
 #![tactic(auto)]
 
+mod again;
+mod found;
 mod order;
 mod reach;
 mod steps;
 
+pub use again::many;
 pub use order::in_order;
 pub use reach::{after, cycles};

@@ -1,5 +1,4 @@
-use Rattle.std.proofs.Common.{arith}
-use Rattle.lk_graph.proofs.OrderLemmas.{none_below, below_seen, below_pushed, all_below}
+use Rattle.lk_graph.proofs.OrderLemmas.{none_below}
 use Rattle.lk_graph.proofs.order.push_others.Goals as goal
 
 pub loop-point-init : goal.loop-point-init

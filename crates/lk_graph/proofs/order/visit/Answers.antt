@@ -1,2 +1,0 @@
-use Rattle.lk_graph.proofs.OrderLemmas.{marked_one}
-use Rattle.lk_graph.proofs.order.visit.Goals as goal

@@ -1,4 +1,4 @@
-use Rattle.std.proofs.Common.{◌≡◌, ◌-◌, ℕ, true, drop, subst, arith}
+use Rattle.std.proofs.Common.{◌≡◌, ◌-◌, true, drop, subst, arith}
 use Rattle.std.proofs.lemmas.List.Elements.{Contains-get_or}
 use Rattle.lk_sets.specs.Ids.{has_id}
 use Rattle.lk_sets.proofs.Members.{has_id-from_Contains}
