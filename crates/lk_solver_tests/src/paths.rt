@@ -1,224 +1,140 @@
-use indexmap::IndexSet;
-use lk_facts::{Edge, Holder, Label, LabelEntry, LabelName, Labels, Mark, Origins, Site};
+use crate::checks::{Pair, check, is_relation};
+use crate::programs::{Named, Passing, Storage, edge_list, flow, label_table};
+use lk_facts::{Label, Labels, Origins, Site};
 use lk_match::levels;
-use lk_origin::origins;
-use lk_sets::BitRows;
-use lk_types::{Base, NodeId, TypeId};
 use std::alloc::Global;
 use std::process::Abort;
 use std::test::Fail;
 
-/// A label or site, and the labels with it.
-type Set<'a> = (u32, &'a [u32]);
+/// What is shown, labels and edges, and the matched paths along them: for each label the others that stand in Level with it,
+/// and its origins, all and inner; and for a site and a label inside the labels outside.
+type Case<'a> = (
+    &'a str,
+    &'a [(Named, Storage)],
+    &'a [(u32, u32, Passing)],
+    &'a [Pair],
+    &'a [Pair],
+    &'a [Pair],
+    &'a [(u32, u32, u32)],
+);
 
-/// The listed set of a number, or none.
-fn listed<'a>(sets: &[Set<'a>], number: u32) -> &'a [u32] {
-    match sets.iter().find(|set| set.0 == number) {
-        Some(set) => set.1,
-        None => &[],
-    }
-}
+/// A part of an object of a frame, what a pointer there may point to, and what one of static storage may.
+const LOCAL: (Named, Storage) = (Named::Object, Storage::Local(0));
 
-/// A part of a case is as it is wanted.
-fn check(rt: &impl Abort, shows: &str, holds: bool, part: &str, number: u32) {
-    assert!(rt; holds, "{shows}: {part} {number}");
-}
+const TARGET: (Named, Storage) = (Named::Target, Storage::Local(0));
 
-/// The label of a slot of the first function, by the number of the slot.
-fn slot_name(slot: u32) -> LabelName {
-    LabelName {
-        holder: Holder::Slot(0, slot),
-        node: NodeId {
-            base: Base::Start(TypeId::VOID),
-            number: 0,
-        },
-    }
-}
-
-/// The labels and edges of a program, and the matched paths along them. The rows that aren't listed are empty.
-struct Case<'a> {
-    shows: &'a str,
-    labels: u32,
-    origins: &'a [u32],
-    globals: &'a [u32],
-    /// The edges without a mark, from the first label to the second.
-    plain: &'a [(u32, u32)],
-    /// Those that enter a site, which stands last, and those that leave one.
-    enters: &'a [(u32, u32, u32)],
-    leaves: &'a [(u32, u32, u32)],
-    /// For each label the others that stand in Level with it, and then its origins.
-    levels: &'a [Set<'a>],
-    all: &'a [Set<'a>],
-    inner: &'a [Set<'a>],
-    /// For a site and a label inside the labels outside.
-    crosses: &'a [(u32, u32, &'a [u32])],
-}
+const GLOBAL: (Named, Storage) = (Named::Target, Storage::Static);
 
 const CASES: &[Case<'static>] = &[
-    Case {
+    (
         // What is entered at the site 0 isn't left at the site 1.
-        shows: "a call and a return at another site",
-        labels: 4,
-        origins: &[0],
-        globals: &[],
-        plain: &[(1, 2)],
-        enters: &[(0, 1, 0)],
-        leaves: &[(2, 3, 1)],
-        levels: &[(1, &[2])],
-        all: &[(0, &[0]), (1, &[0]), (2, &[0])],
-        inner: &[(0, &[0])],
-        crosses: &[(0, 1, &[0]), (0, 2, &[0])],
-    },
-    Case {
-        // The label 1 is global: no segment goes through it, but what reaches it goes on from there anew.
-        shows: "a call through a global label",
-        labels: 4,
-        origins: &[0],
-        globals: &[1],
-        plain: &[(0, 1), (1, 2)],
-        enters: &[(0, 1, 0)],
-        leaves: &[(2, 3, 0)],
-        levels: &[(0, &[1]), (1, &[2])],
-        all: &[(0, &[0]), (1, &[0]), (2, &[0]), (3, &[0])],
-        inner: &[(0, &[0]), (1, &[0]), (2, &[0]), (3, &[0])],
-        crosses: &[(0, 1, &[0]), (0, 2, &[0])],
-    },
-    Case {
-        // A call within a call, so that the summary of the inner one is one step of the outer one.
-        shows: "calls in calls",
-        labels: 6,
-        origins: &[0],
-        globals: &[],
-        plain: &[(2, 3)],
-        enters: &[(0, 1, 0), (1, 2, 1)],
-        leaves: &[(3, 4, 1), (4, 5, 0)],
-        levels: &[(0, &[5]), (1, &[4]), (2, &[3])],
-        all: &[
-            (0, &[0]),
-            (1, &[0]),
-            (2, &[0]),
-            (3, &[0]),
-            (4, &[0]),
-            (5, &[0]),
+        "a call and a return at another site",
+        &[LOCAL, TARGET, TARGET, TARGET],
+        &[
+            (1, 2, Passing::Plain),
+            (0, 1, Passing::Enter(0)),
+            (2, 3, Passing::Leave(1)),
         ],
-        inner: &[(0, &[0]), (5, &[0])],
-        crosses: &[(0, 1, &[0]), (0, 4, &[0]), (1, 2, &[1]), (1, 3, &[1])],
-    },
+        &[(1, 2)],
+        &[(0, 0), (1, 0), (2, 0)],
+        &[(0, 0)],
+        &[(0, 1, 0), (0, 2, 0)],
+    ),
+    (
+        // The label 1 is global: no segment goes through it, but what reaches it goes on from there anew.
+        "a call through a global label",
+        &[LOCAL, GLOBAL, TARGET, TARGET],
+        &[
+            (0, 1, Passing::Plain),
+            (1, 2, Passing::Plain),
+            (0, 1, Passing::Enter(0)),
+            (2, 3, Passing::Leave(0)),
+        ],
+        &[(0, 1), (1, 2)],
+        &[(0, 0), (1, 0), (2, 0), (3, 0)],
+        &[(0, 0), (1, 0), (2, 0), (3, 0)],
+        &[(0, 1, 0), (0, 2, 0)],
+    ),
+    (
+        // A call within a call, so that the summary of the inner one is one step of the outer one.
+        "calls in calls",
+        &[LOCAL, TARGET, TARGET, TARGET, TARGET, TARGET],
+        &[
+            (2, 3, Passing::Plain),
+            (0, 1, Passing::Enter(0)),
+            (1, 2, Passing::Enter(1)),
+            (3, 4, Passing::Leave(1)),
+            (4, 5, Passing::Leave(0)),
+        ],
+        &[(0, 5), (1, 4), (2, 3)],
+        &[(0, 0), (1, 0), (2, 0), (3, 0), (4, 0), (5, 0)],
+        &[(0, 0), (5, 0)],
+        &[(0, 1, 0), (0, 4, 0), (1, 2, 1), (1, 3, 1)],
+    ),
 ];
 
-/// The labels of a case.
-fn labels_of(rt: &impl Abort, alloc: Global, case: &Case<'_>) -> Result<Labels, Fail> {
-    let mut names = IndexSet::new(alloc);
-    let mut entries = Vec::new(alloc);
-    for number in 0..case.labels {
-        names.insert(slot_name(number))?;
-        entries.push(LabelEntry {
-            root: number,
-            is_origin: case.origins.contains(&number),
-            is_lock: false,
-            is_global: case.globals.contains(&number),
-        })?;
-    }
-    assert!(rt; Labels::fits(&names, &entries, &[]), "{}", case.shows);
-    Ok(Labels::new(names, entries, Vec::new(alloc)))
-}
-
-/// The edges of a case.
-fn edges_of(alloc: Global, case: &Case<'_>) -> Result<Vec<Edge>, Fail> {
-    let mut edges = Vec::new(alloc);
-    for (from, to) in case.plain {
-        edges.push(edge(*from, *to, Mark::Plain))?;
-    }
-    for (from, to, site) in case.enters {
-        edges.push(edge(*from, *to, Mark::Enter(Site(*site))))?;
-    }
-    for (from, to, site) in case.leaves {
-        edges.push(edge(*from, *to, Mark::Leave(Site(*site))))?;
-    }
-    Ok(edges)
-}
-
-/// An edge between two labels.
-fn edge(from: u32, to: u32, mark: Mark) -> Edge {
-    Edge {
-        from: Label(from),
-        to: Label(to),
-        mark,
-    }
-}
-
-/// The labels outside that are listed for a site and a label.
-fn crossing<'a>(crosses: &[(u32, u32, &'a [u32])], site: u32, label: u32) -> &'a [u32] {
-    match crosses
-        .iter()
-        .find(|cross| cross.0 == site && cross.1 == label)
-    {
-        Some(cross) => cross.2,
-        None => &[],
-    }
-}
-
-/// These are the rows of a relation, where a label may be listed for itself though it isn't.
-fn check_rows(
-    rt: &impl Abort,
-    shows: &str,
-    part: &str,
-    rows: &BitRows,
-    wanted: &[Set<'_>],
-    itself: bool,
-) {
-    for row in 0..rows.size() {
-        let listed = listed(wanted, row);
-        for label in 0..rows.size() {
-            let stands = listed.contains(&label) || (itself && label == row);
-            check(rt, shows, rows.has(row, label) == stands, part, row);
+/// Whether exactly those cross a site to a label that the rows give it, in their order.
+fn is_crossed(found: &[u32], to: Pair, wanted: &[(u32, u32, u32)]) -> bool {
+    let mut ids = found.iter();
+    for (site, label, id) in wanted {
+        if *site == to.0 && *label == to.1 && ids.next() != Some(id) {
+            return false;
         }
     }
+    ids.next().is_none()
 }
 
-/// These labels cross the sites.
-fn check_crosses(rt: &impl Abort, case: &Case<'_>, found: &Origins) {
-    for site in 0..20 {
-        for label in 0..case.labels {
-            let wanted = crossing(case.crosses, site, label);
+/// Whether exactly these labels cross the sites.
+fn are_crossing(labels: &Labels, found: &Origins, wanted: &[(u32, u32, u32)]) -> bool {
+    for site in 0..8 {
+        for label in 0..labels.count() {
             let outside = found.cross(Site(site), Label(label));
-            check(rt, case.shows, outside == wanted, "what crosses to", label);
+            if !is_crossed(outside, (site, label), wanted) {
+                return false;
+            }
         }
     }
+    true
+}
+
+/// The labels of a case stand in Level as it says.
+fn check_levels(
+    rt: &impl Abort,
+    alloc: Global,
+    case: &Case<'_>,
+    labels: &Labels,
+) -> Result<(), Fail> {
+    let edges = edge_list(alloc, case.2)?;
+    let count = labels.count();
+    assert!(rt;
+        edges
+            .iter()
+            .all(|edge| edge.from.0 < count && edge.to.0 < count)
+    );
+    let found = levels(alloc, &edges, labels)?;
+    check(rt, case.0, "level", is_relation(&found, case.3, true));
+    Ok(())
+}
+
+fn check_case(rt: &impl Abort, alloc: Global, case: &Case<'_>) -> Result<(), Fail> {
+    let labels = label_table(rt, alloc, case.1, Vec::new(alloc))?;
+    check_levels(rt, alloc, case, &labels)?;
+    let found = flow(rt, alloc, case.2, &labels)?;
+    check(rt, case.0, "all", is_relation(found.all(), case.4, false));
+    check(
+        rt,
+        case.0,
+        "inner",
+        is_relation(found.inner(), case.5, false),
+    );
+    check(rt, case.0, "cross", are_crossing(&labels, &found, case.6));
+    Ok(())
 }
 
 #[test]
 fn matched_paths_are_those_along_the_edges(rt: HostRuntime) -> Result<(), Fail> {
-    let alloc = rt.alloc();
     for case in CASES {
-        let labels = labels_of(&rt, alloc, case)?;
-        let edges = edges_of(alloc, case)?;
-        let count = labels.count();
-        assert!(rt;
-            edges
-                .iter()
-                .all(|edge| edge.from.0 < count && edge.to.0 < count)
-        );
-        let found = levels(alloc, &edges, &labels)?;
-        check_rows(&rt, case.shows, "the level of", &found, case.levels, true);
-        let flow = origins(alloc, &edges, &found, &labels)?;
-        check_rows(
-            &rt,
-            case.shows,
-            "all origins of",
-            flow.all(),
-            case.all,
-            false,
-        );
-        check_rows(
-            &rt,
-            case.shows,
-            "the inner origins of",
-            flow.inner(),
-            case.inner,
-            false,
-        );
-        check_crosses(&rt, case, &flow);
+        check_case(&rt, rt.alloc(), case)?;
     }
     Ok(())
 }

@@ -1,0 +1,276 @@
+use crate::analysis::verdicts_in;
+use crate::checks::{Judged, are_verdicts, check};
+use crate::programs::{CELL, CODE, LOCK_NAME, MUTEX, Named, Passing, Small, Step, Storage};
+use lk_facts::{Facts, VerdictState};
+use lk_held::held;
+use std::alloc::Global;
+use std::process::Abort;
+use std::test::Fail;
+
+/// What is shown, a program, its linear locks, and the verdict of its one location.
+type Case<'a> = (&'a str, Small<'a>, &'a [u32], Judged<'a>);
+
+/// The main function 1 starts a thread at 0 and then writes, as the thread does.
+const WRITERS: Small<'static> = Small {
+    points: &[
+        (0, Step::Write(0)),
+        (0, Step::Skip),
+        (1, Step::Create(0, 0)),
+        (1, Step::Write(0)),
+        (1, Step::Skip),
+    ],
+    next: &[(0, 1), (2, 3), (3, 4)],
+    dead: &[],
+    functions: &[(0, 1, 1, None), (2, 4, 1, None)],
+    locations: 1,
+    labels: &[CELL, CODE],
+    edges: &[],
+};
+
+const SHARING: &[Case<'static>] = &[
+    (
+        "two threads that write without a lock are suspect",
+        WRITERS,
+        &[],
+        (VerdictState::Suspect, &[], &[(0, &[]), (3, &[])]),
+    ),
+    (
+        "reads do not race",
+        Small {
+            points: &[
+                (0, Step::Read(0)),
+                (0, Step::Skip),
+                (1, Step::Create(0, 0)),
+                (1, Step::Read(0)),
+                (1, Step::Skip),
+            ],
+            next: &[(0, 1), (2, 3), (3, 4)],
+            dead: &[],
+            functions: &[(0, 1, 1, None), (2, 4, 1, None)],
+            locations: 1,
+            labels: &[CELL, CODE],
+            edges: &[],
+        },
+        &[],
+        (VerdictState::Unshared, &[], &[]),
+    ),
+    (
+        "an access before the creation does not race",
+        Small {
+            points: &[
+                (0, Step::Write(0)),
+                (0, Step::Skip),
+                (1, Step::Write(0)),
+                (1, Step::Create(0, 0)),
+                (1, Step::Skip),
+            ],
+            next: &[(0, 1), (2, 3), (3, 4)],
+            dead: &[],
+            functions: &[(0, 1, 1, None), (2, 4, 1, None)],
+            locations: 1,
+            labels: &[CELL, CODE],
+            edges: &[],
+        },
+        &[],
+        (VerdictState::Unshared, &[], &[]),
+    ),
+    (
+        "a thread that is started in a loop races with itself",
+        Small {
+            points: &[
+                (0, Step::Write(0)),
+                (0, Step::Skip),
+                (1, Step::Create(0, 0)),
+                (1, Step::Skip),
+            ],
+            next: &[(0, 1), (2, 2), (2, 3)],
+            dead: &[],
+            functions: &[(0, 1, 1, None), (2, 3, 1, None)],
+            locations: 1,
+            labels: &[CELL, CODE],
+            edges: &[],
+        },
+        &[],
+        (VerdictState::Suspect, &[], &[(0, &[])]),
+    ),
+    (
+        "a thread that a callee starts races with the caller",
+        Small {
+            points: &[
+                (0, Step::Write(0)),
+                (0, Step::Skip),
+                (1, Step::Create(0, 0)),
+                (1, Step::Skip),
+                (2, Step::Call(1, 1)),
+                (2, Step::Read(0)),
+                (2, Step::Skip),
+            ],
+            next: &[(0, 1), (2, 3), (4, 5), (5, 6)],
+            dead: &[],
+            functions: &[(0, 1, 1, None), (2, 3, 1, None), (4, 6, 1, None)],
+            locations: 1,
+            labels: &[CELL, CODE],
+            edges: &[],
+        },
+        &[],
+        (VerdictState::Suspect, &[], &[(0, &[]), (5, &[])]),
+    ),
+    (
+        // The lock 1 that main keeps is held at the callee's own access, and not in the thread that it starts.
+        "what races in a callee races in main",
+        Small {
+            points: &[
+                (0, Step::Write(0)),
+                (0, Step::Skip),
+                (1, Step::Create(0, 0)),
+                (1, Step::Write(0)),
+                (1, Step::Skip),
+                (2, Step::Lock(1)),
+                (2, Step::Call(1, 1)),
+                (2, Step::Skip),
+            ],
+            next: &[(0, 1), (2, 3), (3, 4), (5, 6), (6, 7)],
+            dead: &[],
+            functions: &[(0, 1, 2, None), (2, 4, 2, None), (5, 7, 2, None)],
+            locations: 1,
+            labels: &[CELL, MUTEX, CODE],
+            edges: &[],
+        },
+        &[1],
+        (VerdictState::Suspect, &[], &[(0, &[]), (3, &[1])]),
+    ),
+];
+
+/// The points of a thread 0 and of main, which starts it, where each locks before it accesses the location.
+const LOCKING: &[(u32, Step)] = &[
+    (0, Step::Lock(1)),
+    (0, Step::Write(0)),
+    (0, Step::Unlock(1)),
+    (0, Step::Skip),
+    (1, Step::Create(0, 0)),
+    (1, Step::Lock(1)),
+    (1, Step::Read(0)),
+    (1, Step::Unlock(1)),
+    (1, Step::Skip),
+];
+
+const LOCKING_NEXT: &[(u32, u32)] = &[(0, 1), (1, 2), (2, 3), (4, 5), (5, 6), (6, 7), (7, 8)];
+
+const GUARDING: &[Case<'static>] = &[
+    (
+        "a common lock guards",
+        Small {
+            points: LOCKING,
+            next: LOCKING_NEXT,
+            dead: &[],
+            functions: &[(0, 3, 2, None), (4, 8, 2, None)],
+            locations: 1,
+            labels: &[CELL, MUTEX, CODE],
+            edges: &[],
+        },
+        &[1],
+        (VerdictState::Guarded, &[1], &[(1, &[1]), (6, &[1])]),
+    ),
+    (
+        "different locks do not guard",
+        Small {
+            points: &[
+                (0, Step::Lock(1)),
+                (0, Step::Write(0)),
+                (0, Step::Skip),
+                (1, Step::Create(0, 0)),
+                (1, Step::Lock(2)),
+                (1, Step::Write(0)),
+                (1, Step::Skip),
+            ],
+            next: &[(0, 1), (1, 2), (3, 4), (4, 5), (5, 6)],
+            dead: &[],
+            functions: &[(0, 2, 3, None), (3, 6, 3, None)],
+            locations: 1,
+            labels: &[CELL, MUTEX, MUTEX, CODE],
+            edges: &[],
+        },
+        &[1, 2],
+        (VerdictState::Suspect, &[], &[(1, &[1]), (5, &[2])]),
+    ),
+    (
+        // The lock is one in each frame of the thread's function, which is entered in a loop.
+        "a lock that is not linear does not guard",
+        Small {
+            points: LOCKING,
+            next: &[
+                (0, 1),
+                (1, 2),
+                (2, 3),
+                (4, 4),
+                (4, 5),
+                (5, 6),
+                (6, 7),
+                (7, 8),
+            ],
+            dead: &[],
+            functions: &[(0, 3, 2, None), (4, 8, 2, None)],
+            locations: 1,
+            labels: &[CELL, (Named::Mutex, Storage::Local(0)), CODE],
+            edges: &[],
+        },
+        &[],
+        (VerdictState::Suspect, &[], &[(1, &[]), (6, &[])]),
+    ),
+    (
+        // The name 4 may mean the lock 1 or 2.
+        "a lock with two places does not guard",
+        Small {
+            points: &[
+                (0, Step::Lock(4)),
+                (0, Step::Write(0)),
+                (0, Step::Skip),
+                (1, Step::Create(0, 0)),
+                (1, Step::Lock(4)),
+                (1, Step::Write(0)),
+                (1, Step::Skip),
+            ],
+            next: &[(0, 1), (1, 2), (3, 4), (4, 5), (5, 6)],
+            dead: &[],
+            functions: &[(0, 2, 3, None), (3, 6, 3, None)],
+            locations: 1,
+            labels: &[CELL, MUTEX, MUTEX, CODE, LOCK_NAME],
+            edges: &[(1, 4, Passing::Plain), (2, 4, Passing::Plain)],
+        },
+        &[1, 2],
+        (VerdictState::Suspect, &[], &[(1, &[]), (5, &[])]),
+    ),
+];
+
+fn check_found(
+    rt: &impl Abort,
+    alloc: Global,
+    case: &Case<'_>,
+    facts: &Facts<'_>,
+) -> Result<(), Fail> {
+    let held = held(alloc, facts)?;
+    let found = verdicts_in(rt, alloc, facts, &held, case.2)?;
+    check(rt, case.0, "verdicts", are_verdicts(&found, &[case.3]));
+    Ok(())
+}
+
+fn check_case(rt: &impl Abort, alloc: Global, case: &Case<'_>) -> Result<(), Fail> {
+    let made = case.1.made(rt, alloc)?;
+    check_found(rt, alloc, case, &made.facts(rt))
+}
+
+#[test]
+fn locations_are_shared_as_threads_go(rt: HostRuntime) -> Result<(), Fail> {
+    for case in SHARING {
+        check_case(&rt, rt.alloc(), case)?;
+    }
+    Ok(())
+}
+
+#[test]
+fn linear_locks_guard(rt: HostRuntime) -> Result<(), Fail> {
+    for case in GUARDING {
+        check_case(&rt, rt.alloc(), case)?;
+    }
+    Ok(())
+}
