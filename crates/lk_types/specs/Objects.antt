@@ -119,6 +119,11 @@ bytes_within (suc depth) table t = form_bytes (bytes_within depth table) (type_a
 abbrev pub bytes_of : Table → ℕ → Option ℕ
 bytes_of table t = bytes_within (suc t) table t
 
+-- so many numbers from one on, in order
+abbrev pub numbers_from : ℕ → ℕ → List ℕ
+numbers_from first zero = []
+numbers_from first (suc n) = first ∷ numbers_from (suc first) n
+
 -- a scalar part of an object: the steps to it, and its type
 abbrev pub Cells : Type 0
 Cells = List (List CellStep × ℕ)
