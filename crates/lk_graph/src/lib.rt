@@ -5,8 +5,10 @@ mod again;
 mod found;
 mod order;
 mod reach;
+mod single;
 mod steps;
 
 pub use again::many;
 pub use order::in_order;
 pub use reach::{after, cycles};
+pub use single::linear;
