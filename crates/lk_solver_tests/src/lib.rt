@@ -15,6 +15,8 @@ mod items;
 #[cfg(test)]
 mod links;
 #[cfg(test)]
+mod many;
+#[cfg(test)]
 mod paths;
 #[cfg(test)]
 mod programs;
