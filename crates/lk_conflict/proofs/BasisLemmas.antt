@@ -9,12 +9,12 @@ use Rattle.lk_conflict.specs.Facts.{IsItemOf, are_in_conflict}
 use Rattle.lk_conflict.specs.Listing.{at_location, is_in_conflict}
 use Rattle.lk_conflict.specs.declared.item_at.ItemAt.{ItemAt}
 use Rattle.lk_rise.proofs.ListLemmas.{in_filter, passes_there, some_passes}
-use Rattle.lk_rise.specs.declared.correlations.Item.{Item}
+use Rattle.lk_rise.specs.declared.correlations.Correlation.{Correlation}
 use Rattle.lk_sets.specs.Rows.{has}
 
 module _ (facts : FactTable) (setting : Setting) where
   -- nothing comes where nothing has the property
-  pub adds_none : (Q : ℕ → ℕ → ItemAt → Type 0) (old : List (Item × List ℕ)) → ((f o : ℕ) (i : ItemAt) → Q f o i → ⊥) → Adds facts setting Q old old
+  pub adds_none : (Q : ℕ → ℕ → ItemAt → Type 0) (old : List (Correlation × List ℕ)) → ((f o : ℕ) (i : ItemAt) → Q f o i → ⊥) → Adds facts setting Q old old
   adds_none Q old none = record {
     kept = λ b there. there;
     sound = λ b there. inl there;
@@ -22,7 +22,7 @@ module _ (facts : FactTable) (setting : Setting) where
   }
 
   -- the same property in other words
-  pub adds_as : (Q R : ℕ → ℕ → ItemAt → Type 0) (old new : List (Item × List ℕ)) → Adds facts setting Q old new →
+  pub adds_as : (Q R : ℕ → ℕ → ItemAt → Type 0) (old new : List (Correlation × List ℕ)) → Adds facts setting Q old new →
       ((f o : ℕ) (i : ItemAt) → Q f o i → R f o i) → ((f o : ℕ) (i : ItemAt) → R f o i → Q f o i) → Adds facts setting R old new
   adds_as Q R old new adds to from = record {
     kept = adds.kept;
@@ -31,7 +31,7 @@ module _ (facts : FactTable) (setting : Setting) where
   }
 
   -- the bases of items with one property, then those with another
-  pub adds_more : (Q R S : ℕ → ℕ → ItemAt → Type 0) (old mid new : List (Item × List ℕ)) → Adds facts setting Q old mid → Adds facts setting R mid new →
+  pub adds_more : (Q R S : ℕ → ℕ → ItemAt → Type 0) (old mid new : List (Correlation × List ℕ)) → Adds facts setting Q old mid → Adds facts setting R mid new →
       ((f o : ℕ) (i : ItemAt) → S f o i → Q f o i ⊎ R f o i) → ((f o : ℕ) (i : ItemAt) → Q f o i → S f o i) → ((f o : ℕ) (i : ItemAt) → R f o i → S f o i) → Adds facts setting S old new
   adds_more Q R S old mid new first second either from_first from_second = record {
     kept = λ b there. second.kept b (first.kept b there);
@@ -48,7 +48,7 @@ module _ (facts : FactTable) (setting : Setting) where
   }
 
   -- the basis of one item
-  pub adds_one : (f o : ℕ) (i : ItemAt) (b : Item × List ℕ) (old new : List (Item × List ℕ)) → IsBasis facts setting f o i b → new ≡ old ++ b ∷ [] →
+  pub adds_one : (f o : ℕ) (i : ItemAt) (b : Correlation × List ℕ) (old new : List (Correlation × List ℕ)) → IsBasis facts setting f o i b → new ≡ old ++ b ∷ [] →
       Adds facts setting (λ g q j. (g ≡ f) × (q ≡ o) × (j ≡ i)) old new
   adds_one f o i b old new is pushed = record {
     kept = λ c there. subst (λ xs. Contains xs c) (sym pushed) (Contains-append_left old (b ∷ []) c there);

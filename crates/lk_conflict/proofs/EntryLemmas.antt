@@ -9,7 +9,7 @@ use Rattle.std.proofs.lemmas.List.Elements.{All-head, All-tail}
 use Rattle.std.proofs.lemmas.Option.{same_Some, slice_get_cases}
 use Rattle.lk_sets.specs.Ids.{has_id}
 use Rattle.lk_sets.proofs.Rising.{has_id-append}
-use Rattle.lk_rise.specs.declared.correlations.Item.{Item}
+use Rattle.lk_rise.specs.declared.correlations.Correlation.{Correlation}
 use Rattle.lk_rise.specs.Correlations.{is_same, item_of, has_of, has_item, set_of}
 use Rattle.lk_rise.proofs.ItemLemmas.{same_from_equal, same_item, same_itself}
 use Rattle.lk_links.proofs.SetLemmas.{has_id-one}
@@ -18,11 +18,11 @@ use Rattle.lk_conflict.specs.Places.{AreLocksBelow}
 use Rattle.lk_rise.proofs.ListLemmas.{head_or_tail, head_there, none_there, tail_there}
 
 -- the first entry of a table is there
-pub first_there : (e : Item × List ℕ) (es : List (Item × List ℕ)) → has_of (e ∷ es) e.0.function e.0.child e.0.subject e.0.access ≡ true
+pub first_there : (e : Correlation × List ℕ) (es : List (Correlation × List ℕ)) → has_of (e ∷ es) e.0.function e.0.child e.0.subject e.0.access ≡ true
 first_there e es = rw (same_itself e.0) refl
 
 -- and the others too
-pub later_there : (e : Item × List ℕ) (es : List (Item × List ℕ)) (f : ℕ) (child : Bool) (s a : ℕ) → has_of es f child s a ≡ true → has_of (e ∷ es) f child s a ≡ true
+pub later_there : (e : Correlation × List ℕ) (es : List (Correlation × List ℕ)) (f : ℕ) (child : Bool) (s a : ℕ) → has_of es f child s a ≡ true → has_of (e ∷ es) f child s a ≡ true
 later_there e es f child s a there =
     elim (cases_Bool (is_same (item_of f child s a) e.0)) [
       | inl same ↦ rw same refl
@@ -30,7 +30,7 @@ later_there e es f child s a there =
     ]
 
 -- what is there is the first or one of the others
-pub there_cases : (e : Item × List ℕ) (es : List (Item × List ℕ)) (f : ℕ) (child : Bool) (s a : ℕ) → has_of (e ∷ es) f child s a ≡ true → (item_of f child s a ≡ e.0) ⊎ (has_of es f child s a ≡ true)
+pub there_cases : (e : Correlation × List ℕ) (es : List (Correlation × List ℕ)) (f : ℕ) (child : Bool) (s a : ℕ) → has_of (e ∷ es) f child s a ≡ true → (item_of f child s a ≡ e.0) ⊎ (has_of es f child s a ≡ true)
 there_cases e es f child s a there =
     elim (cases_Bool (is_same (item_of f child s a) e.0)) [
       | inl same ↦ inl (same_item (item_of f child s a) e.0 same)
@@ -38,7 +38,7 @@ there_cases e es f child s a there =
     ]
 
 -- the access of an item, where it is one of f for o
-access_is : (f o : ℕ) (item : Item) (a : ℕ) → (has_id (access_in f o item) a ≡ true) ↔ ((item.function ≡ f) × (item.subject ≡ o) × (item.access ≡ a))
+access_is : (f o : ℕ) (item : Correlation) (a : ℕ) → (has_id (access_in f o item) a ≡ true) ↔ ((item.function ≡ f) × (item.subject ≡ o) × (item.access ≡ a))
 access_is f o item a = at_test (eqb item.function f) (eqb item.subject o) refl refl
   where
     at_test : (b c : Bool) → eqb item.function f ≡ b → eqb item.subject o ≡ c → (has_id (cond (b && c) (item.access ∷ []) []) a ≡ true) ↔ ((item.function ≡ f) × (item.subject ≡ o) × (item.access ≡ a))
@@ -47,7 +47,7 @@ access_is f o item a = at_test (eqb item.function f) (eqb item.subject o) refl r
     at_test false c other same_o = (λ there. absurd (false≢true there), λ is. absurd (false≢true (sym other ∙ eq-eqb item.function f is.0)))
 
 -- the accesses of the items of f for o are those that the table has
-pub accesses_are : (f o : ℕ) (entries : List (Item × List ℕ)) (a : ℕ) → (has_id (accesses_in f o entries) a ≡ true) ↔ ((child : Bool) × (has_of entries f child o a ≡ true))
+pub accesses_are : (f o : ℕ) (entries : List (Correlation × List ℕ)) (a : ℕ) → (has_id (accesses_in f o entries) a ≡ true) ↔ ((child : Bool) × (has_of entries f child o a ≡ true))
 accesses_are f o [] a = (λ there. absurd (false≢true there), λ found. absurd (false≢true found.1))
 accesses_are f o (e ∷ es) a =
     let parts = has_id-append (access_in f o e.0) (accesses_in f o es) a in
@@ -65,36 +65,36 @@ accesses_are f o (e ∷ es) a =
           ],
       λ found.
           parts ∙ ⊎_elim
-          (λ same. or_left _ _ ((access_is f o e.0 a).1 (ap (λ (i : Item). i.function) (sym same), ap (λ (i : Item). i.subject) (sym same), ap (λ (i : Item). i.access) (sym same))))
+          (λ same. or_left _ _ ((access_is f o e.0 a).1 (ap (λ (i : Correlation). i.function) (sym same), ap (λ (i : Correlation). i.subject) (sym same), ap (λ (i : Correlation). i.access) (sym same))))
           (λ later. or_right (has_id (access_in f o e.0) a) _ (rest.1 (found.0, later)))
           (there_cases e es f found.0 o a found.1),
     )
 
 -- the locks of an item are labels
-pub set_below : (n : ℕ) (entries : List (Item × List ℕ)) (item : Item) (locks : List ℕ) → AreLocksBelow n entries → Some locks ≡ set_of entries item → All (λ x. x < n) locks
+pub set_below : (n : ℕ) (entries : List (Correlation × List ℕ)) (item : Correlation) (locks : List ℕ) → AreLocksBelow n entries → Some locks ≡ set_of entries item → All (λ x. x < n) locks
 set_below n [] item locks below at = absurd (cc)
 set_below n (e ∷ es) item locks below at =
     elim (cases_Bool (is_same item e.0)) [
-      | inl same ↦ let here : Some locks ≡ Some e.1 = at ∙ rw same refl in subst (All (λ x. x < n)) (let is : e.1 ≡ locks = cc in is) (All-head (λ (f : Item × List ℕ). All (λ x. x < n) f.1) e es below)
-      | inr other ↦ set_below n es item locks (All-tail (λ (f : Item × List ℕ). All (λ x. x < n) f.1) e es below) (at ∙ rw other refl)
+      | inl same ↦ let here : Some locks ≡ Some e.1 = at ∙ rw same refl in subst (All (λ x. x < n)) (let is : e.1 ≡ locks = cc in is) (All-head (λ (f : Correlation × List ℕ). All (λ x. x < n) f.1) e es below)
+      | inr other ↦ set_below n es item locks (All-tail (λ (f : Correlation × List ℕ). All (λ x. x < n) f.1) e es below) (at ∙ rw other refl)
     ]
 
 -- lists that come of the items, for one item more
-pub flat_more : {Y : Type 0} (h : Item → List Y) (entries : List (Item × List ℕ)) (i : ℕ) (item : Item) → option_map (λ entry. entry.0) (slice_get entries i) ≡ Some item →
-    flat_map (λ (entry : Item × List ℕ). h entry.0) (take (i + 1) entries) ≡ flat_map (λ (entry : Item × List ℕ). h entry.0) (take i entries) ++ h item
+pub flat_more : {Y : Type 0} (h : Correlation → List Y) (entries : List (Correlation × List ℕ)) (i : ℕ) (item : Correlation) → option_map (λ entry. entry.0) (slice_get entries i) ≡ Some item →
+    flat_map (λ (entry : Correlation × List ℕ). h entry.0) (take (i + 1) entries) ≡ flat_map (λ (entry : Correlation × List ℕ). h entry.0) (take i entries) ++ h item
 flat_more h entries i item at =
     elim (slice_get_cases entries i).1 [
       | inl found ↦
-          let same : Some found.0.0 ≡ Some item = sym (ap (option_map (λ (entry : Item × List ℕ). entry.0)) found.2) ∙ at in
+          let same : Some found.0.0 ≡ Some item = sym (ap (option_map (λ (entry : Correlation × List ℕ). entry.0)) found.2) ∙ at in
           let is : found.0.0 ≡ item = cc in
-          ap (flat_map (λ (entry : Item × List ℕ). h entry.0)) (take_more entries i found.0 found.1)
-          ∙ flat_map-append (λ (entry : Item × List ℕ). h entry.0) (take i entries) (get_or entries i found.0 ∷ [])
-          ∙ ap (λ xs. flat_map (λ (entry : Item × List ℕ). h entry.0) (take i entries) ++ xs) (append-nil (h (get_or entries i found.0).0) ∙ ap (λ (e : Item × List ℕ). h e.0) found.3 ∙ ap h is)
-      | inr past ↦ let none : None ≡ Some item = sym (ap (option_map (λ (entry : Item × List ℕ). entry.0)) past.1) ∙ at in absurd (cc)
+          ap (flat_map (λ (entry : Correlation × List ℕ). h entry.0)) (take_more entries i found.0 found.1)
+          ∙ flat_map-append (λ (entry : Correlation × List ℕ). h entry.0) (take i entries) (get_or entries i found.0 ∷ [])
+          ∙ ap (λ xs. flat_map (λ (entry : Correlation × List ℕ). h entry.0) (take i entries) ++ xs) (append-nil (h (get_or entries i found.0).0) ∙ ap (λ (e : Correlation × List ℕ). h e.0) found.3 ∙ ap h is)
+      | inr past ↦ let none : None ≡ Some item = sym (ap (option_map (λ (entry : Correlation × List ℕ). entry.0)) past.1) ∙ at in absurd (cc)
     ]
 
 -- the set of an item is that of an entry
-pub found_there : (entries : List (Item × List ℕ)) (item : Item) (set : List ℕ) → Some set ≡ set_of entries item → Contains entries (item, set)
+pub found_there : (entries : List (Correlation × List ℕ)) (item : Correlation) (set : List ℕ) → Some set ≡ set_of entries item → Contains entries (item, set)
 found_there [] item set at = absurd (cc)
 found_there (e ∷ es) item set at =
     elim (cases_Bool (is_same item e.0)) [
@@ -106,7 +106,7 @@ found_there (e ∷ es) item set at =
     ]
 
 -- and an item with an entry is there
-pub there_found : (entries : List (Item × List ℕ)) (item : Item) (set : List ℕ) → Contains entries (item, set) → has_item entries item ≡ true
+pub there_found : (entries : List (Correlation × List ℕ)) (item : Correlation) (set : List ℕ) → Contains entries (item, set) → has_item entries item ≡ true
 there_found [] item set there = absurd (none_there (item, set) there)
 there_found (e ∷ es) item set there =
     elim (cases_Bool (is_same item e.0)) [
@@ -114,13 +114,13 @@ there_found (e ∷ es) item set there =
       | inr other ↦
           rw other
           (elim (head_or_tail e es (item, set) there) [
-            | inl here ↦ absurd (false≢true (sym other ∙ same_from_equal item e.0 (ap (λ (f : Item × List ℕ). f.0) (sym here))))
+            | inl here ↦ absurd (false≢true (sym other ∙ same_from_equal item e.0 (ap (λ (f : Correlation × List ℕ). f.0) (sym here))))
             | inr later ↦ there_found es item set later
           ])
     ]
 
 -- an item that is there has an entry
-pub entry_there : (entries : List (Item × List ℕ)) (item : Item) → has_item entries item ≡ true → (set : List ℕ) × Contains entries (item, set)
+pub entry_there : (entries : List (Correlation × List ℕ)) (item : Correlation) → has_item entries item ≡ true → (set : List ℕ) × Contains entries (item, set)
 entry_there entries item there = by_set (set_of entries item) refl there
   where
     by_set : (found : Option (List ℕ)) → found ≡ set_of entries item → is_some found ≡ true → (set : List ℕ) × Contains entries (item, set)

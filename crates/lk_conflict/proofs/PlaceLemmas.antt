@@ -1,13 +1,16 @@
 -- The lock places that are held at each racing item of an access.
-use Rattle.std.proofs.Common.{◌≡◌, ◌&&◌, ◌⊎◌, ◌↔◌, ℕ, Bool, true, false, not, List, Some, None, refl, sym, ◌∙◌, subst, inl, inr}
+use Rattle.std.proofs.Common.{◌≡◌, ◌<◌, ◌+◌, ◌++◌, ◌&&◌, ◌⊎◌, ◌↔◌, ℕ, Bool, true, false, not, List, [], ◌∷◌, length, get_or, Some, None, refl, sym, ◌∙◌, subst, inl, inr, arith}
 use Rattle.std.specs.Option.{is_some, option_map_or}
-use Rattle.std.proofs.lemmas.Bool.{and_from, and_parts, false≢true}
+use Rattle.std.proofs.lemmas.Bool.{and_from, and_parts, cases_eq, false≢true}
+use Rattle.std.proofs.Math.ListN.{get_or-append}
+use Rattle.std.proofs.lemmas.List.{get_or_push}
 use Rattle.lk_facts.specs.Basis.{Basis}
 use Rattle.lk_facts.specs.Flow.{MeansOnly}
 use Rattle.lk_facts.specs.Lists.{Lists}
 use Rattle.lk_facts.specs.Verdicts.{InLockSet}
 use Rattle.lk_sets.specs.Ids.{has_id, IsSetOf}
-use Rattle.lk_rise.specs.declared.correlations.Item.{Item}
+use Rattle.lk_rise.specs.declared.correlations.Correlation.{Correlation}
+use Rattle.lk_rise.specs.Conflicts.{every_place}
 use Rattle.lk_rise.specs.Correlations.{set_of, item_of, has_of, locks_of}
 use Rattle.lk_conflict.specs.Places.{IsPlaceOf}
 
@@ -24,7 +27,32 @@ set_lists P members ids is set = record {
   members = λ x. (λ there. (is x).0 (sym (set.members x) ∙ there), λ holds. set.members x ∙ (is x).1 holds);
 }
 
-module _ (basis : Basis) (linear : ℕ → Bool) (entries : List (Item × List ℕ)) (o a : ℕ) where
+-- what a list has at each place, one element more
+pub each_more : {X : Type 0} (P : ℕ → X → Type 0) (d : X) (old new : List X) (x : X) (n : ℕ) → new ≡ old ++ x ∷ [] → length old ≡ n → P n x → ((i : ℕ) → i < n → P i (get_or old i d)) → (i : ℕ) → i < n + 1 → P i (get_or new i d)
+each_more P d old new x n is long here before i less = subst (λ xs. P i (get_or xs i d)) (sym is)
+    (elim (cases_eq i n) [
+      | inl same ↦ subst (P i) (sym (get_or_push old x d i (long ∙ sym same))) (subst (λ j. P j x) (sym same) here)
+      | inr other ↦
+          let below : i < n = omega arith in
+          subst (P i) (sym (get_or-append old (x ∷ []) d i (omega (arith, long, below)))) (before i below)
+    ])
+
+-- the linear ones of the lock places of an access are its lock set
+pub set_narrowed : (basis : Basis) (entries : List (Correlation × List ℕ)) (linear : List ℕ) (o a : ℕ) (places ids : List ℕ) → Lists (InLockSet basis (has_of entries) (locks_of entries) every_place o a) places →
+    IsSetOf (λ q. has_id places q && has_id linear q) ids → Lists (InLockSet basis (has_of entries) (locks_of entries) (has_id linear) o a) ids
+set_narrowed basis entries linear o a places ids are set = record {
+  sorted = set.sorted;
+  members = λ q. (
+    λ there.
+        let parts = and_parts (has_id places q) (has_id linear q) (sym (set.members q) ∙ there) in
+        let found = (are.members q).0 parts.0 in
+        record { is_place = found.is_place; is_linear = parts.1; is_locked = found.is_locked },
+    λ locked.
+        set.members q ∙ and_from _ _ ((are.members q).1 (record { is_place = locked.is_place; is_linear = refl; is_locked = locked.is_locked })) locked.is_linear,
+  );
+}
+
+module _ (basis : Basis) (linear : ℕ → Bool) (entries : List (Correlation × List ℕ)) (o a : ℕ) where
   -- what an own and a child item of the access have in common
   pub both_held : (own child places others ids : List ℕ) →
       Some own ≡ set_of entries (item_of basis.program.main false o a) → Some child ≡ set_of entries (item_of basis.program.main true o a) →

@@ -39,7 +39,7 @@ use Rattle.lk_links.specs.declared.link.Link.{Link}
 use Rattle.lk_rise.proofs.DoingLemmas.{accessing, accessed_by}
 use Rattle.lk_rise.proofs.ListLemmas.{head_there, in_flat_map, in_map, none_there, one_there}
 use Rattle.lk_rise.specs.Correlations.{AreInRange, IsEntryInRange, has_of, item_of}
-use Rattle.lk_rise.specs.declared.correlations.Item.{Item}
+use Rattle.lk_rise.specs.declared.correlations.Correlation.{Correlation}
 use Rattle.lk_sets.specs.Rows.{IsSquare}
 use Rattle.lk_sets.proofs.Members.{Contains-from_has_id, has_id-from_Contains}
 
@@ -118,7 +118,7 @@ module _ (basis : Basis) where
     item_function p f x a source child (risen {g} {way = way} {child = below} rises there over) = rises_of p f g way below child rises
 
 -- the numbers of an item of a point are in range
-module _ (facts : FactTable) (entries : List (Item × List ℕ)) (labels_in_range : AreLabelsInRange facts.labels) (origins_in_range : AreOriginsInRange facts.origins) (all : IsSquare facts.origins.all) (inner : IsSquare facts.origins.inner)
+module _ (facts : FactTable) (entries : List (Correlation × List ℕ)) (labels_in_range : AreLabelsInRange facts.labels) (origins_in_range : AreOriginsInRange facts.origins) (all : IsSquare facts.origins.all) (inner : IsSquare facts.origins.inner)
     (agree : AreFacts facts) (ranged : AreInRange facts (length facts.labels.entries) entries) where
   subject_within : (p f x a : ℕ) (source : Source) (child : Bool) → PointItem (basis_of facts) (has_of entries) p f source child x a → x < length facts.labels.entries
   subject_within p f x a source child (accessed accesses) = let by = accessed_by (basis_of facts) p f x accesses in target_within facts.labels by.0 x labels_in_range by.4
@@ -138,7 +138,7 @@ module _ (facts : FactTable) (entries : List (Item × List ℕ)) (labels_in_rang
   }
 
 -- the items of a point that accesses something
-module _ (facts : FactTable) (entries : List (Item × List ℕ)) (p f : ℕ) (at : function_at facts.program p ≡ Some f) where
+module _ (facts : FactTable) (entries : List (Correlation × List ℕ)) (p f : ℕ) (at : function_at facts.program p ≡ Some f) where
   -- nothing rises where something is accessed
   apart : (done other : Effect) (a : ℕ) → effect_at facts.program p ≡ Some done → effect_at facts.program p ≡ Some other → operand_of done ≡ Some a → operand_of other ≡ None → ⊥
   apart done other a is is' by none = none-some a (sym none ∙ ap operand_of (same_Some other done (sym is' ∙ is)) ∙ by)
@@ -174,7 +174,7 @@ module _ (facts : FactTable) (entries : List (Item × List ℕ)) (p f : ℕ) (at
 
   module _ (links : List Link) (are : AreLinksAt (basis_of facts) p links) where
     -- what rises from an entry by a link is an item of the point
-    from_entry : (link : Link) → IsLink (basis_of facts) p link → (e : Item × List ℕ) (m : ℕ) → Contains entries e → e.0.function ≡ link.below → Over (flow_of facts.origins) link.way e.0.subject m →
+    from_entry : (link : Link) → IsLink (basis_of facts) p link → (e : Correlation × List ℕ) (m : ℕ) → Contains entries e → e.0.function ≡ link.below → Over (flow_of facts.origins) link.way e.0.subject m →
         PointItem (basis_of facts) (has_of entries) p f (ItemBelow link.way e.0.function e.0.child e.0.subject) (e.0.child || link.starts) m e.0.access
     from_entry link is e m there below over =
         let rises = is.rises e.0.child in
@@ -184,7 +184,7 @@ module _ (facts : FactTable) (entries : List (Item × List ℕ)) (p f : ℕ) (at
         (subst (λ g. Rises (basis_of facts) p link.above link.way g e.0.child (e.0.child || link.starts)) (sym below) rises))
         (there_found entries e.0 e.1 there) over
 
-    by_entry : (link : Link) → IsLink (basis_of facts) p link → (i : ItemAt) (e : Item × List ℕ) → Contains entries e → (b : Bool) → eqb e.0.function link.below ≡ b →
+    by_entry : (link : Link) → IsLink (basis_of facts) p link → (i : ItemAt) (e : Correlation × List ℕ) → Contains entries e → (b : Bool) → eqb e.0.function link.below ≡ b →
         Contains (cond b (map (risen_item_of link e.0) (over_list facts.origins link.way e.0.subject)) []) i → (i.point ≡ p) × IsItemOf (basis_of facts) (has_of entries) f i
     by_entry link is i e there false other here = absurd (none_there i here)
     by_entry link is i e there true same here =
@@ -215,7 +215,7 @@ module _ (facts : FactTable) (entries : List (Item × List ℕ)) (p f : ℕ) (at
         (λ d. record { point = is.point d; source = ItemBelow (by.by d) g below s; child = by.becomes d; subject = x; access = a }) in
         subst (λ j. Contains (flat_map (items_by facts.origins entries) links) j) same
         ((in_flat_map (items_by facts.origins entries) links (risen_item_of link item x)).1
-        (link, found.1, (in_flat_map (λ (e : Item × List ℕ). items_through facts.origins link e.0) entries (risen_item_of link item x)).1 ((item, entry.0), entry.1, through)))
+        (link, found.1, (in_flat_map (λ (e : Correlation × List ℕ). items_through facts.origins link e.0) entries (risen_item_of link item x)).1 ((item, entry.0), entry.1, through)))
 
     -- the items of a point that accesses nothing
     pub linked_items : IsTheOne (λ z. (h : ℕ) × Accesses (basis_of facts) p h z) None → (i : ItemAt) →
@@ -225,7 +225,7 @@ module _ (facts : FactTable) (entries : List (Item × List ℕ)) (p f : ℕ) (at
           let by = (in_flat_map (items_by facts.origins entries) links i).0 there in
           let link = by.0 in
           let is : IsLink (basis_of facts) p link = All-contains (IsLink (basis_of facts) p) links link are.each by.1 in
-          let found = (in_flat_map (λ (e : Item × List ℕ). items_through facts.origins link e.0) entries i).0 by.2 in
+          let found = (in_flat_map (λ (e : Correlation × List ℕ). items_through facts.origins link e.0) entries i).0 by.2 in
           by_entry link is i found.0 found.1 (eqb found.0.0.function link.below) refl found.2,
       λ both.
           let here : PointItem (basis_of facts) (has_of entries) p f i.source i.child i.subject i.access = subst (λ q. PointItem (basis_of facts) (has_of entries) q f i.source i.child i.subject i.access) both.0 both.1 in
@@ -234,6 +234,6 @@ module _ (facts : FactTable) (entries : List (Item × List ℕ)) (p f : ℕ) (at
     )
 
 -- the items of a call or creation, from one entry more
-pub through_more : (origins : OriginTable) (link : Link) (entries : List (Item × List ℕ)) (i : ℕ) (item : Item) → option_map (λ entry. entry.0) (slice_get entries i) ≡ Some item →
-    flat_map (λ (entry : Item × List ℕ). items_through origins link entry.0) (take (i + 1) entries) ≡ flat_map (λ (entry : Item × List ℕ). items_through origins link entry.0) (take i entries) ++ items_through origins link item
+pub through_more : (origins : OriginTable) (link : Link) (entries : List (Correlation × List ℕ)) (i : ℕ) (item : Correlation) → option_map (λ entry. entry.0) (slice_get entries i) ≡ Some item →
+    flat_map (λ (entry : Correlation × List ℕ). items_through origins link entry.0) (take (i + 1) entries) ≡ flat_map (λ (entry : Correlation × List ℕ). items_through origins link entry.0) (take i entries) ++ items_through origins link item
 through_more origins link entries i item at = flat_more (items_through origins link) entries i item at

@@ -14,7 +14,7 @@ use Rattle.lk_conflict.specs.declared.item_at.ItemAt.{ItemAt}
 use Rattle.lk_rise.proofs.ListLemmas.{none_there}
 use Rattle.lk_rise.specs.Correlations.{item_of, has_of, locks_of}
 use Rattle.lk_rise.specs.Rising.{Carries, Risen, AreRisen}
-use Rattle.lk_rise.specs.declared.correlations.Item.{Item}
+use Rattle.lk_rise.specs.declared.correlations.Correlation.{Correlation}
 use Rattle.lk_rise.specs.declared.rising.Subjects.TheVariants.{AsTheyAre}
 
 module _ (facts : FactTable) (setting : Setting) where
@@ -70,8 +70,8 @@ module _ (facts : FactTable) (setting : Setting) where
   )
 
   -- what rises from the bases of all items that are in conflict
-  module _ (based entries : List (Item × List ℕ)) (adds : Adds facts setting (λ f o i. IsInConflict facts setting f o i) [] based) where
-    begun : (b : Item × List ℕ) → Contains based b → (f o : ℕ) × (i : ItemAt) × IsInConflict facts setting f o i × IsBasis facts setting f o i b
+  module _ (based entries : List (Correlation × List ℕ)) (adds : Adds facts setting (λ f o i. IsInConflict facts setting f o i) [] based) where
+    begun : (b : Correlation × List ℕ) → Contains based b → (f o : ℕ) × (i : ItemAt) × IsInConflict facts setting f o i × IsBasis facts setting f o i b
     begun b there = ⊎_elim (λ none. absurd (none_there b none)) (λ found. found) (adds.sound b there)
 
     -- a conflict's item has a basis
@@ -81,13 +81,13 @@ module _ (facts : FactTable) (setting : Setting) where
         let found = from_conflicts f o p a source child conflicts in
         let i : ItemAt = record { point = p; source = source; child = child; subject = found.0; access = a } in
         let basis = adds.complete f o i found.1 in
-        let same : basis.0 ≡ (item_of f child o a, basis.0.1) = ap (λ (item : Item). (item, basis.0.1)) basis.2.item in
+        let same : basis.0 ≡ (item_of f child o a, basis.0.1) = ap (λ (item : Correlation). (item, basis.0.1)) basis.2.item in
         (basis.0.1, subst (λ b. Contains based b) same basis.1, (found.0, subst (λ b. IsBasis facts setting f o i b) same basis.2))
 
     to_races : {f : ℕ} {child : Bool} {s a : ℕ} → Risen (basis_of facts) (Carries (basis_of facts).flow AsTheyAre) based f child s a → Races (basis_of facts) setting f child s a
     to_races (Risen.based {f} {s} {a} {child} set there) =
         let found = begun (item_of f child s a, set) there in
-        subst (λ (item : Item). Races (basis_of facts) setting item.function item.child item.subject item.access) (sym found.4.item)
+        subst (λ (item : Correlation). Races (basis_of facts) setting item.function item.child item.subject item.access) (sym found.4.item)
         (conflict (to_conflicts found.0 found.1 found.2 found.3))
     to_races (Risen.risen {f = f} {s = s} {x = x} {a = a} {above = above} rises below same) =
         subst (λ o. Races (basis_of facts) setting f above o a) (sym same) (risen rises (to_races below))
@@ -115,7 +115,7 @@ module _ (facts : FactTable) (setting : Setting) where
               let found = begun (item_of f child s a, set) there in
               (found.4.is_locked x).1
               (allowed.conflict found.0 found.1 found.2.point found.2.source found.2.child found.2.access x (to_conflicts found.0 found.1 found.2 found.3)
-              (subst (λ (item : Item). other item.function item.child item.subject item.access x ≡ true) found.4.item locked));
+              (subst (λ (item : Correlation). other item.function item.child item.subject item.access x ≡ true) found.4.item locked));
           risen = λ p f g s x a y way child above rises there same locked. allowed.risen p f g s a y way child above rises there (subst (λ o. other f above o a y ≡ true) same locked);
         });
       };

@@ -6,7 +6,7 @@ use Rattle.lk_facts.specs.Racing.{Setting}
 use Rattle.lk_conflict.specs.Facts.{IsItemOf, are_in_conflict}
 use Rattle.lk_conflict.specs.declared.item_at.ItemAt.{ItemAt}
 use Rattle.lk_rise.specs.Correlations.{IsEntryInRange, item_of}
-use Rattle.lk_rise.specs.declared.correlations.Item.{Item}
+use Rattle.lk_rise.specs.declared.correlations.Correlation.{Correlation}
 use Rattle.lk_sets.specs.Ids.{has_id}
 
 module _ (facts : FactTable) (setting : Setting) where
@@ -24,13 +24,13 @@ module _ (facts : FactTable) (setting : Setting) where
     pub conflict : are_in_conflict facts.program setting.after i other ≡ true
 
   -- what a racing item of f for the location begins with, from an item of a point: the item, with the locks of the point's item
-  pub record IsBasis (f o : ℕ) (i : ItemAt) (basis : Item × List ℕ) : Type 0 where
+  pub record IsBasis (f o : ℕ) (i : ItemAt) (basis : Correlation × List ℕ) : Type 0 where
     pub item : basis.0 ≡ item_of f i.child o i.access
     pub is_locked : (x : ℕ) → (has_id basis.1 x ≡ true) ↔ HasLock (basis_of facts) setting.held setting.locks i.point i.source i.child i.access x
     pub in_range : IsEntryInRange facts facts.program.locations basis
 
   -- the bases of all items with the property come to those that were there, and no others
-  pub record Adds (Q : ℕ → ℕ → ItemAt → Type 0) (old new : List (Item × List ℕ)) : Type 0 where
-    pub kept : (basis : Item × List ℕ) → Contains old basis → Contains new basis
-    pub sound : (basis : Item × List ℕ) → Contains new basis → Contains old basis ⊎ ((f o : ℕ) × (i : ItemAt) × Q f o i × IsBasis f o i basis)
-    pub complete : (f o : ℕ) (i : ItemAt) → Q f o i → (basis : Item × List ℕ) × Contains new basis × IsBasis f o i basis
+  pub record Adds (Q : ℕ → ℕ → ItemAt → Type 0) (old new : List (Correlation × List ℕ)) : Type 0 where
+    pub kept : (basis : Correlation × List ℕ) → Contains old basis → Contains new basis
+    pub sound : (basis : Correlation × List ℕ) → Contains new basis → Contains old basis ⊎ ((f o : ℕ) × (i : ItemAt) × Q f o i × IsBasis f o i basis)
+    pub complete : (f o : ℕ) (i : ItemAt) → Q f o i → (basis : Correlation × List ℕ) × Contains new basis × IsBasis f o i basis

@@ -10,18 +10,18 @@ use Rattle.lk_facts.specs.Racing.{Setting}
 use Rattle.lk_facts.specs.declared.program.Program.{Program}
 use Rattle.lk_conflict.specs.declared.item_at.ItemAt.{ItemAt}
 use Rattle.lk_rise.specs.Correlations.{AreInRange, has_of, locks_of}
-use Rattle.lk_rise.specs.declared.correlations.Item.{Item}
+use Rattle.lk_rise.specs.declared.correlations.Correlation.{Correlation}
 use Rattle.lk_sets.specs.Rows.{Rows, has}
 
 -- as many labels, points and functions throughout, and items of these
-pub record AreOfOneProgram (facts : FactTable) (held : LockSets) (items : List (Item × List ℕ)) (after : Rows) : Type 0 where
+pub record AreOfOneProgram (facts : FactTable) (held : LockSets) (items : List (Correlation × List ℕ)) (after : Rows) : Type 0 where
   pub held_points : length held.at ≡ length facts.program.points
   pub held_labels : held.labels ≡ length facts.labels.entries
   pub after_size : after.size ≡ length facts.program.points
   pub items_in_range : AreInRange facts (length facts.labels.entries) items
 
 -- what races rest on, as the parts say it
-abbrev pub setting_of : Rows → List (Item × List ℕ) → LockSets → Setting
+abbrev pub setting_of : Rows → List (Correlation × List ℕ) → LockSets → Setting
 setting_of after items held = record { after = has after; has = has_of items; held = held_table held; locks = locks_of items }
 
 -- it is an item of a live point of f

@@ -13,7 +13,7 @@ use Rattle.lk_conflict.specs.Facts.{are_in_conflict}
 use Rattle.lk_conflict.specs.declared.item_at.ItemAt.{ItemAt}
 use Rattle.lk_links.specs.declared.link.Link.{Link}
 use Rattle.lk_links.specs.Only.{over_list}
-use Rattle.lk_rise.specs.declared.correlations.Item.{Item}
+use Rattle.lk_rise.specs.declared.correlations.Correlation.{Correlation}
 use Rattle.lk_sets.specs.Ids.{has_id, IsSetOf}
 use Rattle.lk_sets.specs.Rows.{has}
 
@@ -33,11 +33,11 @@ state_of (first ∷ others) [] = Suspect
 state_of (first ∷ others) (q ∷ qs) = Guarded
 
 -- the access of the item, where it is one of the function for the location
-abbrev pub access_in : (f o : ℕ) → Item → List ℕ
+abbrev pub access_in : (f o : ℕ) → Correlation → List ℕ
 access_in f o item = if item.function == f && item.subject == o then item.access ∷ [] else []
 
 -- the accesses of the items of a function for a location
-abbrev pub accesses_in : (f o : ℕ) → List (Item × List ℕ) → List ℕ
+abbrev pub accesses_in : (f o : ℕ) → List (Correlation × List ℕ) → List ℕ
 accesses_in f o entries = flat_map (λ entry. access_in f o entry.0) entries
 
 -- the item of a point that is its own access
@@ -45,22 +45,22 @@ abbrev pub own_access_of : (point subject : ℕ) → ItemAt
 own_access_of point subject = record { point = point; source = OwnAccess; child = false; subject = subject; access = point }
 
 -- an item below as the source of items of a point
-abbrev pub source_of : Item → Way → Source
+abbrev pub source_of : Correlation → Way → Source
 source_of item way = ItemBelow way item.function item.child item.subject
 
 -- the item of a call or creation from an item below, whose subject is this one above
-abbrev pub risen_by : Link → Item → Source → ℕ → ItemAt
+abbrev pub risen_by : Link → Correlation → Source → ℕ → ItemAt
 risen_by link item source subject = record { point = link.point; source = source; child = item.child || link.starts; subject = subject; access = item.access }
 
-abbrev pub risen_item_of : Link → Item → ℕ → ItemAt
+abbrev pub risen_item_of : Link → Correlation → ℕ → ItemAt
 risen_item_of link item = risen_by link item (source_of item link.way)
 
 -- the items of a call or creation from an item, where it is one of the function below
-abbrev pub items_through : OriginTable → Link → Item → List ItemAt
+abbrev pub items_through : OriginTable → Link → Correlation → List ItemAt
 items_through origins link item = if item.function == link.below then map (risen_item_of link item) (over_list origins link.way item.subject) else []
 
 -- the items of a call or creation from all items
-abbrev pub items_by : OriginTable → List (Item × List ℕ) → Link → List ItemAt
+abbrev pub items_by : OriginTable → List (Correlation × List ℕ) → Link → List ItemAt
 items_by origins entries link = flat_map (λ entry. items_through origins link entry.0) entries
 
 -- the items that may be at a location

@@ -3,11 +3,11 @@ use Rattle.std.specs.Prelude.{◌≡◌, ◌<◌, ℕ, Bool, true, List, All}
 use Rattle.lk_facts.specs.Basis.{Basis}
 use Rattle.lk_facts.specs.Flow.{MeansOnly}
 use Rattle.lk_facts.specs.Program.{IsLockPlace}
-use Rattle.lk_rise.specs.declared.correlations.Item.{Item}
+use Rattle.lk_rise.specs.declared.correlations.Correlation.{Correlation}
 use Rattle.lk_sets.specs.Ids.{has_id}
 
 -- the locks of all items are labels below this number
-abbrev pub AreLocksBelow : ℕ → List (Item × List ℕ) → Type 0
+abbrev pub AreLocksBelow : ℕ → List (Correlation × List ℕ) → Type 0
 AreLocksBelow labels = All (λ entry. All (λ x. x < labels) entry.1)
 
 module _ (basis : Basis) (linear : ℕ → Bool) where

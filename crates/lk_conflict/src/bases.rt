@@ -21,13 +21,13 @@ use crate::item_at::ItemAt;
 use lk_base::NoMemory;
 use lk_facts::{Source, Way};
 use lk_links::risen;
-use lk_rise::Item;
+use lk_rise::Correlation;
 use lk_sets::IdSet;
 use std::alloc::Global;
 
 impl Grounds<'_> {
     /// The locks that are held at an item of a function, and none where it has no such item.
-    fn locks_below(&self, item: Item) -> &[u32]
+    fn locks_below(&self, item: Correlation) -> &[u32]
         ensures members { (x : ℕ) → has_id result.now x ≡ has_lock self.now.items.now item x }
         ensures in_range { All (λ x. x < length self.now.facts.now.labels.entries) result.now }
     {
@@ -43,7 +43,7 @@ impl Grounds<'_> {
         alloc: Global,
         point: u32,
         way: &Way,
-        below: Item,
+        below: Correlation,
         child: bool,
     ) -> Result<IdSet, NoMemory>
         requires { point < length self.now.facts.now.program.points }
@@ -80,7 +80,7 @@ impl Grounds<'_> {
                 child,
                 subject,
             } => {
-                let below = Item {
+                let below = Correlation {
                     function,
                     child,
                     subject,
@@ -99,7 +99,7 @@ impl Grounds<'_> {
         function: u32,
         location: u32,
         item: &ItemAt,
-        based: &mut Vec<(Item, IdSet)>,
+        based: &mut Vec<(Correlation, IdSet)>,
     ) -> Result<(), NoMemory>
         requires function { function < length self.now.facts.now.program.functions }
         requires location { location < self.now.facts.now.program.locations }
@@ -109,7 +109,7 @@ impl Grounds<'_> {
             (λ f o i. (f ≡ function) × (o ≡ location) × (i ≡ item.now)) based.old.items based.new.items) }
     {
         let locks = self.locks(alloc, function, item)?;
-        let racing = Item {
+        let racing = Correlation {
             function,
             child: item.child,
             subject: location,
@@ -127,7 +127,7 @@ impl Grounds<'_> {
         location: u32,
         item: &ItemAt,
         others: &[ItemAt],
-        based: &mut Vec<(Item, IdSet)>,
+        based: &mut Vec<(Correlation, IdSet)>,
     ) -> Result<(), NoMemory>
         requires function { function < length self.now.facts.now.program.functions }
         requires location { location < self.now.facts.now.program.locations }
@@ -151,7 +151,7 @@ impl Grounds<'_> {
         function: u32,
         location: u32,
         items: &[ItemAt],
-        based: &mut Vec<(Item, IdSet)>,
+        based: &mut Vec<(Correlation, IdSet)>,
     ) -> Result<(), NoMemory>
         requires function { function < length self.now.facts.now.program.functions }
         requires location { location < self.now.facts.now.program.locations }
@@ -173,7 +173,7 @@ impl Grounds<'_> {
         function: u32,
         location: u32,
         items: &[ItemAt],
-        based: &mut Vec<(Item, IdSet)>,
+        based: &mut Vec<(Correlation, IdSet)>,
     ) -> Result<(), NoMemory>
         requires function { function < length self.now.facts.now.program.functions }
         requires location { location < self.now.facts.now.program.locations }
@@ -193,7 +193,7 @@ impl Grounds<'_> {
         &self,
         alloc: Global,
         function: u32,
-        based: &mut Vec<(Item, IdSet)>,
+        based: &mut Vec<(Correlation, IdSet)>,
     ) -> Result<(), NoMemory>
         requires links { AreLinks (basis_of self.now.facts.now) self.now.links.now }
         requires function { function < length self.now.facts.now.program.functions }

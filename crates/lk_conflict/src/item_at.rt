@@ -15,7 +15,7 @@ use crate::grounds::Grounds;
 use lk_base::NoMemory;
 use lk_facts::{Source, Way};
 use lk_links::{Link, push_over};
-use lk_rise::Item;
+use lk_rise::Correlation;
 use std::alloc::Global;
 
 /// An item of a point: what it accesses, itself or in what it runs or starts.
@@ -47,7 +47,7 @@ fn own_access(point: u32, subject: u32) -> ItemAt
 }
 
 /// An item below as the source of items of a point that goes into its function by this way.
-fn source_below(item: &Item, way: Way) -> Source
+fn source_below(item: &Correlation, way: Way) -> Source
     ensures { result ≡ source_of item.now way }
 {
     Source::ItemBelow {
@@ -59,7 +59,7 @@ fn source_below(item: &Item, way: Way) -> Source
 }
 
 /// The item of a call or creation that rises from an item below, whose subject is this one above.
-fn risen_item(link: &Link, item: &Item, source: Source, subject: u32) -> ItemAt
+fn risen_item(link: &Link, item: &Correlation, source: Source, subject: u32) -> ItemAt
     ensures { result ≡ risen_by link.now item.now source subject }
 {
     ItemAt {
@@ -77,7 +77,7 @@ impl Grounds<'_> {
         &self,
         alloc: Global,
         link: &Link,
-        item: &Item,
+        item: &Correlation,
         found: &mut Vec<ItemAt>,
     ) -> Result<(), NoMemory>
         requires { item.now.subject < length self.now.facts.now.labels.entries }
@@ -97,7 +97,7 @@ impl Grounds<'_> {
         &self,
         alloc: Global,
         link: &Link,
-        item: &Item,
+        item: &Correlation,
         found: &mut Vec<ItemAt>,
     ) -> Result<(), NoMemory>
         requires { item.now.subject < length self.now.facts.now.labels.entries }

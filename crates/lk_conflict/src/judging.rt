@@ -1,43 +1,39 @@
 //! What racing accesses say of each location.
+ghost use Rattle.std.specs.Prelude.{◌≡◌, ◌<◌, ◌&&◌, [], IfOk};
+ghost use Rattle.lk_conflict.specs.Listing.{IsCommon, in_all, state_of};
 ghost use Rattle.lk_facts.specs.Facts.{basis_of};
-ghost use Rattle.std.specs.Prelude.{◌≡◌, ◌<◌, ◌&&◌, ℕ, true, List, [], ◌++◌, All, IfOk, OnOk, if◌then◌else◌, length, map};
-ghost use Rattle.std.specs.List.{list_all};
-ghost use Rattle.lk_conflict.specs.Places.{AreLocksBelow};
-ghost use Rattle.lk_conflict.specs.Listing.{IsCommon, access_in, in_all, state_of};
-ghost use Rattle.lk_facts.specs.Lists.{Lists};
-ghost use Rattle.lk_facts.specs.Verdicts.{AreRacing, AreVerdicts, IsRacing, IsVerdictOf};
+ghost use Rattle.lk_facts.specs.Verdicts.{AreRacing, AreVerdicts, IsVerdictOf};
+ghost use Rattle.lk_rise.specs.Conflicts.{AreRacingLists};
 ghost use Rattle.lk_rise.specs.Correlations.{has_of, locks_of};
 ghost use Rattle.lk_sets.specs.Ids.{has_id, IsSetOf};
 
-use crate::places::Races;
 use lk_base::{NoMemory, Seq};
 use lk_facts::{Facts, Racing, Verdict, VerdictState};
 use lk_links::empty_set;
-use lk_rise::{Correlations, Item};
+use lk_rise::Conflicts;
 use lk_sets::IdSet;
 use std::alloc::Global;
 
-/// The verdict of each location, in their order, by the racing items of `main` and the linear lock places.
+/// The verdict of each location, in their order, by the racing accesses of `main` and the linear lock places.
 ///
-/// A lock set has the linear lock places that are held at each racing item of an access: those which some lock of the
-/// item can mean alone.
+/// The lock set of a racing access has those of its lock places that are linear.
 pub fn verdicts(
     alloc: Global,
     facts: &Facts<'_>,
-    races: &Correlations,
+    conflicts: &Conflicts,
     linear: &IdSet,
 ) -> Result<Vec<Verdict>, NoMemory>
-    requires { AreLocksBelow (length facts.now.labels.entries) races.now }
-    ensures { IfOk result (λ v. AreVerdicts (basis_of facts.now) (has_of races.now) (locks_of races.now) (has_id linear.now) v.items) }
+    requires { AreRacingLists (basis_of facts.now) conflicts.now.entries conflicts.now.racing }
+    ensures { IfOk result (λ v. AreVerdicts (basis_of facts.now) (has_of conflicts.now.entries) (locks_of conflicts.now.entries) (has_id linear.now) v.items) }
 {
-    let judged = Races {
+    let judging = Judging {
         facts,
-        items: races,
+        conflicts,
         linear,
     };
     let mut verdicts = Vec::new(alloc);
     for location in 0..facts.points().locations() {
-        verdicts.push(judged.verdict(alloc, location)?)?;
+        verdicts.push(judging.verdict(alloc, location)?)?;
     }
     Ok(verdicts)
 }
@@ -82,45 +78,30 @@ fn state(accesses: &[Racing], common: &IdSet) -> VerdictState
     VerdictState::Guarded
 }
 
-/// Puts the access of an item behind the numbers, where it is one of the function for the location.
-fn push_access(
-    item: Item,
-    function: u32,
-    location: u32,
-    accesses: &mut Vec<u32>,
-) -> Result<(), NoMemory>
-    ensures { OnOk result (accesses.new.items ≡ accesses.old.items ++ access_in function location item) }
-{
-    if item.function == function && item.subject == location {
-        accesses.push(item.access)?;
-    }
-    Ok(())
+/// What the verdicts of a program rest on.
+#[derive(Drop)]
+struct Judging<'a> {
+    /// What is known of the program.
+    facts: &'a Facts<'a>,
+    /// The racing accesses of its locations.
+    conflicts: &'a Conflicts,
+    /// The linear lock places.
+    linear: &'a IdSet,
 }
 
-impl Races<'_> {
-    /// The racing accesses of `main` for a location.
-    fn accesses(&self, alloc: Global, location: u32) -> Result<IdSet, NoMemory>
-        ensures { IfOk result (Lists (IsRacing (basis_of self.now.facts.now) (has_of self.now.items.now) (locks_of self.now.items.now) location)) }
-    {
-        let main = self.facts.points().main();
-        let mut accesses = Vec::new(alloc);
-        for i in 0..self.items.count() {
-            push_access(self.items.item(i), main, location, &mut accesses)?;
-        }
-        let set = IdSet::from_list(alloc, &accesses)?;
-        Ok(set)
-    }
-
+impl Judging<'_> {
     /// The racing accesses of `main` for a location, each with its lock set.
     fn racing(&self, alloc: Global, location: u32) -> Result<Vec<Racing>, NoMemory>
-        ensures { IfOk result (λ v. AreRacing (basis_of self.now.facts.now) (has_of self.now.items.now) (locks_of self.now.items.now) (has_id self.now.linear.now) location v.items) }
+        requires location { location < self.now.facts.now.program.locations }
+        requires racing { AreRacingLists (basis_of self.now.facts.now) self.now.conflicts.now.entries self.now.conflicts.now.racing }
+        ensures { IfOk result (λ v. AreRacing (basis_of self.now.facts.now)
+            (has_of self.now.conflicts.now.entries) (locks_of self.now.conflicts.now.entries) (has_id self.now.linear.now) location v.items) }
     {
-        let accesses = self.accesses(alloc, location)?;
         let mut racing = Vec::new(alloc);
-        for access in accesses.ids() {
-            let locks = self.lock_set(alloc, location, *access)?;
+        for access in self.conflicts.racing(location) {
+            let locks = access.locks.meet(self.linear)?;
             racing.push(Racing {
-                access: *access,
+                access: access.access,
                 locks,
             })?;
         }
@@ -129,7 +110,10 @@ impl Races<'_> {
 
     /// The verdict of a location.
     fn verdict(&self, alloc: Global, location: u32) -> Result<Verdict, NoMemory>
-        ensures { IfOk result (IsVerdictOf (basis_of self.now.facts.now) (has_of self.now.items.now) (locks_of self.now.items.now) (has_id self.now.linear.now) location) }
+        requires location { location < self.now.facts.now.program.locations }
+        requires racing { AreRacingLists (basis_of self.now.facts.now) self.now.conflicts.now.entries self.now.conflicts.now.racing }
+        ensures { IfOk result (IsVerdictOf (basis_of self.now.facts.now)
+            (has_of self.now.conflicts.now.entries) (locks_of self.now.conflicts.now.entries) (has_id self.now.linear.now) location) }
     {
         let accesses = self.racing(alloc, location)?;
         let locks = common(alloc, &accesses)?;

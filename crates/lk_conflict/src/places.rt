@@ -1,31 +1,46 @@
-//! The lock places that guard accesses.
+//! The racing accesses of `main`, and the lock places that are held there.
 ghost use Rattle.lk_facts.specs.Facts.{basis_of};
-ghost use Rattle.std.specs.Prelude.{◌≡◌, ◌<◌, ◌↔◌, ◌⊎◌, ℕ, true, All, IfOk, IsTrue, OnOk, length};
+ghost use Rattle.std.specs.Prelude.{◌≡◌, ◌<◌, ◌↔◌, ◌⊎◌, ◌++◌, ℕ, true, All, IfOk, IsTrue, OnOk, length};
+ghost use Rattle.lk_conflict.specs.Listing.{access_in};
 ghost use Rattle.lk_conflict.specs.Places.{AreLocksBelow, IsPlaceBy, IsPlaceOf};
 ghost use Rattle.lk_facts.specs.Lists.{Lists};
 ghost use Rattle.lk_facts.specs.Program.{IsLockPlace};
-ghost use Rattle.lk_facts.specs.Verdicts.{IsRacing, InLockSet};
+ghost use Rattle.lk_facts.specs.Verdicts.{AreRacing, IsRacing, InLockSet};
+ghost use Rattle.lk_rise.specs.Conflicts.{every_place};
 ghost use Rattle.lk_rise.specs.Correlations.{has_of, locks_of};
 ghost use Rattle.lk_links.specs.Only.{IsTheOne};
 ghost use Rattle.lk_sets.specs.Ids.{has_id};
 
 use lk_base::NoMemory;
-use lk_facts::Facts;
+use lk_facts::{Facts, Racing};
 use lk_links::only_in_row;
-use lk_rise::{Correlations, Item};
+use lk_rise::{Correlation, Correlations};
 use lk_sets::IdSet;
 use std::alloc::Global;
 
-/// What the verdicts of a program rest on.
+/// What the racing accesses of a program rest on.
 #[derive(Drop)]
 pub(crate) struct Races<'a> {
     /// What is known of the program.
     pub facts: &'a Facts<'a>,
     /// Its racing items, with the locks that are held at each.
     pub items: &'a Correlations,
-    /// The linear lock places.
-    pub linear: &'a IdSet,
     ghost in_range: { AreLocksBelow (length facts.now.labels.entries) items.now },
+}
+
+/// Puts the access of an item behind the numbers, where it is one of the function for the location.
+fn push_access(
+    item: Correlation,
+    function: u32,
+    location: u32,
+    accesses: &mut Vec<u32>,
+) -> Result<(), NoMemory>
+    ensures { OnOk result (accesses.new.items ≡ accesses.old.items ++ access_in function location item) }
+{
+    if item.function == function && item.subject == location {
+        accesses.push(item.access)?;
+    }
+    Ok(())
 }
 
 impl Races<'_> {
@@ -37,22 +52,23 @@ impl Races<'_> {
         first <= label && label < first + self.facts.points().locks()
     }
 
-    /// The linear lock place that a lock can mean alone, where there is one.
+    /// The lock place that a lock can mean alone, where there is one.
     fn place(&self, lock: u32) -> Option<u32>
         requires { lock < length self.now.facts.now.labels.entries }
-        ensures { IsTheOne (IsPlaceBy (basis_of self.now.facts.now) (has_id self.now.linear.now) lock) result }
+        ensures { IsTheOne (IsPlaceBy (basis_of self.now.facts.now) every_place lock) result }
     {
-        match only_in_row(self.facts.origins().all(), lock) {
-            Some(place) if self.is_lock_place(place) && self.linear.has(place) => Some(place),
-            _ => None,
+        let place = only_in_row(self.facts.origins().all(), lock)?;
+        if !self.is_lock_place(place) {
+            return None;
         }
+        Some(place)
     }
 
-    /// Puts the linear lock place that a lock can mean alone behind the numbers.
+    /// Puts the lock place that a lock can mean alone behind the numbers.
     fn push_place(&self, lock: u32, places: &mut Vec<u32>) -> Result<(), NoMemory>
         requires { lock < length self.now.facts.now.labels.entries }
         ensures { OnOk result ((q : ℕ) → (has_id places.new.items q ≡ true)
-            ↔ ((has_id places.old.items q ≡ true) ⊎ IsPlaceBy (basis_of self.now.facts.now) (has_id self.now.linear.now) lock q)) }
+            ↔ ((has_id places.old.items q ≡ true) ⊎ IsPlaceBy (basis_of self.now.facts.now) every_place lock q)) }
     {
         if let Some(place) = self.place(lock) {
             places.push(place)?;
@@ -60,10 +76,10 @@ impl Races<'_> {
         Ok(())
     }
 
-    /// The linear lock places that some of the locks can mean alone.
+    /// The lock places that some of the locks can mean alone.
     fn places(&self, alloc: Global, locks: &[u32]) -> Result<IdSet, NoMemory>
         requires { All (λ x. x < length self.now.facts.now.labels.entries) locks.now }
-        ensures { IfOk result (Lists (IsPlaceOf (basis_of self.now.facts.now) (has_id self.now.linear.now) locks.now)) }
+        ensures { IfOk result (Lists (IsPlaceOf (basis_of self.now.facts.now) every_place locks.now)) }
     {
         let mut places = Vec::new(alloc);
         for lock in locks {
@@ -73,24 +89,19 @@ impl Races<'_> {
         Ok(set)
     }
 
-    /// The linear lock places that are held at a racing access of `main`.
-    pub(crate) fn lock_set(
-        &self,
-        alloc: Global,
-        location: u32,
-        access: u32,
-    ) -> Result<IdSet, NoMemory>
+    /// The lock places that are held at a racing access of `main`.
+    fn lock_set(&self, alloc: Global, location: u32, access: u32) -> Result<IdSet, NoMemory>
         requires { IsRacing (basis_of self.now.facts.now) (has_of self.now.items.now) (locks_of self.now.items.now) location access }
-        ensures { IfOk result (Lists (InLockSet (basis_of self.now.facts.now) (has_of self.now.items.now) (locks_of self.now.items.now) (has_id self.now.linear.now) location access)) }
+        ensures { IfOk result (Lists (InLockSet (basis_of self.now.facts.now) (has_of self.now.items.now) (locks_of self.now.items.now) every_place location access)) }
     {
-        let item = Item {
+        let item = Correlation {
             function: self.facts.points().main(),
             child: false,
             subject: location,
             access,
         };
         let own = self.items.find(item);
-        let child = self.items.find(Item {
+        let child = self.items.find(Correlation {
             child: true,
             ..item
         });
@@ -111,5 +122,34 @@ impl Races<'_> {
             }
             (None, None) => unreachable!(),
         }
+    }
+
+    /// The racing accesses of `main` for a location.
+    fn accesses(&self, alloc: Global, location: u32) -> Result<IdSet, NoMemory>
+        ensures { IfOk result (Lists (IsRacing (basis_of self.now.facts.now) (has_of self.now.items.now) (locks_of self.now.items.now) location)) }
+    {
+        let main = self.facts.points().main();
+        let mut accesses = Vec::new(alloc);
+        for i in 0..self.items.count() {
+            push_access(self.items.item(i), main, location, &mut accesses)?;
+        }
+        let set = IdSet::from_list(alloc, &accesses)?;
+        Ok(set)
+    }
+
+    /// The racing accesses of `main` for a location, each with its lock set.
+    pub(crate) fn racing(&self, alloc: Global, location: u32) -> Result<Vec<Racing>, NoMemory>
+        ensures { IfOk result (λ v. AreRacing (basis_of self.now.facts.now) (has_of self.now.items.now) (locks_of self.now.items.now) every_place location v.items) }
+    {
+        let accesses = self.accesses(alloc, location)?;
+        let mut racing = Vec::new(alloc);
+        for access in accesses.ids() {
+            let locks = self.lock_set(alloc, location, *access)?;
+            racing.push(Racing {
+                access: *access,
+                locks,
+            })?;
+        }
+        Ok(racing)
     }
 }

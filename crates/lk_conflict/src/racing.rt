@@ -1,18 +1,20 @@
 //! The racing items of a program.
-ghost use Rattle.std.specs.Prelude.{◌≡◌, [], length, IfOk};
+ghost use Rattle.std.specs.Prelude.{◌≡◌, [], length, map, IfOk};
 ghost use Rattle.lk_conflict.specs.Bases.{Adds, IsInConflict};
 ghost use Rattle.lk_conflict.specs.Facts.{AreOfOneProgram, setting_of};
 ghost use Rattle.lk_conflict.specs.Places.{AreLocksBelow};
 ghost use Rattle.lk_facts.specs.Facts.{basis_of};
 ghost use Rattle.lk_facts.specs.Racing.{AreRaces};
 ghost use Rattle.lk_links.specs.Links.{AreLinks};
+ghost use Rattle.lk_rise.specs.Conflicts.{AreRacingLists, race_in};
 ghost use Rattle.lk_rise.specs.Correlations.{AreInRange, has_of, locks_of};
 
 use crate::grounds::Grounds;
-use lk_base::NoMemory;
-use lk_facts::{Facts, Held};
+use crate::places::Races;
+use lk_base::{NoMemory, Seq};
+use lk_facts::{Facts, Held, Racing};
 use lk_links::Links;
-use lk_rise::{Correlations, Item, Subjects, rise};
+use lk_rise::{Conflicts, Correlation, Correlations, Items, Subjects, rise};
 use lk_sets::{BitRows, IdSet};
 use std::alloc::Global;
 
@@ -25,7 +27,7 @@ fn begun(
     links: &Links,
     items: &Correlations,
     after: &BitRows,
-) -> Result<Vec<(Item, IdSet)>, NoMemory>
+) -> Result<Vec<(Correlation, IdSet)>, NoMemory>
     requires links { AreLinks (basis_of facts.now) links.now }
     requires of_one_program { AreOfOneProgram facts.now held.now items.now after.now }
     ensures { IfOk result (λ based. Adds facts.now (setting_of after.now items.now held.now)
@@ -46,28 +48,51 @@ fn begun(
     Ok(based)
 }
 
-/// The racing items of all functions, with the locks that are held at each.
+/// For each location the racing accesses of `main`, each with the lock places that are held there.
+fn racing_lists(
+    alloc: Global,
+    facts: &Facts<'_>,
+    items: &Correlations,
+) -> Result<Vec<Seq<Racing>>, NoMemory>
+    requires { AreLocksBelow (length facts.now.labels.entries) items.now }
+    ensures { IfOk result (λ racing. AreRacingLists (basis_of facts.now) items.now racing.items) }
+{
+    let races = Races { facts, items };
+    let mut racing = Vec::new(alloc);
+    for location in 0..facts.points().locations() {
+        let accesses = races.racing(alloc, location)?;
+        racing.push(Seq::new(accesses))?;
+    }
+    Ok(racing)
+}
+
+/// The racing items of all functions, with the locks that are held at each, and the racing accesses of `main` for each
+/// location.
 ///
 /// A function's items are in conflict for a location where one is of a thread that was started at a point or below,
 /// the other is of a later point, both may access the location, and one writes. They rise by calls and creations.
-/// The items, lock sets and order are those of the points.
+/// The items, lock sets and order are those of the points. A racing access of `main` has the lock places of its lock set
+/// before it is asked which of them are linear.
 pub fn conflicts(
     alloc: Global,
     facts: &Facts<'_>,
     held: &Held,
-    items: &Correlations,
+    items: &Items,
     after: &BitRows,
-) -> Result<Correlations, NoMemory>
+) -> Result<Conflicts, NoMemory>
     requires held_points { length held.now.at ≡ length facts.now.program.points }
     requires held_labels { held.now.labels ≡ length facts.now.labels.entries }
     requires after { after.now.size ≡ length facts.now.program.points }
-    requires items { AreInRange facts.now (length facts.now.labels.entries) items.now }
-    ensures races { IfOk result (λ r. AreRaces (basis_of facts.now) (setting_of after.now items.now held.now) (has_of r) (locks_of r)) }
-    ensures in_range { IfOk result (AreInRange facts.now facts.now.program.locations) }
-    ensures locks_in_range { IfOk result (AreLocksBelow (length facts.now.labels.entries)) }
+    requires items { AreInRange facts.now (length facts.now.labels.entries) items.now.entries }
+    ensures races { IfOk result (λ c. AreRaces (basis_of facts.now) (setting_of after.now items.now.entries held.now) (has_of c.entries) (locks_of c.entries)) }
+    ensures racing { IfOk result (λ c. AreRacingLists (basis_of facts.now) c.entries c.racing) }
+    ensures items { IfOk result (λ c. c.races ≡ map race_in c.entries) }
+    ensures in_range { IfOk result (λ c. AreInRange facts.now facts.now.program.locations c.entries) }
 {
     let links = Links::new(alloc, facts)?;
-    let based = begun(alloc, facts, held, &links, items, after)?;
+    let based = begun(alloc, facts, held, &links, items.correlations(), after)?;
     let races = rise(alloc, facts, held, &links, &based, Subjects::AsTheyAre)?;
-    Ok(races)
+    let racing = racing_lists(alloc, facts, &races)?;
+    let conflicts = Conflicts::new(alloc, races, racing)?;
+    Ok(conflicts)
 }

@@ -12,7 +12,7 @@ use Rattle.lk_facts.specs.Origins.{IsSetBelow}
 use Rattle.lk_facts.specs.Program.{live_at, function_at, effect_at}
 use Rattle.lk_facts.specs.declared.effect.Effect.{Effect}
 use Rattle.lk_rise.proofs.DoingLemmas.{accessing, accessed_by}
-use Rattle.lk_rise.specs.declared.correlations.Item.{Item}
+use Rattle.lk_rise.specs.declared.correlations.Correlation.{Correlation}
 use Rattle.lk_rise.specs.Correlations.{item_of, IsEntryInRange}
 use Rattle.lk_links.proofs.SetLemmas.{All-from_has_id, All-has_id}
 use Rattle.lk_sets.specs.Ids.{has_id, IsSetOf}
@@ -48,7 +48,7 @@ module _ (facts : FactTable) where
     }
 
     -- a point that accesses nothing
-    pub accesses_same : (n : ℕ) (base : List (Item × List ℕ)) → ((f x : ℕ) → Accesses (basis_of facts) n f x → ⊥) → AreAccessesBelow facts held n base → AreAccessesBelow facts held (n + 1) base
+    pub accesses_same : (n : ℕ) (base : List (Correlation × List ℕ)) → ((f x : ℕ) → Accesses (basis_of facts) n f x → ⊥) → AreAccessesBelow facts held n base → AreAccessesBelow facts held (n + 1) base
     accesses_same n base none are = record {
       each = are.each;
       all = λ p f x below accesses.
@@ -60,7 +60,7 @@ module _ (facts : FactTable) where
     }
 
     -- a point that accesses something
-    pub accesses_more : (n : ℕ) (item : Item) (set : List ℕ) (base : List (Item × List ℕ)) → n < length facts.program.points → IsAccess facts n item → IsSetBelow (length facts.labels.entries) (at_of held n) →
+    pub accesses_more : (n : ℕ) (item : Correlation) (set : List ℕ) (base : List (Correlation × List ℕ)) → n < length facts.program.points → IsAccess facts n item → IsSetBelow (length facts.labels.entries) (at_of held n) →
         IsSetOf (has_id (at_of held n)) set → AreAccessesBelow facts held n base → AreAccessesBelow facts held (n + 1) (base ++ (item, set) ∷ [])
     accesses_more n item set base within is below members are = record {
       each = All-push (IsOwn facts held) base (item, set) are.each (record {

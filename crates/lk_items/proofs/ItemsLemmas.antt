@@ -8,14 +8,14 @@ use Rattle.lk_facts.specs.LockSets.{LockSets}
 use Rattle.lk_facts.specs.Origins.{flow_of}
 use Rattle.lk_facts.specs.declared.source.Source.{Source}
 use Rattle.lk_facts.specs.declared.source.Source.TheVariants.{OwnAccess, ItemBelow}
-use Rattle.lk_rise.specs.declared.correlations.Item.{Item}
+use Rattle.lk_rise.specs.declared.correlations.Correlation.{Correlation}
 use Rattle.lk_rise.specs.declared.rising.Subjects.TheVariants.{AsOutside}
 use Rattle.lk_rise.specs.Correlations.{item_of, has_of, locks_of}
 use Rattle.lk_rise.specs.Rising.{Carries, Risen, AreRisen}
 use Rattle.lk_items.specs.Accesses.{IsOwn, AreAccessesBelow}
 use Rattle.lk_rise.proofs.DoingLemmas.{accesses_within}
 
-module _ (facts : FactTable) (held : LockSets) (base found : List (Item × List ℕ)) (are : AreAccessesBelow facts held (length facts.program.points) base)
+module _ (facts : FactTable) (held : LockSets) (base found : List (Correlation × List ℕ)) (are : AreAccessesBelow facts held (length facts.program.points) base)
     (rise : AreRisen (basis_of facts) (Carries (flow_of facts.origins) AsOutside) base (held_table held) found) where
   -- a based item is the own item of its access
   own : (f : ℕ) (child : Bool) (s a : ℕ) (set : List ℕ) → Contains base (item_of f child s a, set) → IsOwn facts held (item_of f child s a, set)

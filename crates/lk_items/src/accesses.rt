@@ -4,12 +4,12 @@ ghost use Rattle.lk_items.specs.Accesses.{IsAccessOf, AreAccessesBelow};
 
 use lk_base::NoMemory;
 use lk_facts::{Facts, Held};
-use lk_rise::Item;
+use lk_rise::Correlation;
 use lk_sets::IdSet;
 use std::alloc::Global;
 
 /// The own item of a point, where it is live and accesses something.
-fn access(facts: &Facts<'_>, point: u32) -> Option<Item>
+fn access(facts: &Facts<'_>, point: u32) -> Option<Correlation>
     requires { point < length facts.now.program.points }
     ensures { IsAccessOf facts.now point result }
 {
@@ -19,7 +19,7 @@ fn access(facts: &Facts<'_>, point: u32) -> Option<Item>
     }
     let operand = points.effect(point).accessed()?;
     let subject = facts.labels().target(operand)?;
-    Some(Item {
+    Some(Correlation {
         function: points.function(point),
         child: false,
         subject: subject.0,
@@ -34,7 +34,7 @@ fn push_access(
     facts: &Facts<'_>,
     held: &Held,
     point: u32,
-    base: &mut Vec<(Item, IdSet)>,
+    base: &mut Vec<(Correlation, IdSet)>,
 ) -> Result<(), NoMemory>
     requires held_points { length held.now.at ≡ length facts.now.program.points }
     requires held_labels { held.now.labels ≡ length facts.now.labels.entries }
@@ -54,7 +54,7 @@ pub(crate) fn accesses(
     alloc: Global,
     facts: &Facts<'_>,
     held: &Held,
-) -> Result<Vec<(Item, IdSet)>, NoMemory>
+) -> Result<Vec<(Correlation, IdSet)>, NoMemory>
     requires held_points { length held.now.at ≡ length facts.now.program.points }
     requires held_labels { held.now.labels ≡ length facts.now.labels.entries }
     ensures { IfOk result (λ base. AreAccessesBelow facts.now held.now (length facts.now.program.points) base.items) }

@@ -4,11 +4,11 @@ use Rattle.std.proofs.Math.Bool.{beq}
 use Rattle.std.specs.Cmp.{IsEquivalence, bool_eq_equiv, booleans_Decides}
 use Rattle.std.proofs.lemmas.Bool.{and_from, and_parts, eqb-true, eq-eqb}
 use Rattle.lk_sets.proofs.Members.{same_answers}
-use Rattle.lk_rise.specs.declared.correlations.Item.{Item}
+use Rattle.lk_rise.specs.declared.correlations.Correlation.{Correlation}
 use Rattle.lk_rise.specs.Correlations.{is_same}
 
 -- the same items are equal
-pub same_item : (a b : Item) → is_same a b ≡ true → a ≡ b
+pub same_item : (a b : Correlation) → is_same a b ≡ true → a ≡ b
 same_item a b same =
     let first = and_parts (eqb a.function b.function) _ same in
     let second = and_parts (beq a.child b.child) _ first.1 in
@@ -19,12 +19,12 @@ same_item a b same =
     let access = eqb-true a.access b.access third.1 in
     (λ i. record { function = function i; child = child i; subject = subject i; access = access i })
 
-pub same_itself : (a : Item) → is_same a a ≡ true
+pub same_itself : (a : Correlation) → is_same a a ≡ true
 same_itself a =
     and_from _ _ (eq-eqb a.function a.function refl)
     (and_from _ _ (bool_eq_equiv.refl a.child) (and_from _ _ (eq-eqb a.subject a.subject refl) (eq-eqb a.access a.access refl)))
 
-pub same_from_equal : (a b : Item) → a ≡ b → is_same a b ≡ true
+pub same_from_equal : (a b : Correlation) → a ≡ b → is_same a b ≡ true
 same_from_equal a b equal = subst (λ c. is_same a c ≡ true) equal (same_itself a)
 
 pub same_laws : IsEquivalence is_same

@@ -2,6 +2,7 @@ pub mod DoingLemmas
 pub mod ItemLemmas
 pub mod LinkLemmas
 pub mod ListLemmas
+pub mod NamingLemmas
 pub mod PassLemmas
 pub mod RiseLemmas
 pub mod TableLemmas

@@ -12,7 +12,7 @@ use Rattle.lk_links.specs.Links.{IsLink}
 use Rattle.lk_links.specs.Only.{HaveRisen}
 use Rattle.lk_rise.specs.Links.{AreLinksInto, links_into}
 use Rattle.lk_rise.proofs.TableLemmas.{item_at_known, item_there, place_within}
-use Rattle.lk_rise.specs.declared.correlations.Item.{Item}
+use Rattle.lk_rise.specs.declared.correlations.Correlation.{Correlation}
 use Rattle.lk_links.specs.declared.link.Link.{Link}
 use Rattle.lk_rise.specs.Correlations.{item_of, set_of, has_item, has_lock, AreInRange, IsEntryInRange}
 use Rattle.lk_rise.specs.Rising.{Risen, subjects_below}
@@ -23,19 +23,19 @@ use Rattle.lk_sets.specs.Ids.{has_id, IsSetOf}
 use Rattle.lk_sets.proofs.Members.{has_id-from_Contains}
 use Rattle.std.proofs.lemmas.List.Elements.{Contains-get_or}
 
-module _ (s : Setting) (link : Link) (item : Item) (set subjects : List ℕ) where
+module _ (s : Setting) (link : Link) (item : Correlation) (set subjects : List ℕ) where
   -- the item above for the subject at a place
-  abbrev pub IsThere : ℕ → List (Item × List ℕ) → Type 0
+  abbrev pub IsThere : ℕ → List (Correlation × List ℕ) → Type 0
   IsThere j entries = has_item entries (above_of link item (get_or subjects j 0)) ≡ true
 
-  abbrev pub IsMet : ℕ → List (Item × List ℕ) → Type 0
+  abbrev pub IsMet : ℕ → List (Correlation × List ℕ) → Type 0
   IsMet j entries = (y : ℕ) → has_lock entries (above_of link item (get_or subjects j 0)) y ≡ true → has_id set y ≡ true
 
   -- the first n subjects
-  abbrev pub OffersBelow : ℕ → List (Item × List ℕ) → List (Item × List ℕ) → Bool → Type 0
+  abbrev pub OffersBelow : ℕ → List (Correlation × List ℕ) → List (Correlation × List ℕ) → Bool → Type 0
   OffersBelow n old new changed = Works s (λ entries. (j : ℕ) → j < n → IsThere j entries) (λ entries. (j : ℕ) → j < n → IsMet j entries) old new changed
 
-  pub offers_none : (entries : List (Item × List ℕ)) → OffersBelow 0 entries entries false
+  pub offers_none : (entries : List (Correlation × List ℕ)) → OffersBelow 0 entries entries false
   offers_none entries =
       works_not s (λ e. (j : ℕ) → j < 0 → IsThere j e) (λ e. (j : ℕ) → j < 0 → IsMet j e) entries (λ j below. absurd (omega arith)) (λ j below. absurd (omega arith))
 
@@ -44,7 +44,7 @@ module _ (s : Setting) (link : Link) (item : Item) (set subjects : List ℕ) whe
     carried_at j below = (members (get_or subjects j 0)).0 (has_id-from_Contains subjects (get_or subjects j 0) (Contains-get_or subjects j 0 below))
 
     -- one offer more
-    pub offers_more : (j : ℕ) (old mid new : List (Item × List ℕ)) (b c : Bool) → j < length subjects → IsOffer s link item set →
+    pub offers_more : (j : ℕ) (old mid new : List (Correlation × List ℕ)) (b c : Bool) → j < length subjects → IsOffer s link item set →
         OffersBelow j old mid b → Offered mid new (above_of link item (get_or subjects j 0)) set c → OffersBelow (j + 1) old new (b || c)
     offers_more j old mid new b c below offer before offered =
         let x = get_or subjects j 0 in
@@ -62,7 +62,7 @@ module _ (s : Setting) (link : Link) (item : Item) (set subjects : List ℕ) whe
     place_of x carried = place_of_id subjects x ((members x).1 carried)
 
     -- all subjects
-    pub offers_all : (old new : List (Item × List ℕ)) (changed : Bool) → OffersBelow (length subjects) old new changed → Works s (AreAbove s link item) (AreAboveWithin s link item set) old new changed
+    pub offers_all : (old new : List (Correlation × List ℕ)) (changed : Bool) → OffersBelow (length subjects) old new changed → Works s (AreAbove s link item) (AreAboveWithin s link item set) old new changed
     offers_all old new changed works = record {
       grows = works.grows;
       long = λ present. works.long (λ j below. present (get_or subjects j 0) (carried_at j below));
@@ -72,7 +72,7 @@ module _ (s : Setting) (link : Link) (item : Item) (set subjects : List ℕ) whe
       done = λ none x y carried. let place = place_of x carried in subst (λ z. has_lock new (above_of link item z) y ≡ true → has_id set y ≡ true) place.2 (works.done none place.0 place.1 y);
     }
 
-module _ (s : Setting) (link : Link) (item : Item) (locks set : List ℕ) (entries : List (Item × List ℕ)) (k : ℕ)
+module _ (s : Setting) (link : Link) (item : Correlation) (locks set : List ℕ) (entries : List (Correlation × List ℕ)) (k : ℕ)
     (is_link : IsLink (basis_of s.facts) link.point link) (sound : IsSound s entries) (at : slice_get entries k ≡ Some (item, locks)) (found : set_of entries item ≡ Some locks)
     (same : item.function ≡ link.below) where
   present : has_item entries item ≡ true
@@ -109,20 +109,20 @@ module _ (s : Setting) (link : Link) (item : Item) (locks set : List ℕ) (entri
   }
 
 -- an item that the link doesn't take up
-pub passed_by : (s : Setting) (link : Link) (item : Item) (entries : List (Item × List ℕ)) (k : ℕ) → item_at entries k ≡ Some item → (item.function ≡ link.below → ⊥) → Works s (HasPassed s link k) (HasMet s link k) entries entries false
+pub passed_by : (s : Setting) (link : Link) (item : Correlation) (entries : List (Correlation × List ℕ)) (k : ℕ) → item_at entries k ≡ Some item → (item.function ≡ link.below → ⊥) → Works s (HasPassed s link k) (HasMet s link k) entries entries false
 passed_by s link item entries k at other =
     works_not s (HasPassed s link k) (HasMet s link k) entries (item, at, λ same. absurd (other same))
-    (λ found set there same. absurd (other (ap (λ (o : Option Item). option_map_or (λ (i : Item). i.function) o 0) (sym at ∙ item_at_known entries k found set there) ∙ same)))
+    (λ found set there same. absurd (other (ap (λ (o : Option Correlation). option_map_or (λ (i : Correlation). i.function) o 0) (sym at ∙ item_at_known entries k found set there) ∙ same)))
 
 -- and one that it does
-pub passed_up : (s : Setting) (link : Link) (item : Item) (locks set : List ℕ) (old new : List (Item × List ℕ)) (k : ℕ) (changed : Bool) → slice_get old k ≡ Some (item, locks) → item.function ≡ link.below →
+pub passed_up : (s : Setting) (link : Link) (item : Correlation) (locks set : List ℕ) (old new : List (Correlation × List ℕ)) (k : ℕ) (changed : Bool) → slice_get old k ≡ Some (item, locks) → item.function ≡ link.below →
     ((y : ℕ) → (has_id set y ≡ true) ↔ HasLockAbove s link item.child locks y) → Works s (AreAbove s link item) (AreAboveWithin s link item set) old new changed → Works s (HasPassed s link k) (HasMet s link k) old new changed
 passed_up s link item locks set old new k changed at same members works =
     let here = item_at_known old k item locks at in
     works_as s (AreAbove s link item) (HasPassed s link k) (AreAboveWithin s link item set) (HasMet s link k) old new changed
     (λ passed.
     let one : passed.0 ≡ item = ap (λ o. unwrap_or o item) (sym passed.1 ∙ here) in
-    subst (λ i. AreAbove s link i old) one (passed.2 (ap (λ (i : Item). i.function) one ∙ same)))
+    subst (λ i. AreAbove s link i old) one (passed.2 (ap (λ (i : Correlation). i.function) one ∙ same)))
     (λ above. (item, works.grows.places k item here, λ _. above))
     (λ none within found its there _ x y carried lock.
     let entry : (found, its) ≡ (item, locks) = ap (λ o. unwrap_or o (item, locks)) (sym there ∙ ap (λ e. slice_get e k) (works.same none) ∙ at) in
@@ -134,28 +134,28 @@ passed_up s link item locks set old new k changed at same members works =
     works
 
 -- an item stays passed
-pub stays_passed : (s : Setting) (link : Link) (k : ℕ) (older newer : List (Item × List ℕ)) → Grows s older newer → HasPassed s link k older → HasPassed s link k newer
+pub stays_passed : (s : Setting) (link : Link) (k : ℕ) (older newer : List (Correlation × List ℕ)) → Grows s older newer → HasPassed s link k older → HasPassed s link k newer
 stays_passed s link k older newer grows passed = (passed.0, grows.places k passed.0 passed.1, λ same x carried. grows.kept (above_of link passed.0 x) (passed.2 same x carried))
 
-pub grows_long : (s : Setting) (older newer : List (Item × List ℕ)) (k : ℕ) → Grows s older newer → k < length older → k < length newer
+pub grows_long : (s : Setting) (older newer : List (Correlation × List ℕ)) (k : ℕ) → Grows s older newer → k < length older → k < length newer
 grows_long s older newer k grows below = let there = item_there older k below in place_within newer k there.0 (grows.places k there.0 there.1)
 
 -- the first n links
 module _ (s : Setting) (links : List Link) (k : ℕ) where
-  abbrev pub PassesAt : ℕ → List (Item × List ℕ) → Type 0
+  abbrev pub PassesAt : ℕ → List (Correlation × List ℕ) → Type 0
   PassesAt j entries = (link : Link) → slice_get links j ≡ Some link → HasPassed s link k entries
 
-  abbrev pub MeetsAt : ℕ → List (Item × List ℕ) → Type 0
+  abbrev pub MeetsAt : ℕ → List (Correlation × List ℕ) → Type 0
   MeetsAt j entries = (link : Link) → slice_get links j ≡ Some link → HasMet s link k entries
 
-  abbrev pub PassesBelow : ℕ → List (Item × List ℕ) → List (Item × List ℕ) → Bool → Type 0
+  abbrev pub PassesBelow : ℕ → List (Correlation × List ℕ) → List (Correlation × List ℕ) → Bool → Type 0
   PassesBelow n old new changed = Works s (λ entries. (j : ℕ) → j < n → PassesAt j entries) (λ entries. (j : ℕ) → j < n → MeetsAt j entries) old new changed
 
-  pub passes_none : (entries : List (Item × List ℕ)) → PassesBelow 0 entries entries false
+  pub passes_none : (entries : List (Correlation × List ℕ)) → PassesBelow 0 entries entries false
   passes_none entries =
       works_not s (λ e. (j : ℕ) → j < 0 → PassesAt j e) (λ e. (j : ℕ) → j < 0 → MeetsAt j e) entries (λ j below. absurd (omega arith)) (λ j below. absurd (omega arith))
 
-  pub passes_more : (j : ℕ) (link : Link) (old mid new : List (Item × List ℕ)) (b c : Bool) → slice_get links j ≡ Some link →
+  pub passes_more : (j : ℕ) (link : Link) (old mid new : List (Correlation × List ℕ)) (b c : Bool) → slice_get links j ≡ Some link →
       PassesBelow j old mid b → Works s (HasPassed s link k) (HasMet s link k) mid new c → PassesBelow (j + 1) old new (b || c)
   passes_more j link old mid new b c at before works =
       let one : (other : Link) → slice_get links j ≡ Some other → link ≡ other = λ other there. ap (λ o. unwrap_or o link) (sym at ∙ there) in
@@ -169,18 +169,18 @@ module _ (s : Setting) (links : List Link) (k : ℕ) where
       works)
 
 -- the function of an item of a table is there
-pub item_within : (facts : FactTable) (n : ℕ) (entries : List (Item × List ℕ)) (k : ℕ) (item : Item) → AreInRange facts n entries → k < length entries → item_at entries k ≡ Some item → item.function < length facts.program.functions
+pub item_within : (facts : FactTable) (n : ℕ) (entries : List (Correlation × List ℕ)) (k : ℕ) (item : Correlation) → AreInRange facts n entries → k < length entries → item_at entries k ≡ Some item → item.function < length facts.program.functions
 item_within facts n entries k item ranged below at =
     let here = slice_get-get_or entries k (item, []) below in
-    let same : (get_or entries k (item, [])).0 ≡ item = ap (λ o. unwrap_or o item) (sym (ap (option_map (λ (e : Item × List ℕ). e.0)) here) ∙ at) in
-    subst (λ (i : Item). i.function < length facts.program.functions) same (ranged k (item, []) below).function
+    let same : (get_or entries k (item, [])).0 ≡ item = ap (λ o. unwrap_or o item) (sym (ap (option_map (λ (e : Correlation × List ℕ). e.0)) here) ∙ at) in
+    subst (λ (i : Correlation). i.function < length facts.program.functions) same (ranged k (item, []) below).function
 
 -- so are the links that are read for it
 pub links_read : (into : List (List Link)) (g : ℕ) (links found : List Link) → g < length into → found ≡ get_or into g found → links ≡ found → links ≡ links_into into g
 links_read into g links found below is same = same ∙ is ∙ get_or_default into g found [] below
 
 -- what holds for the links into the function of an item holds for all
-module _ (s : Setting) (into : List (List Link)) (are : AreLinksInto (basis_of s.facts) into) (item : Item) (k : ℕ) where
+module _ (s : Setting) (into : List (List Link)) (are : AreLinksInto (basis_of s.facts) into) (item : Correlation) (k : ℕ) where
   abbrev pub links : List Link
   links = links_into into item.function
 
@@ -191,7 +191,7 @@ module _ (s : Setting) (into : List (List Link)) (are : AreLinksInto (basis_of s
   among : (g : ℕ) (link : Link) → Contains (links_into into g) link → item.function ≡ link.below → Contains links link
   among g link there same = subst (λ h. Contains (links_into into h) link) (sym (same ∙ (are.each g link there).into)) there
 
-  pub passes_all : (old new : List (Item × List ℕ)) (changed : Bool) → item_at old k ≡ Some item → PassesBelow s links k (length links) old new changed → Works s (HasPassedAll s into k) (HasMetAll s into k) old new changed
+  pub passes_all : (old new : List (Correlation × List ℕ)) (changed : Bool) → item_at old k ≡ Some item → PassesBelow s links k (length links) old new changed → Works s (HasPassedAll s into k) (HasMetAll s into k) old new changed
   passes_all old new changed at works =
       let here = works.grows.places k item at in
       works_as s (λ entries. (j : ℕ) → j < length links → PassesAt s links k j entries) (HasPassedAll s into k) (λ entries. (j : ℕ) → j < length links → MeetsAt s links k j entries) (HasMetAll s into k) old new changed
@@ -202,15 +202,15 @@ module _ (s : Setting) (into : List (List Link)) (are : AreLinksInto (basis_of s
         λ same.
             let one = at_place (λ l. HasPassed s l k new) passed link (among g link there same) in
             let equal : one.0 ≡ item = ap (λ o. unwrap_or o item) (sym one.1 ∙ here) in
-            subst (λ i. AreAbove s link i new) equal (one.2 (ap (λ (i : Item). i.function) equal ∙ same)),
+            subst (λ i. AreAbove s link i new) equal (one.2 (ap (λ (i : Correlation). i.function) equal ∙ same)),
       ))
       (λ _ met g link there found set place same.
       let equal : found ≡ item = ap (λ o. unwrap_or o item) (sym (item_at_known new k found set place) ∙ here) in
-      at_place (λ l. HasMet s l k new) met link (among g link there (sym (ap (λ (i : Item). i.function) equal) ∙ same)) found set place same)
+      at_place (λ l. HasMet s l k new) met link (among g link there (sym (ap (λ (i : Correlation). i.function) equal) ∙ same)) found set place same)
       works
 
 -- an item stays passed by all
-pub stay_passed : (s : Setting) (into : List (List Link)) (k : ℕ) (older newer : List (Item × List ℕ)) → Grows s older newer → HasPassedAll s into k older → HasPassedAll s into k newer
+pub stay_passed : (s : Setting) (into : List (List Link)) (k : ℕ) (older newer : List (Correlation × List ℕ)) → Grows s older newer → HasPassedAll s into k older → HasPassedAll s into k newer
 stay_passed s into k older newer grows all g link there = stays_passed s link k older newer grows (all g link there)
 
 -- the locks with which an item rises: with those that the point keeps, where it is one of the thread itself
@@ -233,15 +233,15 @@ module _ (s : Setting) (link : Link) (child : Bool) (locks risen : List ℕ) (li
 
 -- the first n items
 module _ (s : Setting) (into : List (List Link)) where
-  abbrev pub RoundBelow : ℕ → List (Item × List ℕ) → List (Item × List ℕ) → Bool → Type 0
+  abbrev pub RoundBelow : ℕ → List (Correlation × List ℕ) → List (Correlation × List ℕ) → Bool → Type 0
   RoundBelow n old new changed =
       Works s (λ entries. (k : ℕ) → k < n → HasPassedAll s into k entries) (λ entries. (k : ℕ) → k < n → HasMetAll s into k entries) old new changed
 
-  pub round_none : (entries : List (Item × List ℕ)) → RoundBelow 0 entries entries false
+  pub round_none : (entries : List (Correlation × List ℕ)) → RoundBelow 0 entries entries false
   round_none entries =
       works_not s (λ e. (k : ℕ) → k < 0 → HasPassedAll s into k e) (λ e. (k : ℕ) → k < 0 → HasMetAll s into k e) entries (λ k below. absurd (omega arith)) (λ k below. absurd (omega arith))
 
-  pub round_more : (k : ℕ) (old mid new : List (Item × List ℕ)) (b c : Bool) → RoundBelow k old mid b → Works s (HasPassedAll s into k) (HasMetAll s into k) mid new c → RoundBelow (k + 1) old new (b || c)
+  pub round_more : (k : ℕ) (old mid new : List (Correlation × List ℕ)) (b c : Bool) → RoundBelow k old mid b → Works s (HasPassedAll s into k) (HasMetAll s into k) mid new c → RoundBelow (k + 1) old new (b || c)
   round_more k old mid new b c before works =
       works_below s (HasPassedAll s into) (HasMetAll s into) k old mid new b c
       (λ i older newer grows passes. stay_passed s into i older newer grows passes) before works

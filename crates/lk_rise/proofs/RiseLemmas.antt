@@ -11,7 +11,7 @@ use Rattle.lk_facts.specs.Items.{Rises, HasLock}
 use Rattle.lk_facts.specs.Origins.{flow_of}
 use Rattle.lk_facts.specs.declared.source.Source.TheVariants.{ItemBelow}
 use Rattle.lk_facts.specs.declared.way.Way.{Way}
-use Rattle.lk_rise.specs.declared.correlations.Item.{Item}
+use Rattle.lk_rise.specs.declared.correlations.Correlation.{Correlation}
 use Rattle.lk_links.specs.declared.link.Link.{Link}
 use Rattle.lk_rise.specs.Correlations.{is_same, item_of, set_of, has_item, has_lock, locks_of, AreInRange, IsEntryInRange}
 use Rattle.lk_rise.specs.Links.{AreLinksInto, links_into}
@@ -33,7 +33,7 @@ none_sound s = record {
 
 module _ (s : Setting) (ranged : AreInRange s.facts (subjects_below s.facts s.subjects) s.base) where
   -- a given item fits
-  base_fits : (i : ℕ) (item : Item) (set : List ℕ) → slice_get s.base i ≡ Some (item, set) → Fits s item set
+  base_fits : (i : ℕ) (item : Correlation) (set : List ℕ) → slice_get s.base i ≡ Some (item, set) → Fits s item set
   base_fits i item set at =
       let within = slice_get_within s.base i (item, set) at in
       let here = get_or_from_slice_get s.base i (item, set) (item, set) at in
@@ -45,7 +45,7 @@ module _ (s : Setting) (ranged : AreInRange s.facts (subjects_below s.facts s.su
       }
 
   -- and is there once it was offered
-  pub base_more : (i : ℕ) (item : Item) (set : List ℕ) (mid new : List (Item × List ℕ)) (changed : Bool) → slice_get s.base i ≡ Some (item, set) →
+  pub base_more : (i : ℕ) (item : Correlation) (set : List ℕ) (mid new : List (Correlation × List ℕ)) (changed : Bool) → slice_get s.base i ≡ Some (item, set) →
       ((k : ℕ) → k < i → HasBased s k mid) → Offered mid new item set changed → Grows s mid new × ((k : ℕ) → k < i + 1 → HasBased s k new)
   base_more i item set mid new changed at before offered =
       let works = offered_works s mid new item set changed (base_fits i item set at) offered in (
@@ -60,13 +60,13 @@ module _ (s : Setting) (ranged : AreInRange s.facts (subjects_below s.facts s.su
       )
 
 -- a given item stays there, with no more locks
-pub stays_based : (s : Setting) (i : ℕ) (older newer : List (Item × List ℕ)) → Grows s older newer → HasBased s i older → HasBased s i newer
+pub stays_based : (s : Setting) (i : ℕ) (older newer : List (Correlation × List ℕ)) → Grows s older newer → HasBased s i older → HasBased s i newer
 stays_based s i older newer grows had item set at =
     let here = had item set at in
     (grows.kept item here.0, λ y lock. here.1 y (grows.fewer item y here.0 lock))
 
 -- a table in which all items have risen, and nothing changes any more
-module _ (s : Setting) (into : List (List Link)) (entries : List (Item × List ℕ)) (are : AreLinksInto (basis_of s.facts) into) (sound : IsSound s entries)
+module _ (s : Setting) (into : List (List Link)) (entries : List (Correlation × List ℕ)) (are : AreLinksInto (basis_of s.facts) into) (sound : IsSound s entries)
     (there : (i : ℕ) → i < length s.base → HasBased s i entries) (passed : (k : ℕ) → k < length entries → HasPassedAll s into k entries) (met : (k : ℕ) → k < length entries → HasMetAll s into k entries) where
   -- what holds of each link holds of all that rises
   by_link : (P : (p f g : ℕ) (way : Way) (child above : Bool) → Type 0) →
@@ -84,7 +84,7 @@ module _ (s : Setting) (into : List (List Link)) (entries : List (Item × List �
       (each g link found.1 child)))))
 
   -- an item stands somewhere
-  place : (item : Item) → has_item entries item ≡ true → (k : ℕ) × (set : List ℕ) × (slice_get entries k ≡ Some (item, set)) × (set_of entries item ≡ Some set)
+  place : (item : Correlation) → has_item entries item ≡ true → (k : ℕ) × (set : List ℕ) × (slice_get entries k ≡ Some (item, set)) × (set_of entries item ≡ Some set)
   place item has = known (set_of entries item) refl has
     where
       known : (o : Option (List ℕ)) → set_of entries item ≡ o → is_some o ≡ true → (k : ℕ) × (set : List ℕ) × (slice_get entries k ≡ Some (item, set)) × (set_of entries item ≡ Some set)
@@ -101,7 +101,7 @@ module _ (s : Setting) (into : List (List Link)) (entries : List (Item × List �
       let here = place item has in
       let up = passed here.0 (slice_get_within entries here.0 (item, here.1) here.2) h link at in
       let same : up.0 ≡ item = ap (λ o. unwrap_or o item) (sym up.1 ∙ item_at_known entries here.0 item here.1 here.2) in
-      subst (λ (other : Item). IsCarried s link other x → has_item entries (above_of link other x) ≡ true) same (up.2 (ap (λ (i : Item). i.function) same) x) carried
+      subst (λ (other : Correlation). IsCarried s link other x → has_item entries (above_of link other x) ≡ true) same (up.2 (ap (λ (i : Correlation). i.function) same) x) carried
 
   -- so each item that has risen is there
   has_risen : {f t a : ℕ} {child : Bool} → HasRisen s (item_of f child t a) → has_item entries (item_of f child t a) ≡ true

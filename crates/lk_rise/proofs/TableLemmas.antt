@@ -9,7 +9,7 @@ use Rattle.std.proofs.lemmas.List.Sums.{sum_by-cons}
 use Rattle.std.proofs.lemmas.Option.{slice_get_cases}
 use Rattle.std.proofs.lemmas.Bool.{and_from, and_parts, and_right, false≢true}
 use Rattle.indexmap.specs.IndexMap.{insert_entry}
-use Rattle.lk_rise.specs.declared.correlations.Item.{Item}
+use Rattle.lk_rise.specs.declared.correlations.Correlation.{Correlation}
 use Rattle.lk_rise.specs.Correlations.{is_same, set_of, has_item}
 use Rattle.lk_rise.specs.Tables.{IsLeft, IsWithin, item_at, weight}
 use Rattle.lk_rise.proofs.ItemLemmas.{same_item}
@@ -17,7 +17,7 @@ use Rattle.lk_links.proofs.SetLemmas.{all_pass, one_fails, shorter}
 use Rattle.lk_sets.proofs.Members.{same_answers}
 use Rattle.lk_sets.specs.Ids.{has_id, IsSetOf}
 
-module _ (entries : List (Item × List ℕ)) (item : Item) (set : List ℕ) where
+module _ (entries : List (Correlation × List ℕ)) (item : Correlation) (set : List ℕ) where
   -- a set whose numbers are all in the other stays
   pub left_all : (old : List ℕ) → set_of entries item ≡ Some old → list_all (has_id set) old ≡ true → IsWithin entries item set
   left_all old is all = record { old = old; there = is; within = λ x there. all_pass (has_id set) old all x there }
@@ -49,9 +49,9 @@ module _ (entries : List (Item × List ℕ)) (item : Item) (set : List ℕ) wher
             (shorter met old both.sorted up (λ x there. (and_parts (has_id old x) (has_id set x) (sym (both.members x) ∙ there)).0) found.0 found.1 (both.members found.0 ∙ and_right (has_id old found.0) _ found.2));
       }
 
-module _ (item : Item) (left : List ℕ) where
+module _ (item : Correlation) (left : List ℕ) where
   -- an item keeps its place when a set is put
-  pub item_at-insert : (entries : List (Item × List ℕ)) (i : ℕ) (other : Item) → item_at entries i ≡ Some other → item_at (insert_entry is_same entries item left) i ≡ Some other
+  pub item_at-insert : (entries : List (Correlation × List ℕ)) (i : ℕ) (other : Correlation) → item_at entries i ≡ Some other → item_at (insert_entry is_same entries item left) i ≡ Some other
   item_at-insert [] i other at = absurd (false≢true (ap is_some at))
   item_at-insert (e ∷ es) zero other at = by_test (is_same item e.0)
     where
@@ -65,7 +65,7 @@ module _ (item : Item) (left : List ℕ) where
       by_test false rest = rest
 
   -- what holds of each entry holds once it holds of the one that is put
-  pub All-insert : (P : Item × List ℕ → Type 0) (entries : List (Item × List ℕ)) → All P entries → P (item, left) → All P (insert_entry is_same entries item left)
+  pub All-insert : (P : Correlation × List ℕ → Type 0) (entries : List (Correlation × List ℕ)) → All P entries → P (item, left) → All P (insert_entry is_same entries item left)
   All-insert P [] all here = All-cons P (item, left) [] here all
   All-insert P (e ∷ es) all here = by_test (is_same item e.0) refl (All-insert P es (All-tail P e es all) here)
     where
@@ -74,7 +74,7 @@ module _ (item : Item) (left : List ℕ) where
       by_test false is rest = All-cons P e (insert_entry is_same es item left) (All-head P e es all) rest
 
   -- the locks that an item had are exchanged for the set
-  pub weight-insert : (entries : List (Item × List ℕ)) (old : List ℕ) → set_of entries item ≡ Some old → weight (insert_entry is_same entries item left) + length old ≡ weight entries + length left
+  pub weight-insert : (entries : List (Correlation × List ℕ)) (old : List ℕ) → set_of entries item ≡ Some old → weight (insert_entry is_same entries item left) + length old ≡ weight entries + length left
   unfolding weight
   weight-insert [] old is = absurd (false≢true (ap is_some is))
   weight-insert (e ∷ es) old is = by_test (is_same item e.0) is (weight-insert es old)
@@ -94,7 +94,7 @@ module _ (item : Item) (left : List ℕ) where
           sums
 
   -- and no item is added
-  pub length-insert : (entries : List (Item × List ℕ)) → has_item entries item ≡ true → length (insert_entry is_same entries item left) ≡ length entries
+  pub length-insert : (entries : List (Correlation × List ℕ)) → has_item entries item ≡ true → length (insert_entry is_same entries item left) ≡ length entries
   length-insert [] there = absurd (false≢true there)
   length-insert (e ∷ es) there = by_test (is_same item e.0) there (length-insert es)
     where
@@ -104,28 +104,28 @@ module _ (item : Item) (left : List ℕ) where
       by_test false found rest = ap suc (rest found)
 
 -- an entry, from its item and its set
-pub entry_known : (o : Option (Item × List ℕ)) (item : Item) (set : List ℕ) → option_map (λ e. e.0) o ≡ Some item → option_map (λ e. e.1) o ≡ Some set → o ≡ Some (item, set)
+pub entry_known : (o : Option (Correlation × List ℕ)) (item : Correlation) (set : List ℕ) → option_map (λ e. e.0) o ≡ Some item → option_map (λ e. e.1) o ≡ Some set → o ≡ Some (item, set)
 entry_known None item set first second = absurd (false≢true (ap is_some first))
 entry_known (Some e) item set first second =
     let here : e.0 ≡ item = ap (λ o. unwrap_or o item) first in
     let there : e.1 ≡ set = ap (λ o. unwrap_or o set) second in
     (λ i. Some (here i, there i))
 
-pub item_at_known : (entries : List (Item × List ℕ)) (k : ℕ) (item : Item) (set : List ℕ) → slice_get entries k ≡ Some (item, set) → item_at entries k ≡ Some item
+pub item_at_known : (entries : List (Correlation × List ℕ)) (k : ℕ) (item : Correlation) (set : List ℕ) → slice_get entries k ≡ Some (item, set) → item_at entries k ≡ Some item
 item_at_known entries k item set is = ap (option_map (λ e. e.0)) is
 
 -- a place of an item is within the table
-pub place_within : (entries : List (Item × List ℕ)) (k : ℕ) (item : Item) → item_at entries k ≡ Some item → k < length entries
+pub place_within : (entries : List (Correlation × List ℕ)) (k : ℕ) (item : Correlation) → item_at entries k ≡ Some item → k < length entries
 place_within entries k item at =
     elim (slice_get_cases entries k).1 [
       | inl found ↦ found.1
-      | inr past ↦ absurd (false≢true (subst (λ o. is_some (option_map (λ (e : Item × List ℕ). e.0) o) ≡ true) past.1 (ap is_some at)))
+      | inr past ↦ absurd (false≢true (subst (λ o. is_some (option_map (λ (e : Correlation × List ℕ). e.0) o) ≡ true) past.1 (ap is_some at)))
     ]
 
 -- and each place within it has one
-pub item_there : (entries : List (Item × List ℕ)) (k : ℕ) → k < length entries → (item : Item) × (item_at entries k ≡ Some item)
+pub item_there : (entries : List (Correlation × List ℕ)) (k : ℕ) → k < length entries → (item : Correlation) × (item_at entries k ≡ Some item)
 item_there entries k within =
     elim (slice_get_cases entries k).1 [
-      | inl found ↦ (found.0.0, ap (option_map (λ (e : Item × List ℕ). e.0)) found.2)
+      | inl found ↦ (found.0.0, ap (option_map (λ (e : Correlation × List ℕ). e.0)) found.2)
       | inr past ↦ absurd (omega (arith, past.0))
     ]

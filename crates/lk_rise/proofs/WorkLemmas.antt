@@ -4,7 +4,7 @@ use Rattle.std.specs.Option.{option_map_or}
 use Rattle.std.proofs.lemmas.Bool.{and_from, and_parts, both_ways, false≢true, or_cases, or_parts}
 use Rattle.indexmap.specs.IndexMap.{insert_entry}
 use Rattle.lk_facts.specs.Items.{LockTest}
-use Rattle.lk_rise.specs.declared.correlations.Item.{Item}
+use Rattle.lk_rise.specs.declared.correlations.Correlation.{Correlation}
 use Rattle.lk_rise.specs.Correlations.{is_same, set_of, has_item, has_lock, IsEntryInRange}
 use Rattle.lk_rise.specs.Rising.{subjects_below}
 use Rattle.lk_rise.specs.Tables.{Setting, Offered, Puts, HasRisen, IsAllowed, IsSound, Grows, Works, lock_in, item_at, weight}
@@ -14,7 +14,7 @@ use Rattle.lk_rise.proofs.TableLemmas.{item_at-insert, All-insert, weight-insert
 use Rattle.lk_sets.specs.Ids.{has_id}
 
 module _ (s : Setting) where
-  pub grows_not : (entries : List (Item × List ℕ)) → Grows s entries entries
+  pub grows_not : (entries : List (Correlation × List ℕ)) → Grows s entries entries
   grows_not entries = record {
     places = λ i item at. at;
     kept = λ item there. there;
@@ -22,7 +22,7 @@ module _ (s : Setting) where
     sound = λ sound. sound;
   }
 
-  pub grows_more : (old mid new : List (Item × List ℕ)) → Grows s old mid → Grows s mid new → Grows s old new
+  pub grows_more : (old mid new : List (Correlation × List ℕ)) → Grows s old mid → Grows s mid new → Grows s old new
   grows_more old mid new first second = record {
     places = λ i item at. second.places i item (first.places i item at);
     kept = λ item there. second.kept item (first.kept item there);
@@ -31,7 +31,7 @@ module _ (s : Setting) where
   }
 
   -- no step
-  pub works_not : (Present Done : List (Item × List ℕ) → Type 0) (entries : List (Item × List ℕ)) → Present entries → Done entries → Works s Present Done entries entries false
+  pub works_not : (Present Done : List (Correlation × List ℕ) → Type 0) (entries : List (Correlation × List ℕ)) → Present entries → Done entries → Works s Present Done entries entries false
   works_not Present Done entries present done = record {
     grows = grows_not entries;
     long = λ _. refl;
@@ -41,16 +41,16 @@ module _ (s : Setting) where
     done = λ _. done;
   }
 
-  not_heavier : (Present Done : List (Item × List ℕ) → Type 0) (old new : List (Item × List ℕ)) (changed : Bool) → Works s Present Done old new changed → Present old → weight new ≤ weight old
+  not_heavier : (Present Done : List (Correlation × List ℕ) → Type 0) (old new : List (Correlation × List ℕ)) (changed : Bool) → Works s Present Done old new changed → Present old → weight new ≤ weight old
   not_heavier Present Done old new true step present = omega (arith, step.falls refl present)
   not_heavier Present Done old new false step present = let e = ap weight (step.same refl) in omega arith
 
   -- one step more
-  pub works_more : (Present Step More Done Now All : List (Item × List ℕ) → Type 0) (old mid new : List (Item × List ℕ)) (b c : Bool) →
-      ((older newer : List (Item × List ℕ)) → Grows s older newer → Present older → Present newer) →
-      ((older newer : List (Item × List ℕ)) → Grows s older newer → Step older → Step newer) →
-      ((entries : List (Item × List ℕ)) → More entries → Present entries × Step entries) →
-      ((entries : List (Item × List ℕ)) → Present entries → Step entries → More entries) →
+  pub works_more : (Present Step More Done Now All : List (Correlation × List ℕ) → Type 0) (old mid new : List (Correlation × List ℕ)) (b c : Bool) →
+      ((older newer : List (Correlation × List ℕ)) → Grows s older newer → Present older → Present newer) →
+      ((older newer : List (Correlation × List ℕ)) → Grows s older newer → Step older → Step newer) →
+      ((entries : List (Correlation × List ℕ)) → More entries → Present entries × Step entries) →
+      ((entries : List (Correlation × List ℕ)) → Present entries → Step entries → More entries) →
       (Done new → Now new → All new) →
       Works s Present Done old mid b → Works s Step Now mid new c → Works s More All old new (b || c)
   works_more Present Step More Done Now All old mid new b c stays step_stays parts both done first second = record {
@@ -69,7 +69,7 @@ module _ (s : Setting) where
   }
 
   -- a step, said in other words
-  pub works_as : (Present Other Done Now : List (Item × List ℕ) → Type 0) (old new : List (Item × List ℕ)) (changed : Bool) →
+  pub works_as : (Present Other Done Now : List (Correlation × List ℕ) → Type 0) (old new : List (Correlation × List ℕ)) (changed : Bool) →
       (Other old → Present old) → (Present new → Other new) → (changed ≡ false → Done new → Now new) → Works s Present Done old new changed → Works s Other Now old new changed
   works_as Present Other Done Now old new changed back there done step = record {
     grows = step.grows;
@@ -81,8 +81,8 @@ module _ (s : Setting) where
   }
 
   -- one number more
-  pub works_below : (Step Now : ℕ → List (Item × List ℕ) → Type 0) (i : ℕ) (old mid new : List (Item × List ℕ)) (b c : Bool) →
-      ((k : ℕ) (older newer : List (Item × List ℕ)) → Grows s older newer → Step k older → Step k newer) →
+  pub works_below : (Step Now : ℕ → List (Correlation × List ℕ) → Type 0) (i : ℕ) (old mid new : List (Correlation × List ℕ)) (b c : Bool) →
+      ((k : ℕ) (older newer : List (Correlation × List ℕ)) → Grows s older newer → Step k older → Step k newer) →
       Works s (λ entries. (k : ℕ) → k < i → Step k entries) (λ entries. (k : ℕ) → k < i → Now k entries) old mid b → Works s (Step i) (Now i) mid new c →
       Works s (λ entries. (k : ℕ) → k < i + 1 → Step k entries) (λ entries. (k : ℕ) → k < i + 1 → Now k entries) old new (b || c)
   works_below Step Now i old mid new b c stays first second =
@@ -96,25 +96,25 @@ module _ (s : Setting) where
       first second
 
   -- an offer that each table of locks that the rules allow is within
-  pub record Fits (item : Item) (set : List ℕ) : Type 0 where
+  pub record Fits (item : Correlation) (set : List ℕ) : Type 0 where
     pub risen : HasRisen s item
     pub locks : (other : LockTest) → IsAllowed s other → (y : ℕ) → lock_in other item y ≡ true → has_id set y ≡ true
     pub in_range : IsEntryInRange s.facts (subjects_below s.facts s.subjects) (item, set)
 
   -- a table in which what is left was put
-  module _ (old new : List (Item × List ℕ)) (item : Item) (set : List ℕ) (puts : Puts old new item set) where
+  module _ (old new : List (Correlation × List ℕ)) (item : Correlation) (set : List ℕ) (puts : Puts old new item set) where
     left_among : (y : ℕ) → has_id puts.left y ≡ true → (has_id set y ≡ true) × (option_map_or (λ had. has_id had y) (set_of old item) true ≡ true)
     left_among y there = and_parts (has_id set y) _ (sym (puts.is_left.members y) ∙ there)
 
     -- what holds of the item and of the others holds of all
-    by_item : (other : Item) (P : Option (List ℕ) → Type 0) → (item ≡ other → P (Some puts.left)) → P (set_of old other) → P (set_of new other)
+    by_item : (other : Correlation) (P : Option (List ℕ) → Type 0) → (item ≡ other → P (Some puts.left)) → P (set_of old other) → P (set_of new other)
     by_item other P here there = by_test (is_same item other) refl
       where
         by_test : (b : Bool) → is_same item other ≡ b → P (set_of new other)
         by_test true is = subst P (sym (puts.found other ∙ ap (λ c. cond c (Some puts.left) (set_of old other)) is)) (here (same_item item other is))
         by_test false is = subst P (sym (puts.found other ∙ ap (λ c. cond c (Some puts.left) (set_of old other)) is)) there
 
-    put_fewer : (other : Item) (y : ℕ) → has_item old other ≡ true → has_lock new other y ≡ true → has_lock old other y ≡ true
+    put_fewer : (other : Correlation) (y : ℕ) → has_item old other ≡ true → has_lock new other y ≡ true → has_lock old other y ≡ true
     put_fewer other y there =
         by_item other (λ o. option_map_or (λ had. has_id had y) o false ≡ true → has_lock old other y ≡ true)
         (λ same has. subst (λ z. has_item old z ≡ true → has_lock old z y ≡ true) same (λ present. known (set_of old item) present (left_among y has).1) there)
@@ -135,7 +135,7 @@ module _ (s : Setting) where
       };
     }
 
-    put_locks : Fits item set → (other : LockTest) → IsAllowed s other → IsSound s old → (z : Item) (y : ℕ) → has_item new z ≡ true → lock_in other z y ≡ true → has_lock new z y ≡ true
+    put_locks : Fits item set → (other : LockTest) → IsAllowed s other → IsSound s old → (z : Correlation) (y : ℕ) → has_item new z ≡ true → lock_in other z y ≡ true → has_lock new z y ≡ true
     put_locks fits other allowed sound z y =
         by_item z (λ o. is_some o ≡ true → lock_in other z y ≡ true → option_map_or (λ had. has_id had y) o false ≡ true)
         (λ same present lock.
@@ -172,7 +172,7 @@ module _ (s : Setting) where
             omega (arith, sums, same, puts.is_left.lighter had is)
 
   -- an offer is a step
-  pub offered_works : (old new : List (Item × List ℕ)) (item : Item) (set : List ℕ) (changed : Bool) → Fits item set → Offered old new item set changed →
+  pub offered_works : (old new : List (Correlation × List ℕ)) (item : Correlation) (set : List ℕ) (changed : Bool) → Fits item set → Offered old new item set changed →
       Works s (λ entries. has_item entries item ≡ true) (λ entries. (y : ℕ) → has_lock entries item y ≡ true → has_id set y ≡ true) old new changed
   offered_works old new item set true fits offered =
       let puts = offered.puts refl in
@@ -191,7 +191,7 @@ module _ (s : Setting) where
       (λ y has. within.within y (sym (ap (λ o. option_map_or (λ had. has_id had y) o false) within.there) ∙ has)))
 
   -- once it is offered the item has only locks of the set
-  pub offered_within : (old new : List (Item × List ℕ)) (item : Item) (set : List ℕ) (changed : Bool) → Offered old new item set changed → (y : ℕ) → has_lock new item y ≡ true → has_id set y ≡ true
+  pub offered_within : (old new : List (Correlation × List ℕ)) (item : Correlation) (set : List ℕ) (changed : Bool) → Offered old new item set changed → (y : ℕ) → has_lock new item y ≡ true → has_id set y ≡ true
   offered_within old new item set true offered y has =
       let puts = offered.puts refl in
       let here : set_of new item ≡ Some puts.left = puts.found item ∙ ap (λ b. cond b (Some puts.left) (set_of old item)) (same_itself item) in

@@ -15,45 +15,45 @@ use Rattle.lk_facts.specs.declared.way.Way.{Way}
 use Rattle.lk_rise.specs.Correlations.{item_of, is_same, set_of, has_item, has_lock, AreInRange}
 use Rattle.lk_rise.specs.Links.{links_into}
 use Rattle.lk_rise.specs.Rising.{Carries, Risen, subjects_below}
-use Rattle.lk_rise.specs.declared.correlations.Item.{Item}
+use Rattle.lk_rise.specs.declared.correlations.Correlation.{Correlation}
 use Rattle.lk_links.specs.declared.link.Link.{Link}
 use Rattle.lk_rise.specs.declared.rising.Rising.{Rising}
 use Rattle.lk_rise.specs.declared.rising.Subjects.{Subjects}
 use Rattle.lk_sets.specs.Ids.{has_id}
 
 -- the set is what is left of the locks of an item once they have met another set, all of which is left where the item is new
-pub record IsLeft (entries : List (Item × List ℕ)) (item : Item) (set left : List ℕ) : Type 0 where
+pub record IsLeft (entries : List (Correlation × List ℕ)) (item : Correlation) (set left : List ℕ) : Type 0 where
   pub sorted : IsStrictlyIncreasing left
   pub members : (x : ℕ) → has_id left x ≡ (has_id set x && option_map_or (λ old. has_id old x) (set_of entries item) true)
   pub lighter : (old : List ℕ) → set_of entries item ≡ Some old → length left < length old
 
 -- the item is there, with locks of the set alone
-pub record IsWithin (entries : List (Item × List ℕ)) (item : Item) (set : List ℕ) : Type 0 where
+pub record IsWithin (entries : List (Correlation × List ℕ)) (item : Correlation) (set : List ℕ) : Type 0 where
   pub old : List ℕ
   pub there : set_of entries item ≡ Some old
   pub within : (x : ℕ) → has_id old x ≡ true → has_id set x ≡ true
 
 -- what is left of the locks is put at the item, as its last entry where it is new
-pub record Puts (old new : List (Item × List ℕ)) (item : Item) (set : List ℕ) : Type 0 where
+pub record Puts (old new : List (Correlation × List ℕ)) (item : Correlation) (set : List ℕ) : Type 0 where
   pub left : List ℕ
   pub is_left : IsLeft old item set left
   pub is : new ≡ insert_entry is_same old item left
-  pub found : (other : Item) → set_of new other ≡ (if is_same item other then Some left else set_of old other)
+  pub found : (other : Correlation) → set_of new other ≡ (if is_same item other then Some left else set_of old other)
 
-pub record Offered (old new : List (Item × List ℕ)) (item : Item) (set : List ℕ) (changed : Bool) : Type 0 where
+pub record Offered (old new : List (Correlation × List ℕ)) (item : Correlation) (set : List ℕ) (changed : Bool) : Type 0 where
   pub same : changed ≡ false → new ≡ old
   pub within : changed ≡ false → IsWithin old item set
   pub puts : changed ≡ true → Puts old new item set
 
 -- how many locks all items have together
-unfoldable pub weight : List (Item × List ℕ) → ℕ
+unfoldable pub weight : List (Correlation × List ℕ) → ℕ
 weight entries = sum_by length (values_of entries)
 
 -- what the items rise in
 pub record Setting : Type 0 where
   pub facts : FactTable
   pub held : LockSets
-  pub base : List (Item × List ℕ)
+  pub base : List (Correlation × List ℕ)
   pub subjects : Subjects
 
 abbrev pub setting : Rising → Setting
@@ -65,46 +65,46 @@ setting rising = record {
 }
 
 -- the item of the entry at a place
-abbrev pub item_at : List (Item × List ℕ) → ℕ → Option Item
+abbrev pub item_at : List (Correlation × List ℕ) → ℕ → Option Correlation
 item_at entries i = option_map (λ entry. entry.0) (slice_get entries i)
 
 -- the item above, for an item below and a subject
-abbrev pub above_of : Link → Item → ℕ → Item
+abbrev pub above_of : Link → Correlation → ℕ → Correlation
 above_of link item x = item_of link.above (item.child || link.starts) x item.access
 
-abbrev pub lock_in : LockTest → Item → ℕ → Bool
+abbrev pub lock_in : LockTest → Correlation → ℕ → Bool
 lock_in locks item y = locks item.function item.child item.subject item.access y
 
 module _ (s : Setting) where
-  abbrev pub HasRisen : Item → Type 0
+  abbrev pub HasRisen : Correlation → Type 0
   HasRisen item = Risen (basis_of s.facts) (Carries (flow_of s.facts.origins) s.subjects) s.base item.function item.child item.subject item.access
 
-  abbrev pub IsCarried : Link → Item → ℕ → Type 0
+  abbrev pub IsCarried : Link → Correlation → ℕ → Type 0
   IsCarried link item x = Carries (flow_of s.facts.origins) s.subjects link.way item.subject x
 
   -- the rules allow the table of locks for the items that have risen
   pub record IsAllowed (locks : LockTest) : Type 0 where
-    pub based : (item : Item) (set : List ℕ) (y : ℕ) → Contains s.base (item, set) → lock_in locks item y ≡ true → has_id set y ≡ true
+    pub based : (item : Correlation) (set : List ℕ) (y : ℕ) → Contains s.base (item, set) → lock_in locks item y ≡ true → has_id set y ≡ true
     pub risen : (p f g t x a y : ℕ) (way : Way) (child above : Bool) → Rises (basis_of s.facts) p f way g child above →
         HasRisen (item_of g child t a) → Carries (flow_of s.facts.origins) s.subjects way t x → locks f above x a y ≡ true →
         HasLock (basis_of s.facts) (held_table s.held) locks p (ItemBelow way g child t) above a y
 
   -- all items have risen, with all locks of each table that the rules allow
-  pub record IsSound (entries : List (Item × List ℕ)) : Type 0 where
+  pub record IsSound (entries : List (Correlation × List ℕ)) : Type 0 where
     pub in_range : AreInRange s.facts (subjects_below s.facts s.subjects) entries
-    pub items : (item : Item) → has_item entries item ≡ true → HasRisen item
-    pub locks : (other : LockTest) → IsAllowed other → (item : Item) (y : ℕ) → has_item entries item ≡ true → lock_in other item y ≡ true → has_lock entries item y ≡ true
+    pub items : (item : Correlation) → has_item entries item ≡ true → HasRisen item
+    pub locks : (other : LockTest) → IsAllowed other → (item : Correlation) (y : ℕ) → has_item entries item ≡ true → lock_in other item y ≡ true → has_lock entries item y ≡ true
 
   -- items keep their places, and have no more locks than before
-  pub record Grows (old new : List (Item × List ℕ)) : Type 0 where
-    pub places : (i : ℕ) (item : Item) → item_at old i ≡ Some item → item_at new i ≡ Some item
-    pub kept : (item : Item) → has_item old item ≡ true → has_item new item ≡ true
-    pub fewer : (item : Item) (y : ℕ) → has_item old item ≡ true → has_lock new item y ≡ true → has_lock old item y ≡ true
+  pub record Grows (old new : List (Correlation × List ℕ)) : Type 0 where
+    pub places : (i : ℕ) (item : Correlation) → item_at old i ≡ Some item → item_at new i ≡ Some item
+    pub kept : (item : Correlation) → has_item old item ≡ true → has_item new item ≡ true
+    pub fewer : (item : Correlation) (y : ℕ) → has_item old item ≡ true → has_lock new item y ≡ true → has_lock old item y ≡ true
     pub sound : IsSound old → IsSound new
 
   -- A step of the work on a table. Its items are there then; where they all were, what has changed is that there are fewer
   -- locks; and where nothing has changed its locks are done.
-  pub record Works (Present Done : List (Item × List ℕ) → Type 0) (old new : List (Item × List ℕ)) (changed : Bool) : Type 0 where
+  pub record Works (Present Done : List (Correlation × List ℕ) → Type 0) (old new : List (Correlation × List ℕ)) (changed : Bool) : Type 0 where
     pub grows : Grows old new
     pub long : Present old → length new ≡ length old
     pub falls : changed ≡ true → Present old → weight new < weight old
@@ -118,7 +118,7 @@ module _ (s : Setting) where
       ((z : ℕ) × (has_id set z ≡ true) × RisesAs (flow_of s.facts.origins) link.way z y) ⊎ (((child || link.starts) ≡ false) × (has_id (keep_of s.held link.point) y ≡ true))
 
   -- the set may be met with the locks of each item above
-  pub record IsOffer (link : Link) (item : Item) (set : List ℕ) : Type 0 where
+  pub record IsOffer (link : Link) (item : Correlation) (set : List ℕ) : Type 0 where
     pub risen : (x : ℕ) → IsCarried link item x → HasRisen (above_of link item x)
     pub locks : (other : LockTest) → IsAllowed other → (x y : ℕ) → IsCarried link item x → lock_in other (above_of link item x) y ≡ true → has_id set y ≡ true
     pub below : IsSetBelow (length s.facts.labels.entries) set
@@ -127,31 +127,31 @@ module _ (s : Setting) where
     pub access : item.access < length s.facts.program.points
 
   -- each item above is there
-  abbrev pub AreAbove : Link → Item → List (Item × List ℕ) → Type 0
+  abbrev pub AreAbove : Link → Correlation → List (Correlation × List ℕ) → Type 0
   AreAbove link item entries = (x : ℕ) → IsCarried link item x → has_item entries (above_of link item x) ≡ true
 
   -- each item above has only locks of the set
-  abbrev pub AreAboveWithin : Link → Item → List ℕ → List (Item × List ℕ) → Type 0
+  abbrev pub AreAboveWithin : Link → Correlation → List ℕ → List (Correlation × List ℕ) → Type 0
   AreAboveWithin link item set entries = (x y : ℕ) → IsCarried link item x → has_lock entries (above_of link item x) y ≡ true → has_id set y ≡ true
 
   -- the item at the place has risen by the link
-  abbrev pub HasPassed : Link → ℕ → List (Item × List ℕ) → Type 0
-  HasPassed link k entries = (item : Item) × (item_at entries k ≡ Some item) × (item.function ≡ link.below → AreAbove link item entries)
+  abbrev pub HasPassed : Link → ℕ → List (Correlation × List ℕ) → Type 0
+  HasPassed link k entries = (item : Correlation) × (item_at entries k ≡ Some item) × (item.function ≡ link.below → AreAbove link item entries)
 
   -- and the items above have only the locks with which it rises
-  abbrev pub HasMet : Link → ℕ → List (Item × List ℕ) → Type 0
+  abbrev pub HasMet : Link → ℕ → List (Correlation × List ℕ) → Type 0
   HasMet link k entries =
-      (item : Item) (set : List ℕ) → slice_get entries k ≡ Some (item, set) → item.function ≡ link.below →
+      (item : Correlation) (set : List ℕ) → slice_get entries k ≡ Some (item, set) → item.function ≡ link.below →
       (x y : ℕ) → IsCarried link item x → has_lock entries (above_of link item x) y ≡ true → HasLockAbove link item.child set y
 
   -- the same for each link, these given by the functions that they go into
-  abbrev pub HasPassedAll : List (List Link) → ℕ → List (Item × List ℕ) → Type 0
+  abbrev pub HasPassedAll : List (List Link) → ℕ → List (Correlation × List ℕ) → Type 0
   HasPassedAll into k entries = (g : ℕ) (link : Link) → Contains (links_into into g) link → HasPassed link k entries
 
-  abbrev pub HasMetAll : List (List Link) → ℕ → List (Item × List ℕ) → Type 0
+  abbrev pub HasMetAll : List (List Link) → ℕ → List (Correlation × List ℕ) → Type 0
   HasMetAll into k entries = (g : ℕ) (link : Link) → Contains (links_into into g) link → HasMet link k entries
 
   -- the based item at the place of the base is there, with locks of its set alone
-  abbrev pub HasBased : ℕ → List (Item × List ℕ) → Type 0
+  abbrev pub HasBased : ℕ → List (Correlation × List ℕ) → Type 0
   HasBased i entries =
-      (item : Item) (set : List ℕ) → slice_get s.base i ≡ Some (item, set) → (has_item entries item ≡ true) × ((y : ℕ) → has_lock entries item y ≡ true → has_id set y ≡ true)
+      (item : Correlation) (set : List ℕ) → slice_get s.base i ≡ Some (item, set) → (has_item entries item ≡ true) × ((y : ℕ) → has_lock entries item y ≡ true → has_id set y ≡ true)

@@ -12,9 +12,9 @@ use lk_sets::IdSet;
 use std::alloc::Global;
 use std::marker::Model;
 
-/// An item: an access that a function makes, itself or in what it runs or starts.
+/// An access that a function makes, itself or in what it runs or starts: an item or a racing item, by numbers alone.
 #[derive(Clone, Copy, Debug, PartialEq, Eq, Hash)]
-pub struct Item {
+pub struct Correlation {
     /// The function.
     pub function: u32,
     /// Whether a thread makes the access that was started in the function, and not its own thread.
@@ -30,14 +30,14 @@ pub struct Item {
 /// A contract sees them as a list of pairs, in the order in which the items were found.
 #[derive(Drop)]
 pub struct Correlations {
-    entries: IndexMap<Item, IdSet>,
+    entries: IndexMap<Correlation, IdSet>,
 }
 
 impl Model for Correlations {
     ghost use Rattle.std.specs.Prelude.{ℕ, List};
-    ghost use Rattle.lk_rise.specs.declared.correlations.Item.{Item};
+    ghost use Rattle.lk_rise.specs.declared.correlations.Correlation.{Correlation};
 
-    ghost Value = { List (Item × List ℕ) };
+    ghost Value = { List (Correlation × List ℕ) };
 
     ghost view = { λ correlations. correlations.entries.entries };
 }
@@ -62,7 +62,7 @@ impl Correlations {
     }
 
     /// The item with this number, and the locks that are held at it.
-    fn entry(&self, i: usize) -> (&Item, &IdSet)
+    fn entry(&self, i: usize) -> (&Correlation, &IdSet)
         requires { i < length self.now }
         ensures { slice_get self.now i ≡ Some (result.0.now, result.1.now) }
     {
@@ -70,7 +70,7 @@ impl Correlations {
     }
 
     /// The item with this number.
-    pub fn item(&self, i: usize) -> Item
+    pub fn item(&self, i: usize) -> Correlation
         requires { i < length self.now }
         ensures { option_map (λ entry. entry.0) (slice_get self.now i) ≡ Some result }
     {
@@ -87,7 +87,7 @@ impl Correlations {
     }
 
     /// The locks that are held at an item, in ascending order, or nothing where it isn't there.
-    pub fn find(&self, item: Item) -> Option<&[u32]>
+    pub fn find(&self, item: Correlation) -> Option<&[u32]>
         ensures { option_copied result ≡ set_of self.now item }
     {
         match self.entries.get(&item) {
@@ -98,7 +98,7 @@ impl Correlations {
 
     /// What is left of the locks of an item once they have met a set, or nothing where all are left. Of a new item
     /// all of the set is left.
-    fn left(&self, alloc: Global, item: Item, set: &IdSet) -> Result<Option<IdSet>, NoMemory>
+    fn left(&self, alloc: Global, item: Correlation, set: &IdSet) -> Result<Option<IdSet>, NoMemory>
         ensures { IfOk result (λ found. MatchOption found (IsWithin self.now item set.now) (IsLeft self.now item set.now)) }
     {
         match self.entries.get(&item) {
@@ -118,7 +118,12 @@ impl Correlations {
 
     /// Puts an item with the locks of a set, or takes those away from its locks that aren't in the set where the item
     /// is there already, and answers whether something changed.
-    pub(crate) fn offer(&mut self, alloc: Global, item: Item, set: &IdSet) -> Result<bool, NoMemory>
+    pub(crate) fn offer(
+        &mut self,
+        alloc: Global,
+        item: Correlation,
+        set: &IdSet,
+    ) -> Result<bool, NoMemory>
         ensures { IfOk result (Offered self.old self.new item set.now) }
     {
         match self.left(alloc, item, set)? {

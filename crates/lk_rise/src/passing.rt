@@ -11,7 +11,7 @@ ghost use Rattle.lk_rise.specs.Correlations.{AreInRange};
 ghost use Rattle.lk_rise.specs.Tables.{above_of, setting, HasLockAbove, IsOffer, IsSound, Works, Grows, AreAbove, AreAboveWithin, HasPassed, HasMet, HasPassedAll, HasMetAll, HasBased};
 ghost use Rattle.lk_sets.specs.Ids.{has_id};
 
-use crate::correlations::{Correlations, Item};
+use crate::correlations::{Correlation, Correlations};
 use crate::rising::{Rising, Subjects};
 use lk_base::{NoMemory, Seq};
 use lk_facts::Way;
@@ -20,10 +20,10 @@ use lk_sets::IdSet;
 use std::alloc::Global;
 
 /// The item above, for an item below and what its subject is above.
-fn above(link: Link, item: Item, subject: u32) -> Item
+fn above(link: Link, item: Correlation, subject: u32) -> Correlation
     ensures { result ≡ above_of link item subject }
 {
-    Item {
+    Correlation {
         function: link.above,
         child: item.child || link.starts,
         subject,
@@ -78,7 +78,7 @@ impl Rising<'_> {
         &self,
         alloc: Global,
         link: &Link,
-        item: &Item,
+        item: &Correlation,
         set: &IdSet,
         table: &mut Correlations,
     ) -> Result<bool, NoMemory>

@@ -7,7 +7,7 @@ ghost use Rattle.lk_links.specs.Links.{AreLinks};
 ghost use Rattle.lk_rise.specs.Correlations.{AreInRange, IsEntryInRange};
 ghost use Rattle.lk_rise.specs.Rising.{Carries, subjects_below, AreRisen};
 
-use crate::correlations::{Correlations, Item};
+use crate::correlations::{Correlation, Correlations};
 use crate::links::links_into;
 use lk_base::NoMemory;
 use lk_facts::{Facts, Held, Points};
@@ -44,7 +44,7 @@ fn are_below(ids: &[u32], count: u32) -> bool
 }
 
 /// Whether the numbers of an item are in range.
-fn item_fits(item: Item, points: &Points, subjects: u32) -> bool
+fn item_fits(item: Correlation, points: &Points, subjects: u32) -> bool
     ensures { IsTrue result
         ↔ ((item.function < length points.now.functions) × (item.subject < subjects) × (item.access < length points.now.points)) }
 {
@@ -52,14 +52,14 @@ fn item_fits(item: Item, points: &Points, subjects: u32) -> bool
 }
 
 /// Whether the numbers of an item and of its locks are in range.
-fn entry_fits(entry: &(Item, IdSet), facts: &Facts<'_>, subjects: u32) -> bool
+fn entry_fits(entry: &(Correlation, IdSet), facts: &Facts<'_>, subjects: u32) -> bool
     ensures { IsTrue result ↔ IsEntryInRange facts.now subjects entry.now }
 {
     item_fits(entry.0, facts.points(), subjects) && are_below(entry.1.ids(), facts.labels().count())
 }
 
 /// Whether the numbers of each item, and those of its locks, are in range, as `rise` asks.
-pub fn fits(facts: &Facts<'_>, based: &[(Item, IdSet)], subjects: Subjects) -> bool
+pub fn fits(facts: &Facts<'_>, based: &[(Correlation, IdSet)], subjects: Subjects) -> bool
     ensures { IsTrue result ↔ AreInRange facts.now (subjects_below facts.now subjects) based.now }
 {
     let below = subjects.below(facts);
@@ -79,7 +79,7 @@ pub(crate) struct Rising<'a> {
     /// The locks that are held at the points.
     pub held: &'a Held,
     /// The items that are given.
-    pub base: &'a [(Item, IdSet)],
+    pub base: &'a [(Correlation, IdSet)],
     /// What subjects are above.
     pub subjects: Subjects,
     ghost held_points: { length held.now.at ≡ length facts.now.program.points },
@@ -95,7 +95,7 @@ pub fn rise(
     facts: &Facts<'_>,
     held: &Held,
     links: &Links,
-    based: &[(Item, IdSet)],
+    based: &[(Correlation, IdSet)],
     subjects: Subjects,
 ) -> Result<Correlations, NoMemory>
     requires held_points { length held.now.at ≡ length facts.now.program.points }

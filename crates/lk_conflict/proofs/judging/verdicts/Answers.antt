@@ -10,7 +10,7 @@ use Rattle.lk_conflict.proofs.judging.verdicts.Goals as goal
 
 pub loop-location-preserved : goal.loop-location-preserved
 loop-location-preserved c =
-    let P : ℕ → Verdict → Type 0 = IsVerdictOf (basis_of c.args.facts.now) (has_of c.args.races.now) (locks_of c.args.races.now) (has_id c.args.linear.now) in
+    let P : ℕ → Verdict → Type 0 = IsVerdictOf (basis_of c.args.facts.now) (has_of c.args.conflicts.now.entries) (locks_of c.args.conflicts.now.entries) (has_id c.args.linear.now) in
     let old = c.loop-location.verdicts.items in
     let new : Verdict = c.in_ok-verdict.field-0 in
     record {

@@ -11,5 +11,5 @@ abbrev pub invariant-loop-location : goal.invariant-loop-location
 invariant-loop-location l = record {
   each : length l.verdicts.items ≡ l.location;
   are : (o : ℕ) (verdict : Verdict) → slice_get l.verdicts.items o ≡ Some verdict →
-      IsVerdictOf (basis_of l.fn.facts) (has_of l.fn.races) (locks_of l.fn.races) (has_id l.fn.linear) o verdict;
+      IsVerdictOf (basis_of l.fn.facts) (has_of l.fn.conflicts.entries) (locks_of l.fn.conflicts.entries) (has_id l.fn.linear) o verdict;
 }

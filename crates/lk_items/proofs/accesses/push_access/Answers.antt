@@ -1,6 +1,6 @@
 use Rattle.std.proofs.Common.{◌+◌, List, ℕ, length, sym, subst}
 use Rattle.lk_facts.specs.Origins.{IsSetBelow}
-use Rattle.lk_rise.specs.declared.correlations.Item.{Item}
+use Rattle.lk_rise.specs.declared.correlations.Correlation.{Correlation}
 use Rattle.lk_sets.specs.Ids.{has_id, IsSetOf}
 use Rattle.lk_items.specs.Accesses.{AreAccessesBelow}
 use Rattle.lk_items.proofs.AccessLemmas.{accesses_more, accesses_same}
@@ -12,7 +12,7 @@ returns-in_ok-push c =
     let held = c.args.held.now in
     let below = subst (IsSetBelow (length facts.labels.entries)) c.at.ensures.value (subst (λ n. IsSetBelow n c.at.result.now) c.requires.held_labels c.at.ensures.in_range) in
     let members = subst (λ ids. IsSetOf (has_id ids) c.in_ok-locks.locks) c.at.ensures.value c.in_ok-locks.ensures in
-    subst (λ (base : List (Item × List ℕ)). AreAccessesBelow facts held (c.args.point + 1) base) (sym c.in_ok-push.ensures.items)
+    subst (λ (base : List (Correlation × List ℕ)). AreAccessesBelow facts held (c.args.point + 1) base) (sym c.in_ok-push.ensures.items)
     (accesses_more facts held c.args.point c.in-Some.item c.in_ok-locks.locks c.args.base.now.items c.requires.point c.in-Some.ensures below members c.requires.base)
 
 pub returns-in_default : goal.returns-in_default

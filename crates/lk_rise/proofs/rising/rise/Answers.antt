@@ -1,12 +1,12 @@
 use Rattle.std.proofs.Common.{◌<◌, ℕ, Bool, List, length, sym, subst}
-use Rattle.lk_rise.specs.declared.correlations.Item.{Item}
+use Rattle.lk_rise.specs.declared.correlations.Correlation.{Correlation}
 use Rattle.lk_links.specs.declared.link.Link.{Link}
 use Rattle.lk_rise.specs.Tables.{Setting, IsSound, Works, HasPassedAll, HasMetAll}
 use Rattle.lk_rise.proofs.RiseLemmas.{none_sound, stays_based, rise_is}
 use Rattle.lk_rise.proofs.rising.rise.Goals as goal
 
 -- one round over the items of a table
-abbrev IsRound : Setting → List (List Link) → List (Item × List ℕ) → List (Item × List ℕ) → Bool → Type 0
+abbrev IsRound : Setting → List (List Link) → List (Correlation × List ℕ) → List (Correlation × List ℕ) → Bool → Type 0
 IsRound s into old new changed =
     Works s (λ entries. (k : ℕ) → k < length old → HasPassedAll s into k entries) (λ entries. (k : ℕ) → k < length old → HasMetAll s into k entries) old new changed
 

@@ -2,8 +2,8 @@ use Rattle.lk_facts.specs.declared.program.Program.{Program}
 use Rattle.lk_facts.specs.Facts.{basis_of}
 use Rattle.std.proofs.Common.{◌≡◌, false, true, Some, length, sym, ap, ◌∙◌}
 use Rattle.std.specs.Option.{option_copied}
+use Rattle.lk_rise.specs.Conflicts.{every_place}
 use Rattle.lk_rise.specs.Correlations.{item_of, set_of}
-use Rattle.lk_sets.specs.Ids.{has_id}
 use Rattle.lk_conflict.proofs.EntryLemmas.{set_below}
 use Rattle.lk_conflict.proofs.PlaceLemmas.{both_held}
 use Rattle.lk_conflict.proofs.places.Races.lock_set.Goals as goal
@@ -39,5 +39,5 @@ returns-in_ok-both-in-Some-Some c =
     sym (ap option_copied c.in-Some-Some.is-0) ∙ c.find-own.ensures ∙ ap (λ f. set_of self.items.now (item_of f false c.args.location c.args.access)) (c.main.ensures.value ∙ ap (λ (q : Program). q.main) c.points.ensures.value) in
     let child : Some c.in-Some-Some.child.now ≡ set_of self.items.now (item_of self.facts.now.program.main true c.args.location c.args.access) =
     sym (ap option_copied c.in-Some-Some.is-1) ∙ c.find-child.ensures ∙ ap (λ f. set_of self.items.now (item_of f true c.args.location c.args.access)) (c.main.ensures.value ∙ ap (λ (q : Program). q.main) c.points.ensures.value) in
-    both_held (basis_of self.facts.now) (has_id self.linear.now) self.items.now c.args.location c.args.access c.in-Some-Some.own.now c.in-Some-Some.child.now
+    both_held (basis_of self.facts.now) every_place self.items.now c.args.location c.args.access c.in-Some-Some.own.now c.in-Some-Some.child.now
     c.in_ok-places-in-Some-Some.places c.in_ok-others-in-Some-Some.others c.in_ok-both-in-Some-Some.both own child c.in_ok-places-in-Some-Some.ensures c.in_ok-others-in-Some-Some.ensures c.in_ok-both-in-Some-Some.ensures

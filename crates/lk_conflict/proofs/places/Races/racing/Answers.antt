@@ -5,6 +5,7 @@ use Rattle.std.proofs.lemmas.List.Elements.{All-push, Contains-get_or}
 use Rattle.lk_facts.specs.Lists.{Lists}
 use Rattle.lk_facts.specs.Verdicts.{InLockSet, IsRacing}
 use Rattle.lk_facts.specs.declared.verdict.Racing.{Racing}
+use Rattle.lk_rise.specs.Conflicts.{every_place}
 use Rattle.lk_rise.specs.Correlations.{has_of, locks_of}
 use Rattle.lk_sets.specs.Ids.{has_id}
 use Rattle.lk_sets.proofs.Members.{has_id-from_Contains}
@@ -27,7 +28,7 @@ loop-access-preserved c =
           ap (map (λ (r : Racing). r.access)) c.in_ok-push.ensures.items ∙ map-append (λ (r : Racing). r.access) c.loop-access.racing.items (new ∷ [])
           ∙ ap (λ xs. xs ++ a ∷ []) c.loop-access.invariant.accesses ∙ sym (take_more list c.loop-access.access-index 0 c.loop-access-test.true);
       sets =
-          let P : Racing → Type 0 = λ r. Lists (InLockSet (basis_of self.facts.now) (has_of self.items.now) (locks_of self.items.now) (has_id self.linear.now) c.args.location r.access) r.locks in
+          let P : Racing → Type 0 = λ r. Lists (InLockSet (basis_of self.facts.now) (has_of self.items.now) (locks_of self.items.now) every_place c.args.location r.access) r.locks in
           subst (All P) (sym c.in_ok-push.ensures.items) (All-push P c.loop-access.racing.items new c.loop-access.invariant.sets c.in_ok-locks.ensures);
     }
 

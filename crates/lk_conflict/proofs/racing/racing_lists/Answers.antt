@@ -1,0 +1,27 @@
+use Rattle.std.proofs.Common.{◌≡◌, ◌<◌, ◌∙◌, ℕ, [], List, ap, subst, sym, arith}
+use Rattle.lk_facts.specs.Facts.{basis_of}
+use Rattle.lk_facts.specs.Verdicts.{AreRacing}
+use Rattle.lk_facts.specs.declared.program.Program.{Program}
+use Rattle.lk_facts.specs.declared.verdict.Racing.{Racing}
+use Rattle.lk_rise.specs.Conflicts.{every_place}
+use Rattle.lk_rise.specs.Correlations.{has_of, locks_of}
+use Rattle.lk_conflict.proofs.PlaceLemmas.{each_more}
+use Rattle.lk_conflict.proofs.racing.racing_lists.Goals as goal
+
+pub loop-location-preserved : goal.loop-location-preserved
+loop-location-preserved c =
+    let P : ℕ → List Racing → Type 0 = AreRacing (basis_of c.args.facts.now) (has_of c.args.items.now) (locks_of c.args.items.now) every_place in
+    record {
+      each = omega (arith, c.in_ok-push.ensures.len, c.loop-location.invariant.each);
+      are = each_more P [] c.loop-location.racing.items c.push.new.self.items c.new.result c.loop-location.location c.in_ok-push.ensures.items c.loop-location.invariant.each
+          (subst (P c.loop-location.location) (sym c.new.ensures) c.in_ok-accesses.ensures) c.loop-location.invariant.are;
+    }
+
+pub returns : goal.returns
+returns c =
+    let end : c.loop-location.location ≡ c.args.facts.now.program.locations =
+    omega (arith, c.loop-location.auto.location-end, c.loop-location-test.false, c.locations-location-end.ensures.value ∙ ap (λ (q : Program). q.locations) c.points.ensures.value) in
+    record {
+      each = c.loop-location.invariant.each ∙ end;
+      are = λ o within. c.loop-location.invariant.are o (subst (λ n. o < n) (sym end) within);
+    }
