@@ -3,8 +3,8 @@ use Rattle.std.proofs.Common.{ℕ, ◌≡◌, ◌∙◌, List, refl, sym, ap, su
 use Rattle.lk_io.specs.Shelf.{Held}
 use Rattle.lk_form.specs.declared.tree.Program.{Program}
 use Rattle.lk_form.specs.Form.{IsOfForm}
-use Rattle.lk_small_facts.proofs.OneAnalysis.{one_analysis}
-use Rattle.lk_small_facts.specs.declared.verdict.Verdict.{Verdict}
+use Rattle.lk_laws.proofs.OneAnalysis.{one_analysis}
+use Rattle.lk_facts.specs.declared.verdict.Verdict.{Verdict}
 use Rattle.lk_top.specs.Outcome.{AreVerdictsOf, Outcome, Verdicts, Judged, too_long, not_of_form, of_form, ComesTo, no_command, missing, judged}
 
 abbrev pub HasOneProgram : Type 0
@@ -15,7 +15,7 @@ module _ (one_program : HasOneProgram) where
   same_verdicts : (name : List ℕ) (p q : Program) (vs ws : List Verdict) → p ≡ q → AreVerdictsOf p vs → AreVerdictsOf q ws → Verdicts name p vs ≡ Verdicts name q ws
   same_verdicts name p q vs ws e a b =
       let b' = subst (λ r. AreVerdictsOf r ws) (sym e) b in
-      let same = one_analysis _ _ _ _ vs ws a b' in
+      let same = one_analysis _ vs ws a b' in
       cc
 
   one_judgement : {name source : List ℕ} {a b : Outcome} → Judged name source a → Judged name source b → a ≡ b

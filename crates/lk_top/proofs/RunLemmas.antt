@@ -6,7 +6,7 @@ use Rattle.lk_base.specs.declared.status.Status.{Status}
 use Rattle.lk_base.specs.declared.status.Status.TheVariants as status
 use Rattle.lk_io.specs.Sink.{Takes}
 use Rattle.lk_form.specs.declared.tree.Program.{Program}
-use Rattle.lk_small_facts.specs.declared.verdict.Verdict.{Verdict}
+use Rattle.lk_facts.specs.declared.verdict.Verdict.{Verdict}
 use Rattle.lk_top.specs.Texts.{unwritten_line, refused_line, unread_line}
 use Rattle.lk_top.specs.declared.answer.Answer.TheVariants.{Report, Refusal, Unread}
 use Rattle.lk_top.specs.Words.{command}

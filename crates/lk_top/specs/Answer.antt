@@ -4,7 +4,7 @@ use Rattle.std.specs.Option.{ForSome}
 use Rattle.lk_base.specs.declared.code.Code.{Code}
 use Rattle.lk_base.specs.declared.refusal.Refusal.{Refusal}
 use Rattle.lk_form.specs.declared.tree.Program.{Program}
-use Rattle.lk_small_facts.specs.declared.verdict.Verdict.{Verdict}
+use Rattle.lk_facts.specs.declared.verdict.Verdict.{Verdict}
 use Rattle.lk_top.specs.declared.answer.Answer.{Answer}
 use Rattle.lk_top.specs.declared.answer.Answer.TheVariants.{Report, Refusal as Refuse, Unread}
 use Rattle.lk_top.specs.Texts.{refused_line, unread_line}

@@ -6,19 +6,18 @@ use Rattle.lk_base.specs.declared.code.Code.TheVariants.{TooLong, Form}
 use Rattle.lk_io.specs.Shelf.{Held}
 use Rattle.lk_form.specs.declared.tree.Program.{Program}
 use Rattle.lk_form.specs.Form.{IsOfForm}
-use Rattle.lk_small_facts.specs.declared.verdict.Verdict.{Verdict}
-use Rattle.lk_small_facts.specs.Analysis as analysis
-use Rattle.lk_small_facts.specs.Origins.{flow_of}
-use Rattle.lk_small_lower.specs.Labels.{labels_of, flows_of, linear_of}
-use Rattle.lk_small_lower.specs.Points.{points_of}
-use Rattle.lk_sets.specs.Ids.{has_id}
+use Rattle.lk_facts.specs.declared.verdict.Verdict.{Verdict}
+use Rattle.lk_facts.specs.Analysis as analysis
+use Rattle.lk_facts.specs.Facts.{basis_of, facts_of}
+use Rattle.lk_lower.specs.Labels.{labels_of, flows_of}
+use Rattle.lk_lower.specs.Points.{points_of}
 use Rattle.lk_top.specs.Report.{report_text}
 use Rattle.lk_top.specs.Texts.{first_byte}
 use Rattle.lk_top.specs.Words.{command}
 
 -- the verdicts of the locations of a program
 abbrev pub AreVerdictsOf : Program → List Verdict → Type 0
-AreVerdictsOf program verdicts = analysis.AreVerdictsOf (points_of program) (labels_of program) (flow_of (flows_of program)) (has_id (linear_of program)) verdicts
+AreVerdictsOf program verdicts = analysis.AreVerdictsOf (basis_of (facts_of (points_of program) (labels_of program) (flows_of program))) verdicts
 
 -- the report of its verdicts
 abbrev pub report_of : List ℕ → Program → List Verdict → List ℕ

@@ -6,14 +6,15 @@ use Rattle.std.specs.Option.{option_and_then, option_map_or}
 use Rattle.std.specs.List.{list_any}
 use Rattle.std.specs.Fmt.{decimal}
 use Rattle.lk_base.specs.declared.spot.Spot.{Spot}
-use Rattle.lk_small_facts.specs.Labels as label
-use Rattle.lk_small_facts.specs.Labels.{LabelTable}
-use Rattle.lk_small_facts.specs.Program.{Program, function_at, name_of, spot_of, writes_at}
-use Rattle.lk_small_facts.specs.declared.root.Root.{Root}
-use Rattle.lk_small_facts.specs.declared.verdict.Racing.{Racing}
-use Rattle.lk_small_facts.specs.declared.verdict.Verdict.{Verdict}
-use Rattle.lk_small_facts.specs.declared.verdict.VerdictState.{VerdictState}
-use Rattle.lk_small_facts.specs.declared.verdict.VerdictState.TheVariants.{Guarded, Unshared, Suspect}
+use Rattle.lk_facts.specs.Labels as label
+use Rattle.lk_facts.specs.Labels.{LabelTable}
+use Rattle.lk_facts.specs.Program.{function_at, name_of, spot_of, writes_at}
+use Rattle.lk_facts.specs.declared.program.Program.{Program}
+use Rattle.lk_facts.specs.declared.root.Root.{Root}
+use Rattle.lk_facts.specs.declared.verdict.Racing.{Racing}
+use Rattle.lk_facts.specs.declared.verdict.Verdict.{Verdict}
+use Rattle.lk_facts.specs.declared.verdict.VerdictState.{VerdictState}
+use Rattle.lk_facts.specs.declared.verdict.VerdictState.TheVariants.{Guarded, Unshared, Suspect}
 use Rattle.lk_top.specs.Texts.{place, first_byte}
 
 -- the root of a label

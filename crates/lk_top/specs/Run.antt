@@ -8,7 +8,7 @@ use Rattle.lk_io.specs.Counts.{Rose}
 use Rattle.lk_io.specs.Shelf.{Held}
 use Rattle.lk_io.specs.Sink.{Takes}
 use Rattle.lk_form.specs.declared.tree.Program.{Program}
-use Rattle.lk_small_facts.specs.declared.verdict.Verdict.{Verdict}
+use Rattle.lk_facts.specs.declared.verdict.Verdict.{Verdict}
 use Rattle.lk_top.specs.Words.{command}
 use Rattle.lk_top.specs.Texts.{refused_line, usage_line, unread_line, unwritten_line, no_memory_line}
 use Rattle.lk_top.specs.Report.{has_suspect}

@@ -3,16 +3,17 @@ ghost use Rattle.std.specs.Prelude.{◌≡◌, ◌≤◌, length, IfOk};
 ghost use Rattle.lk_io.specs.Shelf.{IsFileName};
 ghost use Rattle.lk_form.specs.Form.{AreResolved};
 ghost use Rattle.lk_top.specs.Outcome.{refusal_of};
-ghost use Rattle.lk_top.specs.Run.{shelved};
+ghost use Rattle.lk_top.specs.Run.{shelved, status_of};
 ghost use Rattle.lk_top.specs.Answer.{Reported, Refuses, Judges, Answers};
 
 use crate::report::{has_suspect, report};
 use crate::texts::{FIRST_BYTE, refused_line, unread_line};
 use lk_base::{Code, LONGEST_SOURCES, Name, NameFault, NoMemory, Refusal, Status};
+use lk_facts::{Facts, Verdict};
 use lk_form::{Program, read_program};
 use lk_io::{ReadFault, Shelf, read_whole};
-use lk_small_lower::lower;
-use lk_small_solve::solve;
+use lk_lower::lower;
+use lk_solve::solve;
 use std::alloc::Global;
 
 /// What a command with a FILE comes to: the text that is to be written.
@@ -40,23 +41,25 @@ fn refusal_of(alloc: Global, code: Code) -> Result<Refusal, NoMemory>
     }
 }
 
+/// The status that tells whether some location is suspect.
+fn status_of(verdicts: &[Verdict]) -> Status
+    ensures { result ≡ status_of verdicts.now }
+{
+    match has_suspect(verdicts) {
+        true => Status::Suspects,
+        false => Status::Clean,
+    }
+}
+
 /// What a program of the form comes to.
 fn judge_program(alloc: Global, name: &[u8], program: &Program) -> Result<Answer, NoMemory>
     requires { AreResolved program.now }
     ensures { IfOk result (λ answer. Reported name.now program.now answer) }
 {
     let lowered = lower(alloc, program)?;
-    let verdicts = solve(
-        alloc,
-        &lowered.points,
-        &lowered.labels,
-        &lowered.origins,
-        &lowered.linear,
-    )?;
-    let status = match has_suspect(&verdicts) {
-        true => Status::Suspects,
-        false => Status::Clean,
-    };
+    let facts = Facts::new(&lowered.points, &lowered.labels, &lowered.origins);
+    let verdicts = solve(alloc, &facts)?;
+    let status = status_of(&verdicts);
     let text = report(alloc, name, &lowered.points, &lowered.labels, &verdicts)?;
     Ok(Answer::Report { text, status })
 }

@@ -5,7 +5,7 @@ ghost use Rattle.lk_top.specs.Report.{root_at, label_name, label_spot, function_
 
 use crate::texts::{FIRST_BYTE, push_place};
 use lk_base::{NoMemory, Spot};
-use lk_small_facts::{Label, Labels, Points, Racing, Root, Verdict, VerdictState};
+use lk_facts::{Label, Labels, Points, Racing, Root, Verdict, VerdictState};
 use std::alloc::Global;
 
 /// The root of a label, where there is one.
@@ -69,7 +69,7 @@ fn point_spot(points: &Points, point: u32) -> Spot
 fn access_word(points: &Points, point: u32) -> &[u8]
     ensures { result.now ≡ access_word points.now point }
 {
-    if point < points.count() && points.action(point).writes() {
+    if point < points.count() && points.effect(point).writes() {
         return b"write";
     }
     b"read"

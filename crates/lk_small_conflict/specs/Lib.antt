@@ -1,4 +1,0 @@
-pub mod Bases
-pub mod Facts
-pub mod Listing
-pub mod Places

@@ -1,2 +1,0 @@
-pub mod AccessLemmas
-pub mod ItemsLemmas

@@ -1,5 +1,0 @@
-pub mod Correlations
-pub mod Links
-pub mod Only
-pub mod Rising
-pub mod Tables
