@@ -5,7 +5,8 @@ use crate::checks::{Entry, Judged, Pair, are_at, are_items, are_out, are_verdict
 use crate::programs::{
     CELL, CODE, LOCK_NAME, MUTEX, NAME, Named, Passing, STATIC, Small, Step, Storage,
 };
-use lk_facts::{Facts, Held, VerdictState};
+use lk_facts::{Facts, Held, Points, VerdictState};
+use lk_graph::many;
 use lk_held::held;
 use std::alloc::Global;
 use std::process::Abort;
@@ -20,6 +21,8 @@ struct Worked<'a> {
     keep: &'a [Pair],
     out: &'a [Pair],
     released: &'a [Pair],
+    /// The points that may be performed more than once.
+    many: &'a [u32],
     /// The lock places that have one mutex.
     linear: &'a [u32],
     items: &'a [Entry<'a>],
@@ -172,6 +175,7 @@ const CALLEE_RELEASES: Worked<'static> = Worked {
     keep: &[(1, 2), (2, 2), (17, 2), (29, 2), (30, 2), (31, 2), (33, 2)],
     out: &[(0, 2)],
     released: &[(0, 9), (1, 2), (1, 13), (2, 19)],
+    many: &[],
     linear: &[2],
     items: &[
         (0, false, 10, 5, &[]),
@@ -424,6 +428,7 @@ const TABLE_CALL: Worked<'static> = Worked {
     ],
     out: &[],
     released: &[(1, 28), (2, 41)],
+    many: &[0, 1, 2, 3, 4, 5],
     linear: &[3],
     items: &[
         (0, false, 12, 3, &[]),
@@ -617,6 +622,7 @@ const CONDITION_WAIT: Worked<'static> = Worked {
     ],
     out: &[],
     released: &[(0, 12), (1, 20)],
+    many: &[23, 24, 25, 26, 27, 28, 29, 30, 31],
     linear: &[2],
     items: &[
         (0, false, 10, 5, &[2]),
@@ -952,6 +958,7 @@ const LOOP_ALLOCATION: Worked<'static> = Worked {
     ],
     out: &[],
     released: &[(0, 39), (1, 77)],
+    many: &[23, 24, 27, 28, 29, 30, 31, 32, 33, 34, 35, 36, 37, 38, 39],
     linear: &[],
     items: &[
         (0, false, 35, 9, &[2]),
@@ -997,6 +1004,18 @@ fn check_items(
     Ok(())
 }
 
+/// The points that may be performed more than once are those that were worked out.
+fn check_many(
+    rt: &impl Abort,
+    alloc: Global,
+    worked: &Worked<'_>,
+    points: &Points,
+) -> Result<(), Fail> {
+    let found = many(alloc, points)?;
+    check(rt, worked.shows, "many", found.ids() == worked.many);
+    Ok(())
+}
+
 /// What comes of the program is what was worked out.
 fn check_found(
     rt: &impl Abort,
@@ -1007,6 +1026,7 @@ fn check_found(
     let held = held(alloc, facts)?;
     check_held(rt, worked, &held);
     check_items(rt, alloc, worked, facts, &held)?;
+    check_many(rt, alloc, worked, facts.points())?;
     let found = verdicts_in(rt, alloc, facts, &held, worked.linear)?;
     check(
         rt,
