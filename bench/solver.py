@@ -64,7 +64,7 @@ enum Step {
 }
 
 /// The step number `k` of a function.
-fn step(function: u32, k: u32) -> Step {
+fn step_at(function: u32, k: u32) -> Step {
     let layer = function / IN_LAYER;
     let below = (layer + 1) * IN_LAYER;
     let place = function % IN_LAYER;
@@ -118,7 +118,7 @@ fn points(alloc: Global) -> Result<(Vec<Point>, u32)> {
     for function in 0..FUNCTIONS {
         for k in 0..STEPS {
             let point = function * STEPS + k;
-            let step = step(function, k);
+            let step = step_at(function, k);
             let site = match step {
                 Step::Call(_) | Step::Create(_) => {
                     sites += 1;
@@ -156,7 +156,7 @@ fn labels(alloc: Global) -> Result<(Labels, Origins)> {
         flows.push((number, 1))?;
     }
     for point in 0..FUNCTIONS * STEPS {
-        let step = step(point / STEPS, point % STEPS);
+        let step = step_at(point / STEPS, point % STEPS);
         let Some(flow) = reach(step) else {
             targets.push(None)?;
             continue;
