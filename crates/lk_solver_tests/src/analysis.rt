@@ -1,13 +1,14 @@
 //! The parts of the analysis of a small program, each by the public call that gives it.
 ghost use Rattle.std.specs.Prelude.{IfOk, length};
-ghost use Rattle.lk_conflict.specs.Places.{AreLocksBelow};
+ghost use Rattle.lk_facts.specs.Facts.{basis_of};
+ghost use Rattle.lk_rise.specs.Conflicts.{AreRacingLists};
 ghost use Rattle.lk_rise.specs.Correlations.{AreInRange};
 
 use lk_conflict::{conflicts, verdicts};
 use lk_facts::{Facts, Held, Verdict};
 use lk_graph::after;
 use lk_items::items;
-use lk_rise::Correlations;
+use lk_rise::{Conflicts, Items};
 use lk_sets::IdSet;
 use std::alloc::Global;
 use std::process::Abort;
@@ -19,8 +20,8 @@ pub fn items_in(
     alloc: Global,
     facts: &Facts<'_>,
     held: &Held,
-) -> Result<Correlations, Fail>
-    ensures { IfOk result (AreInRange facts.now (length facts.now.labels.entries)) }
+) -> Result<Items, Fail>
+    ensures { IfOk result (λ found. AreInRange facts.now (length facts.now.labels.entries) found.entries) }
 {
     assert!(rt; held.labels() == facts.labels().count());
     assert!(rt; held.points() == facts.points().count() as usize);
@@ -33,10 +34,10 @@ fn races_of(
     alloc: Global,
     facts: &Facts<'_>,
     held: &Held,
-    items: &Correlations,
-) -> Result<Correlations, Fail>
-    requires { AreInRange facts.now (length facts.now.labels.entries) items.now }
-    ensures { IfOk result (AreLocksBelow (length facts.now.labels.entries)) }
+    items: &Items,
+) -> Result<Conflicts, Fail>
+    requires { AreInRange facts.now (length facts.now.labels.entries) items.now.entries }
+    ensures { IfOk result (λ c. AreRacingLists (basis_of facts.now) c.entries c.racing) }
 {
     assert!(rt; held.labels() == facts.labels().count());
     assert!(rt; held.points() == facts.points().count() as usize);
@@ -50,8 +51,8 @@ pub fn races_in(
     alloc: Global,
     facts: &Facts<'_>,
     held: &Held,
-) -> Result<Correlations, Fail>
-    ensures { IfOk result (AreLocksBelow (length facts.now.labels.entries)) }
+) -> Result<Conflicts, Fail>
+    ensures { IfOk result (λ c. AreRacingLists (basis_of facts.now) c.entries c.racing) }
 {
     let items = items_in(rt, alloc, facts, held)?;
     races_of(rt, alloc, facts, held, &items)
@@ -61,10 +62,10 @@ pub fn races_in(
 fn verdicts_of(
     alloc: Global,
     facts: &Facts<'_>,
-    races: &Correlations,
+    races: &Conflicts,
     linear: &[u32],
 ) -> Result<Vec<Verdict>, Fail>
-    requires { AreLocksBelow (length facts.now.labels.entries) races.now }
+    requires { AreRacingLists (basis_of facts.now) races.now.entries races.now.racing }
 {
     let linear = IdSet::from_list(alloc, linear)?;
     Ok(verdicts(alloc, facts, races, &linear)?)

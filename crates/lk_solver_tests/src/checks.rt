@@ -1,7 +1,7 @@
 //! Comparisons of what was found with tuples that were worked out by hand.
 
-use lk_facts::{Held, Racing, Verdict, VerdictState};
-use lk_rise::{Correlations, Item};
+use lk_facts::{Held, Racing, Subject, Verdict, VerdictState};
+use lk_rise::{Conflicts, Items};
 use lk_sets::BitRows;
 use std::process::Abort;
 
@@ -71,24 +71,46 @@ pub fn are_out(held: &Held, out: &[Pair], released: &[Pair]) -> bool {
     true
 }
 
-/// Whether an item stands among these, with these locks.
-fn has_entry(item: Item, locks: &[u32], wanted: &[Entry<'_>]) -> bool {
+/// Whether an item of this function, kind, subject and access stands among these, with these locks.
+fn has_entry(item: (u32, bool, u32, u32), locks: &[u32], wanted: &[Entry<'_>]) -> bool {
     for (function, child, subject, access, held) in wanted {
-        if item.function == *function
-            && item.child == *child
-            && item.subject == *subject
-            && item.access == *access
-        {
+        if item.0 == *function && item.1 == *child && item.2 == *subject && item.3 == *access {
             return locks == *held;
         }
     }
     false
 }
 
+/// The label that is accessed.
+fn label_of(subject: Subject) -> u32 {
+    match subject {
+        Subject::Label(label) | Subject::Origin(label) => label,
+    }
+}
+
 /// Whether these are all items, with these locks.
-pub fn are_items(found: &Correlations, wanted: &[Entry<'_>]) -> bool {
+pub fn are_items(found: &Items, wanted: &[Entry<'_>]) -> bool {
     for i in 0..found.count() {
-        if !has_entry(found.item(i), found.locks(i), wanted) {
+        let item = found.item(i);
+        let key = (
+            item.function,
+            item.child,
+            label_of(item.subject),
+            item.access,
+        );
+        if !has_entry(key, found.locks(i), wanted) {
+            return false;
+        }
+    }
+    found.count() == wanted.len()
+}
+
+/// Whether these are all racing items, with these locks.
+pub fn are_races(found: &Conflicts, wanted: &[Entry<'_>]) -> bool {
+    for i in 0..found.count() {
+        let item = found.race(i);
+        let key = (item.function, item.child, item.location, item.access);
+        if !has_entry(key, found.locks(i), wanted) {
             return false;
         }
     }

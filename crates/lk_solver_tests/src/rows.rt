@@ -1,7 +1,9 @@
 //! Whole programs, with what each layer of the analysis gives of them.
 
 use crate::analysis::{items_in, races_in, verdicts_in};
-use crate::checks::{Entry, Judged, Pair, are_at, are_items, are_out, are_verdicts, check};
+use crate::checks::{
+    Entry, Judged, Pair, are_at, are_items, are_out, are_races, are_verdicts, check,
+};
 use crate::programs::{
     CELL, CODE, LOCK_NAME, MUTEX, NAME, Named, Passing, STATIC, Small, Step, Storage,
 };
@@ -1000,7 +1002,7 @@ fn check_items(
     let items = items_in(rt, alloc, facts, held)?;
     check(rt, worked.shows, "items", are_items(&items, worked.items));
     let races = races_in(rt, alloc, facts, held)?;
-    check(rt, worked.shows, "races", are_items(&races, worked.races));
+    check(rt, worked.shows, "races", are_races(&races, worked.races));
     Ok(())
 }
 
