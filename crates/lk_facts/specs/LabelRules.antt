@@ -1,10 +1,11 @@
 -- Labels (LOCKSMITH: a label for each level of each type): what pointers may point to, and in which order labels stand.
-use Rattle.std.specs.Prelude.{◌≡◌, ◌↔◌, ◌<◌, ◌⊎◌, ℕ, Bool, true, false, not, List, [], ◌∷◌, ◌++◌, map, filter_map, length, slice_get, Option, Some, Contains, AllPairs, MatchOption, min, ◌-◌, ◌^◌, nat_eq, ⊤}
+use Rattle.std.specs.Prelude.{◌≡◌, ◌↔◌, ◌<◌, ◌≤◌, ◌⊎◌, ℕ, Bool, true, false, not, List, [], ◌∷◌, ◌++◌, map, filter_map, length, slice_get, Option, Some, Contains, AllPairs, MatchOption, min, ◌-◌, ◌^◌, nat_eq, ⊤}
 use Rattle.std.specs.Option.{option_map_or}
 use Rattle.lk_facts.specs.Labels.{LabelTable}
 use Rattle.lk_facts.specs.Places.{AreDifferent, IsMissing}
-use Rattle.lk_facts.specs.Program.{place_of, place_at, root_at, function_at}
-use Rattle.lk_facts.specs.Typed.{IsHolderType}
+use Rattle.lk_facts.specs.Program.{action_at, place_of, place_at, root_at, function_at}
+use Rattle.lk_facts.specs.Typed.{GivesForm, IsHolderType, PointsToForm}
+use Rattle.lk_facts.specs.declared.action.Action.TheVariants.{Allocate, Convert}
 use Rattle.lk_facts.specs.declared.label_entry.LabelEntry.{LabelEntry}
 use Rattle.lk_facts.specs.declared.label_entry.LabelName.{LabelName}
 use Rattle.lk_facts.specs.declared.program.Program.{Program}
@@ -14,7 +15,8 @@ use Rattle.lk_facts.specs.declared.root.RootKind.{RootKind}
 use Rattle.lk_facts.specs.declared.root.RootKind.TheVariants as kind
 use Rattle.lk_types.specs.Nodes.{Node, IsNode, node_of, first, step}
 use Rattle.lk_types.specs.Objects.{is_mutex, numbers_from}
-use Rattle.lk_types.specs.Table.{Table, type_at, fields_of}
+use Rattle.lk_types.specs.Table.{Table, type_at, fields_of, least_of}
+use Rattle.lk_types.specs.Walks.{is_void}
 use Rattle.lk_types.specs.declared.c_type.CType.{CType}
 use Rattle.lk_types.specs.declared.c_type.CType.TheVariants.{Void, Int, ThreadId, Mutex, Cond, Pointer, Array, Struct, Function, Opaque}
 use Rattle.lk_types.specs.declared.node.Base.TheVariants.{Start}
@@ -221,6 +223,23 @@ module _ (program : Program) where
     pub entries : (l : ℕ) (x : LabelName) (entry : LabelEntry) → slice_get labels.names l ≡ Some x → slice_get labels.entries l ≡ Some entry → IsEntryOf x entry
     pub points : length labels.targets ≡ length program.points
     pub targets : (p : ℕ) (target : Option ℕ) → slice_get labels.targets p ≡ Some target → MatchOption target ((l : ℕ) → IsTargetOf labels p l → ⊥) (IsTargetOf labels p)
+
+  -- The point gives void a Part: it allocates an object of the type, or converts a pointer to it to or from `void *`. Types that differ in the
+  -- sizes of arrays alone count as the one with the least number.
+  pub data GivesPart (p : ℕ) : ℕ → Type 0 where
+    allocates : (t : ℕ) (count : Option ℕ) (clear : Bool) (r : ℕ) → action_at program p ≡ Some (Allocate t count clear r) → GivesPart p (least_of program.types t)
+    to_void : (a ty t : ℕ) → action_at program p ≡ Some (Convert a ty) → GivesForm program a (Pointer t) → PointsToForm program p Void → is_void (type_at program.types t) ≡ false → GivesPart p (least_of program.types t)
+    from_void : (a ty t : ℕ) → action_at program p ≡ Some (Convert a ty) → PointsToForm program a Void → GivesForm program p (Pointer t) → is_void (type_at program.types t) ≡ false → GivesPart p (least_of program.types t)
+
+  -- the point is the first one that gives this Part
+  pub record IsFirstOf (t p : ℕ) : Type 0 where
+    pub gives : GivesPart p t
+    pub first : (q : ℕ) → GivesPart q t → p ≤ q
+
+  -- the Parts of void are those that points give, in the order of the first point of each
+  pub record AreVoidParts : Type 0 where
+    pub each : (t : ℕ) → Contains program.types.parts t ↔ ((p : ℕ) × GivesPart p t)
+    pub ordered : AllPairs (λ t u. (p q : ℕ) → IsFirstOf t p → IsFirstOf u q → p < q) program.types.parts
 
   -- there are more labels than this
   pub record HasMoreLabels (count : ℕ) : Type 0 where

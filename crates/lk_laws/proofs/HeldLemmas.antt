@@ -1,8 +1,8 @@
 -- What some table holds is held on every way, and what is released is in each table that the rules close.
-use Rattle.std.proofs.Common.{◌≡◌, ℕ, true, false, ⊎_elim, inl, inr, sym, ◌∙◌}
+use Rattle.std.proofs.Common.{◌≡◌, ℕ, true, ⊎_elim, inl, inr, sym, ◌∙◌}
 use Rattle.std.proofs.lemmas.Bool.{false≢true}
 use Rattle.lk_facts.specs.Basis.{Basis}
-use Rattle.lk_facts.specs.Held.{PointTest, ReleaseTest, Released, Drops, MayDrop, NotHeld, NotAdded, IsHeldTable, IsReleaseTable, AreLockSets, Adds, at_test, release_test, says}
+use Rattle.lk_facts.specs.Held.{PointTest, ReleaseTest, Released, Drops, MayDrop, NotHeld, NotAdded, IsHeldTable, IsReleaseTable, AreLockSets, Adds, at_test, release_test}
 use Rattle.lk_facts.specs.LockSets.{LockSets}
 
 module _ (basis : Basis) (at : PointTest) (table : IsHeldTable basis (Released basis) at) where

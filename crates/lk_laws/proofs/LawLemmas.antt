@@ -4,9 +4,9 @@ use Rattle.lk_laws.proofs.HeldLemmas.{never_not_held, table_of}
 use Rattle.lk_laws.proofs.MoreRaces.{more_conflicts, more_races, race_in}
 use Rattle.lk_facts.specs.Basis.{Basis}
 use Rattle.lk_facts.specs.Held.{NotHeld, Drops, at_test}
-use Rattle.lk_facts.specs.Items.{ItemTest, LockTest, Rises, PointItem, HasLock}
+use Rattle.lk_facts.specs.Items.{LockTest, Rises, HasLock}
 use Rattle.lk_laws.specs.Laws.{HeldIsNeverNotHeld, LockSetsAreExact, IsDroppedBefore, ReleasedIsNotHeld, CalleesLockIsNotKept, HasPartner, RacesComeInPairs, GuardIsInLockSets, VerdictIsOne, IsWorse, SuspectStaysUnguarded}
-use Rattle.lk_facts.specs.Racing.{Setting, Conflict, Conflicts, Races, AreRaceLocks}
+use Rattle.lk_facts.specs.Racing.{Setting, Conflicts, Races, AreRaceLocks}
 use Rattle.lk_facts.specs.Verdicts.{IsVerdict}
 use Rattle.lk_facts.specs.declared.way.Way.{Way}
 use Rattle.lk_facts.specs.declared.source.Source.{Source}

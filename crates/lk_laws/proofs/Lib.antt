@@ -1,3 +1,4 @@
+pub mod EdgeEnds
 pub mod HeldLemmas
 pub mod LawLemmas
 pub mod MoreRaces

@@ -1,6 +1,6 @@
 -- The analysis says one thing of a program.
-use Rattle.std.proofs.Common.{◌≡◌, ℕ, ◌<◌, Bool, true, false, List, [], ◌∷◌, map, get_or, slice_get, Some, length, refl, sym, ap, subst, ◌∙◌, ⊎_elim, inl, inr}
-use Rattle.std.specs.List.{AllByRecursion, All}
+use Rattle.std.proofs.Common.{◌≡◌, ℕ, ◌<◌, Bool, true, List, [], ◌∷◌, map, length, refl, sym, ap, subst, ◌∙◌, ⊎_elim, inl, inr}
+use Rattle.std.specs.List.{AllByRecursion}
 use Rattle.std.proofs.lemmas.List.{same_lists}
 use Rattle.std.proofs.lemmas.List.Elements.{recursion_from_All}
 use Rattle.std.proofs.lemmas.Option.{slice_get-get_or}
@@ -14,7 +14,7 @@ use Rattle.lk_facts.specs.Items.{ItemTest, LockTest, HeldTable, PointItem, HasLo
 use Rattle.lk_laws.specs.Laws.{IsWithin, VerdictsAreOne}
 use Rattle.lk_facts.specs.Lists.{Lists}
 use Rattle.lk_facts.specs.Held.{at_test, keep_test, release_test}
-use Rattle.lk_facts.specs.Racing.{Setting, Conflict, Conflicts, AreRaceLocks}
+use Rattle.lk_facts.specs.Racing.{Setting, Conflicts, AreRaceLocks}
 use Rattle.lk_facts.specs.Verdicts.{IsRacing, InLockSet, Guards, IsVerdict, AreRacing, AreNamed, IsVerdictOf}
 use Rattle.lk_facts.specs.declared.source.Source.{Source}
 use Rattle.lk_facts.specs.declared.source.Source.TheVariants.{OwnAccess, ItemBelow}

@@ -1,12 +1,5 @@
 -- The laws of matched paths, for the edges of a list and a flow that is closed.
-use Rattle.std.proofs.Common.{◌≡◌, ℕ, true, List, ◌∷◌, ◌⊎◌, inl, inr, refl}
-use Rattle.lk_facts.specs.Flow.{Flow, Over}
-use Rattle.lk_facts.specs.Labels.{LabelTable, is_global_at, is_origin_at}
-use Rattle.lk_facts.specs.PathTables.{IsClosed}
-use Rattle.lk_facts.specs.Paths.{HasEdge, Level}
-use Rattle.lk_facts.specs.Walks.{Walk}
-use Rattle.lk_facts.specs.declared.edge.Edge.{Edge}
-use Rattle.lk_facts.specs.declared.way.Way.TheVariants.{Through, AsValue}
+use Rattle.std.proofs.Common.{inl, inr, refl}
 use Rattle.lk_facts.proofs.PathClosing.{level_closed, pass_closed, pass_least, all_least, inner_least, cross_least}
 use Rattle.lk_facts.proofs.WalkLaws.{up_and_down_closed, over_closed}
 use Rattle.lk_facts.specs.declared.edge.Mark.TheVariants.{Enter, Leave}

@@ -1,0 +1,3 @@
+pub mod PartLists
+pub mod WalkSteps
+pub mod Walks
