@@ -1,5 +1,6 @@
 pub mod Steps
 pub mod Taking
+pub mod Turns
 pub mod Tables
 pub mod Left
 pub mod Loops

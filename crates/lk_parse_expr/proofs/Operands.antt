@@ -115,7 +115,8 @@ module _ (m : ℕ) (below : Readers) (good : Good m below) where
   postfix_reached (g.post {from = from} {mid} op l a is) high text =
       suffix_reached _ from mid (suffix.Post op) (suffix_of_step (peek mid) op is) (left-took mid (λ end. no_step (peek mid) op (ap step_of end) is)) (omega arith) (omega arith)
       (λ room same. fits (room - 1) same refl) (postfix_reached a (omega arith) (step_no_text (peek mid) op is))
-  postfix_reached (g.word {from = from} l is) high text = primary_reached from (around {h = 0} (fits m (omega arith) (rw is refl)))
+  postfix_reached (g.word {from = from} l is) high text =
+      primary_reached from (as_same (rw is refl) (around {h = 0} (reads_word from (λ name i. Ok (found (expr_at from (form.Word name)) m, i)) is (fits m (omega arith) refl))))
   postfix_reached (g.number {from = from} l is) high text = primary_reached from (around {h = 0} (fits m (omega arith) (rw is refl)))
   postfix_reached (g.char {from = from} l is) high text = primary_reached from (around {h = 0} (fits m (omega arith) (rw is refl)))
   postfix_reached (g.texts {from = from} l is) high text = primary_reached from (around {h = 0} (fits m (omega arith) (rw (texts_first is, texts_read is text) refl)))

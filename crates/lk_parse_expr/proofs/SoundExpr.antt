@@ -97,7 +97,7 @@ module _ (m : ℕ) (below : Readers) (sound : Sound m below) where
   primary_has from shut = by (start_of (peek from)) refl
     where
       by : (s : Start) → start_of (peek from) ≡ s → Yields (IsExpr 16 from) (primary_by m below (here from) s from)
-      by start.Word e = record { depth = 1; reads = g.word (omega arith) (of.of_word (peek from) e); all = omega arith }
+      by start.Word e = after_word _ from _ (λ so. record { depth = 1; reads = g.word (omega arith) so; all = omega arith })
       by (start.Number kind value) e = record { depth = 1; reads = g.number (omega arith) (of.of_number (peek from) kind value e); all = omega arith }
       by (start.Char value) e = record { depth = 1; reads = g.char (omega arith) (of.of_char (peek from) value e); all = omega arith }
       by start.Text e = and_yields _ _ (texts from) _ (texts_has from (of.of_text (peek from) e)) (λ bytes i so. record { depth = 1; reads = g.texts (omega arith) so; all = omega arith })

@@ -8,3 +8,4 @@ pub mod Grammar
 pub mod Declarations
 pub mod Statements
 pub mod Tree
+pub mod Nests

@@ -123,7 +123,7 @@ module _ (m : ℕ) (below : Readers) where
   parens spot = need 1 m >> take >> (below.expr 0 >>= (λ inner. expect p.CloseParen >> pure (found (expr_on spot (e.Paren inner.tree)) inner.room)))
 
   abbrev pub primary_by : Spot → Start → Parser (Found Expr)
-  primary_by spot start.Word = λ i. (take >> leaf (expr_on spot (e.Word (text i)))) i
+  primary_by spot start.Word = word >>= (λ name. leaf (expr_on spot (e.Word name)))
   primary_by spot (start.Number kind value) = take >> leaf (expr_on spot (e.Number kind value))
   primary_by spot (start.Char value) = take >> leaf (expr_on spot (e.Char value))
   primary_by spot start.Text = texts >>= (λ bytes. leaf (expr_on spot (e.Text bytes)))
@@ -234,12 +234,18 @@ module _ (m : ℕ) (below : Readers) where
 
   -- ---- specifiers: the list, and whether `typedef` is among them
 
+  -- the members behind the first one
+  abbrev pub members : Found Member → Parser (Found (List Member))
+  members first = repeat (sees p.CloseBrace) below.member (joined (found [] m) first)
+
   unfoldable pub struct_body : Option (List ℕ) → Parser (Found Specifier)
-  struct_body tag = need 2 m >> expect p.OpenBrace >> (below.member >>= (λ first. repeat (sees p.CloseBrace) below.member (joined (found [] m) first)
-      >>= struct_end tag))
+  struct_body tag = need 2 m >> expect p.OpenBrace >> (below.member >>= (λ first. members first >>= struct_end tag))
+
+  abbrev pub items : Parser (Found (List Item))
+  items = separated is_close_brace below.item m
 
   unfoldable pub enum_body : Option (List ℕ) → Parser (Found Specifier)
-  enum_body tag = need 1 m >> expect p.OpenBrace >> (separated is_close_brace below.item m >>= enum_end tag)
+  enum_body tag = need 1 m >> expect p.OpenBrace >> (items >>= enum_end tag)
 
   abbrev pub struct_by : Option (List ℕ) → Parser (Found Specifier)
   struct_by None = struct_body None
@@ -254,11 +260,14 @@ module _ (m : ℕ) (below : Readers) where
   keyword_by typed kind (Some specifier) = take >> pure (found (specifier, typed || is_type_word kind, is_typedef_word kind) m)
   keyword_by typed kind None = word >>= (λ name. pure (found (s.Typedef name, true, false) m))
 
+  abbrev pub plain_specifier : Bool → Parser (Found (Specifier × Bool × Bool))
+  plain_specifier typed = λ i. keyword_by typed (peek i) (specifier_of (peek i)) i
+
   unfoldable pub specifier : Bool → Parser (Found (Specifier × Bool × Bool))
   specifier typed = λ i.
       if sees_key w.Struct i then (take >> (tag >>= struct_by) >>= (λ one. pure (as_type one))) i
       else if sees_key w.Enum i then (take >> (tag >>= enum_by) >>= (λ one. pure (as_type one))) i
-      else keyword_by typed (peek i) (specifier_of (peek i)) i
+      else plain_specifier typed i
 
   unfoldable pub specifiers_from : ℕ → Bool → Found (List Specifier × Bool) → Parser (Found (List Specifier × Bool))
   specifiers_from zero typed before = pure before
@@ -286,10 +295,13 @@ module _ (m : ℕ) (below : Readers) where
   abbrev pub parameter : Parser (Found Parameter)
   parameter = λ i. parameter_from (here i) i
 
+  abbrev pub parameter_list : Parser (Found (List Parameter))
+  parameter_list = separated is_ellipsis parameter m
+
   unfoldable pub parameters : Parser (Found (List Parameter × Bool))
   parameters = λ i.
       if sees p.CloseParen i then Ok (found ([], false) m, i)
-      else (separated is_ellipsis parameter m >>= (λ list. dots >>= (λ dots. pure (found (list.tree, dots) list.room)))) i
+      else (parameter_list >>= (λ list. dots >>= (λ dots. pure (found (list.tree, dots) list.room)))) i
 
   unfoldable pub width : Parser (Found Expr)
   width = expect p.Colon >> below.expr 2
@@ -301,8 +313,11 @@ module _ (m : ℕ) (below : Readers) where
       if sees p.Colon i then (width >>= (λ one. pure (found (fields.Field inner.tree.0 one.tree) (min inner.room one.room)))) i
       else Ok (found (fields.Plain inner.tree.0) inner.room, i))) i
 
+  abbrev pub field_list : Parser (Found (List MemberDeclarator))
+  field_list = separated (λ _. false) field m
+
   unfoldable pub member_from : Spot → Parser (Found Member)
-  member_from spot = specifiers >>= (λ first. separated (λ _. false) field m
+  member_from spot = specifiers >>= (λ first. field_list
       >>= (λ list. expect p.Semicolon >> pure (found (member_on spot first.tree.0 list.tree) (min first.room list.room))))
 
   unfoldable pub value : Parser (Found (Option Expr))

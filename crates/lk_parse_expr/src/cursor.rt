@@ -1,16 +1,21 @@
 //! The tokens that are left to be read, with the names in scope.
-ghost use Rattle.std.specs.Prelude.{◌≡◌, ◌≢◌, ◌∷◌, ◌++◌, [], length, take, drop, IfOk, IfErr, OnOk};
+ghost use Rattle.std.specs.Prelude.{if◌then◌else◌, ◌≤◌, Ok, ◌≡◌, ◌≢◌, ◌∷◌, ◌++◌, [], length, take, drop, IfOk, IfErr, OnOk};
+ghost use Rattle.lk_lex.specs.Texts.{text_value};
 ghost use Rattle.lk_parse_expr.specs.Input as spec;
 ghost use Rattle.lk_parse_expr.specs.Input.{AreInside};
 ghost use Rattle.lk_parse_expr.specs.Readers as reader;
 ghost use Rattle.lk_parse_expr.specs.Readers.{Gives};
 ghost use Rattle.lk_base.specs.declared.fault.Fault.TheVariants as fault;
+ghost use Rattle.lk_parse_expr.specs.Reading as reading;
 ghost use Rattle.lk_parse_expr.specs.Words as words;
+ghost use Rattle.lk_parse_expr.specs.Heads as heads;
 ghost use Rattle.lk_lex.specs.declared.token.TokenKind.TheVariants as word;
 
-use crate::words::is_specifier_word;
+use crate::naming::{Head, Naming};
+use crate::words::{is_close_brace, is_ellipsis, is_specifier_word, qualifier_of};
 use lk_base::{Code, Fault, Name, NoMemory, Refusal, Seq, Spot};
-use lk_lex::{Keyword, Punct, Token, TokenKind, text_of};
+use lk_lex::{Keyword, Punct, Token, TokenKind, push_text, text_of};
+use lk_tree::Qualifier;
 use std::alloc::Global;
 use std::marker::Model;
 
@@ -101,6 +106,17 @@ impl<'t> Cursor<'t> {
         }
     }
 
+    /// The bytes of the token behind the next one.
+    #[tactic(auto, unfolding(crate::specs::Input::text, crate::specs::Input::next))]
+    fn second_text(&self) -> &'t [u8]
+        ensures { result.now ≡ spec.text (spec.next self.now) }
+    {
+        match self.tokens.get(self.taken + 1) {
+            Some(token) => text_of(self.source, token),
+            None => &[],
+        }
+    }
+
     /// How many tokens are left.
     #[tactic(auto, unfolding(crate::specs::Readers::left))]
     pub fn left(&self) -> usize
@@ -145,6 +161,17 @@ impl<'t> Cursor<'t> {
         ensures { result ≢ fault.NoMemory → result ≡ reader.too_deep_at self.now }
     {
         self.fault(Code::TooDeep)
+    }
+
+    /// Why nothing is read where no level is left: too deep where something begins here.
+    pub fn exhausted(&self, begins: bool) -> Fault
+        ensures { result ≢ fault.NoMemory → result ≡ (if begins then reader.too_deep_at self.now else reader.syntax_at self.now) }
+    {
+        if begins {
+            self.exhaust()
+        } else {
+            self.refuse()
+        }
     }
 
     /// Whether this punctuator is next.
@@ -285,5 +312,170 @@ impl<'t> Cursor<'t> {
         let kind = self.peek();
         is_specifier_word(kind)
             || (kind == TokenKind::Word && !typed && self.is_typedef(self.text()))
+    }
+
+    /// Whether the token behind the next one begins specifiers.
+    #[tactic(auto, unfolding(crate::specs::Words::continues_specifiers, crate::specs::Input::next))]
+    pub fn second_begins_specifiers(&self) -> bool
+        ensures { result ≡ words.begins_specifiers (spec.next self.now) }
+    {
+        let kind = self.second();
+        is_specifier_word(kind) || (kind == TokenKind::Word && self.is_typedef(self.second_text()))
+    }
+
+    /// Whether a `(` is next that opens a type name.
+    #[tactic(auto, unfolding(crate::specs::Readers::sees, crate::specs::Readers::same_punct))]
+    pub fn opens_type_name(&self) -> bool
+        ensures { result ≡ words.opens_type_name self.now }
+    {
+        self.peek() == TokenKind::Punct(Punct::OpenParen) && self.second_begins_specifiers()
+    }
+
+    /// Puts the bytes that the next token, a text, stands for at the end of `bytes`.
+    #[tactic(auto, unfolding(crate::specs::Input::text, crate::specs::Input::peek))]
+    fn push_value(&self, bytes: &mut Vec<u8>) -> Result<(), NoMemory>
+        requires { spec.peek self.now ≡ word.Text }
+        ensures { OnOk result (bytes.new.items ≡ bytes.old.items ++ text_value (spec.text self.now)) }
+    {
+        match self.tokens.get(self.taken) {
+            Some(token) => push_text(self.source, token, bytes),
+            None => Ok(()),
+        }
+    }
+
+    /// Takes texts one after another, by the bytes that they stand for together.
+    pub fn texts(&mut self) -> Result<Seq<u8>, Fault>
+        ensures { Gives (reading.texts self.old) result self.new }
+    {
+        let mut bytes = Vec::new(self.alloc);
+        for _turn in 0..self.left() {
+            if self.peek() != TokenKind::Text {
+                return Ok(Seq::new(bytes));
+            }
+            self.push_value(&mut bytes)?;
+            self.take();
+        }
+        Ok(Seq::new(bytes))
+    }
+
+    /// Takes qualifiers one after another.
+    #[tactic(auto, unfolding(crate::specs::Reading::qualifiers))]
+    pub fn qualifiers(&mut self) -> Result<Seq<Qualifier>, Fault>
+        ensures { Gives (reading.qualifiers self.old) result self.new }
+    {
+        let mut found = Vec::new(self.alloc);
+        for _turn in 0..self.left() {
+            let Some(qualifier) = qualifier_of(self.peek()) else {
+                return Ok(Seq::new(found));
+            };
+            found.push(qualifier)?;
+            self.take();
+        }
+        Ok(Seq::new(found))
+    }
+
+    /// Takes a tag, where there is one.
+    #[tactic(auto, unfolding(crate::specs::Reading::tag))]
+    pub fn tag(&mut self) -> Result<Option<Name>, Fault>
+        ensures { Gives (reading.tag self.old) result self.new }
+    {
+        if self.peek() != TokenKind::Word {
+            return Ok(None);
+        }
+        let name = self.name()?;
+        self.take();
+        Ok(Some(name))
+    }
+
+    /// Takes a comma, where there is one.
+    #[tactic(auto, unfolding(crate::specs::Reading::comma_if_any))]
+    pub fn comma_if_any(&mut self)
+        ensures { reading.comma_if_any self.old ≡ Ok (tt, self.new) }
+    {
+        if self.sees(Punct::Comma) {
+            self.take();
+        }
+    }
+
+    /// Whether a comma is next that goes on in a list in braces, which one before a `}` does not.
+    #[tactic(auto, unfolding(crate::specs::Readers::goes_on))]
+    pub fn goes_on_in_braces(&self) -> bool
+        ensures { result ≡ reader.goes_on words.is_close_brace self.now }
+    {
+        self.sees(Punct::Comma) && !is_close_brace(self.second())
+    }
+
+    /// Whether a comma is next that goes on in a list of parameters, which one before a `...` does not.
+    #[tactic(auto, unfolding(crate::specs::Readers::goes_on))]
+    pub fn goes_on_in_parameters(&self) -> bool
+        ensures { result ≡ reader.goes_on reading.is_ellipsis self.now }
+    {
+        self.sees(Punct::Comma) && !is_ellipsis(self.second())
+    }
+
+    /// Takes `, ...`, where a comma is next, and tells whether it was.
+    #[tactic(auto, unfolding(crate::specs::Reading::dots))]
+    pub fn dots(&mut self) -> Result<bool, Fault>
+        ensures { Gives (reading.dots self.old) result self.new }
+    {
+        if !self.sees(Punct::Comma) {
+            return Ok(false);
+        }
+        self.take();
+        self.expect(Punct::Ellipsis)?;
+        Ok(true)
+    }
+
+    /// Whether a declarator begins here, where it has a name by this rule.
+    pub fn begins_declarator(&self, naming: Naming) -> bool
+        ensures { result ≡ reading.begins_declarator naming self.now }
+    {
+        (self.sees(Punct::Star) || self.sees(Punct::OpenParen))
+            || ((self.peek() == TokenKind::Word && naming.may_name())
+                || (self.sees(Punct::OpenBracket) && naming.may_omit()))
+    }
+
+    /// Whether the next token, a `(`, opens a Group, where a declarator has a name by this rule.
+    pub fn opens_group(&self, naming: Naming) -> bool
+        ensures { result ≡ heads.is_group naming (spec.next self.now) }
+    {
+        match naming {
+            Naming::Named => true,
+            Naming::Abstract | Naming::Either => {
+                self.second() != TokenKind::Punct(Punct::CloseParen)
+                    && !self.second_begins_specifiers()
+            }
+        }
+    }
+
+    /// Declares the name of a declarator, where it has one.
+    pub fn declare_head(&mut self, head: Head, typedef: bool) -> Result<(), NoMemory>
+        ensures { OnOk result (self.new ≡ heads.declare_head head typedef self.old) }
+    {
+        match head {
+            Head::Abstract => Ok(()),
+            Head::Bare(name) => self.declare(name, typedef),
+            Head::Function(name, _) => self.declare(name, typedef),
+            Head::Other(name) => self.declare(name, typedef),
+        }
+    }
+
+    /// Declares names one after another.
+    #[tactic(auto, unfolding(crate::specs::Input::with_names))]
+    pub fn declare_all(&mut self, names: Seq<(Name, bool)>) -> Result<(), NoMemory>
+        ensures { OnOk result (self.new ≡ spec.with_names names self.old) }
+    {
+        self.names.append(&mut names.into_vec())?;
+        Ok(())
+    }
+
+    /// Ends the scopes of the names that were declared since there were so many, and hands them out.
+    #[tactic(auto, unfolding(crate::specs::Input::declared_since))]
+    pub fn leave_with_names(&mut self, mark: usize) -> Result<Seq<(Name, bool)>, NoMemory>
+        requires { mark ≤ length self.old.names }
+        ensures names { IfOk result (λ names. names ≡ drop mark self.old.names) }
+        ensures rest { OnOk result (self.new ≡ record self.old { names = take mark self.old.names }) }
+    {
+        Ok(Seq::new(self.names.split_off(mark)?))
     }
 }

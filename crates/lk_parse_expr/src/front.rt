@@ -131,3 +131,10 @@ pub fn infix_level(between: Infix) -> u8
         Infix::Binary(operator) => level_of(operator),
     }
 }
+
+/// Whether a token begins an expression.
+pub fn begins_expr(kind: TokenKind) -> bool
+    ensures { result ≡ spec.is_start (spec.start_of kind) }
+{
+    is_start(start_of(kind))
+}

@@ -2,6 +2,7 @@
 #![tactic(auto)]
 
 mod cursor;
+mod expression;
 mod found;
 mod front;
 mod naming;
@@ -9,4 +10,5 @@ mod words;
 
 pub use cursor::Cursor;
 pub use found::Found;
+pub use front::begins_expr;
 pub use naming::{Head, Naming};

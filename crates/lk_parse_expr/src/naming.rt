@@ -1,5 +1,8 @@
 //! Whether a declarator has a name.
 
+ghost use Rattle.std.specs.Prelude.{◌≡◌};
+ghost use Rattle.lk_parse_expr.specs.Heads as spec;
+
 use lk_base::{Name, Seq};
 
 /// Whether a declarator has a name, where it stands.
@@ -13,6 +16,30 @@ pub enum Naming {
     Either,
 }
 
+impl Naming {
+    /// Whether a declarator may have a name.
+    pub fn may_name(self) -> bool
+        ensures { result ≡ spec.may_name self }
+    {
+        match self {
+            Naming::Named => true,
+            Naming::Abstract => false,
+            Naming::Either => true,
+        }
+    }
+
+    /// Whether a declarator may be without a name.
+    pub fn may_omit(self) -> bool
+        ensures { result ≡ spec.may_omit self }
+    {
+        match self {
+            Naming::Named => false,
+            Naming::Abstract => true,
+            Naming::Either => true,
+        }
+    }
+}
+
 /// What a declarator declares, by its name and the part beside the name.
 #[derive(Drop)]
 pub enum Head {
@@ -24,4 +51,30 @@ pub enum Head {
     Function(Name, Seq<(Name, bool)>),
     /// Its part beside this name is a pointer or an array.
     Other(Name),
+}
+
+impl Head {
+    /// What is declared with a `*` before it or an array behind it.
+    pub fn other(self) -> Head
+        ensures { result ≡ spec.other self }
+    {
+        match self {
+            Head::Abstract => Head::Abstract,
+            Head::Bare(name) => Head::Other(name),
+            Head::Function(name, parameters) => Head::Function(name, parameters),
+            Head::Other(name) => Head::Other(name),
+        }
+    }
+
+    /// What is declared with parameters behind it that declare these names.
+    pub fn called(self, parameters: Seq<(Name, bool)>) -> Head
+        ensures { result ≡ spec.called parameters self }
+    {
+        match self {
+            Head::Abstract => Head::Abstract,
+            Head::Bare(name) => Head::Function(name, parameters),
+            Head::Function(name, first) => Head::Function(name, first),
+            Head::Other(name) => Head::Other(name),
+        }
+    }
 }

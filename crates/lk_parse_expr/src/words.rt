@@ -1,6 +1,7 @@
 //! What tokens mean in the grammar.
 ghost use Rattle.std.specs.Prelude.{◌≡◌, ◌≤◌};
 ghost use Rattle.lk_parse_expr.specs.Words as spec;
+ghost use Rattle.lk_parse_expr.specs.Reading as reading;
 
 use lk_lex::{Keyword, Punct, TokenKind};
 use lk_tree::{AssignOperator, BinaryOperator, Qualifier, Specifier, Storage, TypeWord};
@@ -148,5 +149,25 @@ pub fn is_specifier_word(kind: TokenKind) -> bool
     match kind {
         TokenKind::Key(Keyword::Struct | Keyword::Enum) => true,
         _ => specifier_of(kind).is_some(),
+    }
+}
+
+/// Whether a token is a `}`.
+pub fn is_close_brace(kind: TokenKind) -> bool
+    ensures { result ≡ spec.is_close_brace kind }
+{
+    match kind {
+        TokenKind::Punct(Punct::CloseBrace) => true,
+        _ => false,
+    }
+}
+
+/// Whether a token is a `...`.
+pub fn is_ellipsis(kind: TokenKind) -> bool
+    ensures { result ≡ reading.is_ellipsis kind }
+{
+    match kind {
+        TokenKind::Punct(Punct::Ellipsis) => true,
+        _ => false,
     }
 }
