@@ -1,5 +1,5 @@
 -- The numbers in a whole program are in range.
-use Rattle.std.proofs.Common.{◌≡◌, ℕ, ◌+◌, ◌*◌, ◌<◌, ◌≤◌, Bool, true, false, not, if◌then◌else◌, List, [], ◌∷◌, ◌++◌, length, map, sum_by, Some, None, pos, refl, sym, ap, ◌∙◌, subst, length-append, arith}
+use Rattle.std.proofs.Common.{◌≡◌, ℕ, ◌+◌, ◌*◌, ◌^◌, ◌<◌, ◌≤◌, Bool, true, false, not, if◌then◌else◌, List, [], ◌∷◌, ◌++◌, length, map, sum_by, Some, None, pos, refl, sym, ap, ◌∙◌, subst, length-append, arith}
 use Rattle.std.specs.Prelude.{count_by, is_some, IfSome}
 use Rattle.std.specs.List.{AllByRecursion}
 use Rattle.std.proofs.lemmas.List.Elements.{All-from_recursion}
@@ -84,6 +84,10 @@ module _ (sizes : Sizes) (vs : List Variable) (typed : 20 ≤ sizes.types) (root
   result_within false true = omega arith
   result_within false false = omega arith
 
+  few : {X : Type 0} (takes : Bool) (x : X) → length (if takes then x ∷ [] else []) < 2 ^ 32
+  few true x = omega arith
+  few false x = omega arith
+
   pub functions_within : (first f n : ℕ) (rs : List Routine) → first + f + length rs ≤ sizes.roots → f + length rs ≤ sizes.functions → n + total f rs ≤ sizes.points
       → AllByRecursion (IsFunctionInRange sizes) (functions_from first f n rs)
   functions_within first f n [] rooted known room = tt
@@ -95,6 +99,8 @@ module _ (sizes : Sizes) (vs : List Variable) (typed : 20 ≤ sizes.types) (root
       entry = omega (arith, at_least f r);
       exit = omega (arith, at_least f r);
       parameters = All-from_recursion (IsHolderInRange sizes) _ (parameters_within r.takes f (omega arith));
+      few_parameters = few r.takes (Slot f 0);
+      few_slots = few r.takes pointer_type;
       value_site = tt;
     },
     functions_within first (f + 1) (n + routine_size f r) rs (omega arith) (omega arith) (omega arith),
