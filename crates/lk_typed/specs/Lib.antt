@@ -1,0 +1,16 @@
+pub mod Ty
+pub mod Env
+pub mod Typing
+pub mod Sizes
+pub mod Addresses
+pub mod Conversions
+pub mod Constants
+pub mod Operators
+pub mod Places
+pub mod Assignments
+pub mod Statics
+pub mod Library
+pub mod Words
+pub mod Calls
+pub mod Forms
+pub mod ExprRules

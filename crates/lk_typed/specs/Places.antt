@@ -1,0 +1,126 @@
+-- The operators before and behind an operand (C99 6.5.2.1, 6.5.2.3, 6.5.2.4, 6.5.3), and sizeof.
+use Rattle.std.specs.Prelude.{ℕ, Bool, false, not, ◌&&◌, ◌||◌, Option, Some, None, List, [], ◌∷◌, ◌++◌, if◌then◌else◌}
+use Rattle.lk_base.specs.declared.kind.Kind.{Kind}
+use Rattle.lk_base.specs.declared.kind.Kind.TheVariants as kind
+use Rattle.lk_base.specs.declared.code.Code.{Code}
+use Rattle.lk_base.specs.declared.code.Code.TheVariants.{Mismatch, NotAPlace, Incomplete, SizeofStruct}
+use Rattle.lk_arith.specs.declared.operators.UnaryOp.{UnaryOp}
+use Rattle.lk_arith.specs.declared.operators.UnaryOp.TheVariants as u
+use Rattle.lk_arith.specs.Conversions.{promoted}
+use Rattle.lk_arith.specs.Operators.{unary_kind}
+use Rattle.lk_tree.specs.declared.operators.PrefixOperator.{PrefixOperator}
+use Rattle.lk_tree.specs.declared.operators.PrefixOperator.TheVariants as prefix
+use Rattle.lk_typed.specs.Ty.{Ty, Pointer, kind_of, target_of, struct_of, is_void, is_integer, is_pointer, is_function}
+use Rattle.lk_typed.specs.Env.{Env, Name, Field, Members, NotYet, Known as KnownMembers, Faulty, members_of, field_of}
+use Rattle.lk_typed.specs.Typing.{Typing, NotConstant, Address, Verdict, Typed, Broken, Silent, value_of_type, place_of_type, integer, if_so, unless}
+use Rattle.lk_typed.specs.Sizes.{is_complete, is_broken, holds_struct_or_lock, bytes_in, constant_of_bytes}
+use Rattle.lk_typed.specs.Addresses.{first_inside, moved, value}
+use Rattle.lk_typed.specs.Constants.{unary_constant}
+use Rattle.lk_typed.specs.Operators.{is_condition, is_steppable, must_be, by_row}
+
+-- ---- & and * (C99 6.5.3.2)
+
+-- & takes a place or a function; of a place it keeps the address
+abbrev pub address_of : Typing → Typing
+address_of e = record { type = Pointer e.type; is_place = false; constant = NotConstant; is_null = false; address = e.address }
+
+abbrev pub address_rule : Typing → Verdict
+address_rule e = unless (if_so (not (e.is_place || is_function e.type)) NotAPlace) (address_of e)
+
+-- what * gives: a function from a pointer to one, else a place, of any type but void; & of it gives the address back (C99 6.5.3.2, 3)
+abbrev pub pointed : Typing → Ty → Option Typing
+pointed e target =
+    if is_void target then None
+    else Some (record { type = target; is_place = not (is_function target); constant = NotConstant; is_null = false; address = e.address })
+
+abbrev pub indirect : Typing → Option Ty → Option Typing
+indirect e None = None
+indirect e (Some target) = pointed e target
+
+abbrev pub indirection_rule : Typing → Verdict
+indirection_rule e = by_row (must_be is_pointer e) (indirect e (target_of e.type))
+
+-- ---- + - ~ ! (C99 6.5.3.3)
+
+abbrev pub at_promoted_kind : UnaryOp → Typing → Option Kind → Option Typing
+at_promoted_kind o e None = None
+at_promoted_kind o e (Some k) = Some (integer (unary_kind o (promoted k)) (unary_constant o (promoted k) e.constant))
+
+abbrev pub arithmetic_rule : UnaryOp → Typing → Verdict
+arithmetic_rule o e = by_row (must_be is_integer e) (at_promoted_kind o e (kind_of e.type))
+
+-- ! of a pointer is no constant
+abbrev pub not_of : Typing → Option Kind → Typing
+not_of e None = integer kind.Int NotConstant
+not_of e (Some k) = integer kind.Int (unary_constant u.Not (promoted k) e.constant)
+
+abbrev pub not_rule : Typing → Verdict
+not_rule e = unless (must_be is_condition e) (not_of e (kind_of e.type))
+
+-- the operators before an operand; & alone takes it as it is, the others take its value
+abbrev pub prefix_rule : PrefixOperator → Typing → Verdict
+prefix_rule prefix.Address e = address_rule e
+prefix_rule prefix.Indirection e = indirection_rule (value e)
+prefix_rule prefix.Plus e = arithmetic_rule u.Plus (value e)
+prefix_rule prefix.Minus e = arithmetic_rule u.Negate (value e)
+prefix_rule prefix.Complement e = arithmetic_rule u.Complement (value e)
+prefix_rule prefix.Not e = not_rule (value e)
+
+-- ---- e[i] (C99 6.5.2.1): *(e + i), with the pointer on the left
+
+abbrev pub element_of : Typing → Typing → Option Ty → Option Typing
+element_of e i None = None
+element_of e i (Some target) = Some (place_of_type target (moved e.address i.constant))
+
+-- both are values
+abbrev pub index_rule : Env → Typing → Typing → Verdict
+index_rule env e i = by_row (must_be (is_steppable env) e ++ must_be is_integer i) (element_of e i (target_of e.type))
+
+-- ---- . and -> (C99 6.5.2.3)
+
+abbrev pub member_in : Address → Option Field → Verdict
+member_in address None = Broken (Mismatch ∷ [])
+member_in address (Some field) = Typed (place_of_type field.type (first_inside (Some 1) address))
+
+-- a member of a struct; what it says of an incomplete one differs between . and ->
+abbrev pub member_of : Code → Address → Name → Members → Verdict
+member_of when_incomplete address name NotYet = Broken (when_incomplete ∷ [])
+member_of when_incomplete address name (KnownMembers fields) = member_in address (field_of fields name)
+member_of when_incomplete address name Faulty = Silent
+
+abbrev pub dot_of : Env → Typing → Name → Option ℕ → Verdict
+dot_of env e name None = Broken (Mismatch ∷ [])
+dot_of env e name (Some s) = if e.is_place then member_of Mismatch e.address name (members_of env s) else Broken (Mismatch ∷ [])
+
+-- . takes a place of struct type
+abbrev pub dot_rule : Env → Typing → Name → Verdict
+dot_rule env e name = dot_of env e name (struct_of e.type)
+
+-- what -> says of its pointer's target: of a struct its member; of void 22; of another incomplete type 25; else 22
+abbrev pub arrow_target : Env → Typing → Name → Ty → Option ℕ → Verdict
+arrow_target env e name target None = if is_void target || is_function target || is_complete env target then Broken (Mismatch ∷ []) else Broken (Incomplete ∷ [])
+arrow_target env e name target (Some s) = member_of Incomplete e.address name (members_of env s)
+
+abbrev pub arrow_of : Env → Typing → Name → Option Ty → Verdict
+arrow_of env e name None = Broken (must_be is_pointer e)
+arrow_of env e name (Some target) = arrow_target env e name target (struct_of target)
+
+-- -> takes a value
+abbrev pub arrow_rule : Env → Typing → Name → Verdict
+arrow_rule env e name = arrow_of env e name (target_of e.type)
+
+-- ---- ++ and -- (C99 6.5.2.4, 6.5.3.1): of a place that holds an integer or a pointer to a complete object type
+
+abbrev pub is_counted : Env → Ty → Bool
+is_counted env t = is_integer t || is_steppable env t
+
+abbrev pub step_rule : Env → Typing → Verdict
+step_rule env e = unless (if_so (not e.is_place) NotAPlace ++ must_be (is_counted env) e) (value_of_type e.type)
+
+-- ---- sizeof (C99 6.5.3.4): of a complete object type; of one that holds a struct, mutex or condition variable only in an allocation's size
+
+abbrev pub sizeof_codes : Env → Ty → List Code
+sizeof_codes env t = if_so (not (is_complete env t)) Incomplete ++ if_so (holds_struct_or_lock t && not env.in_size) SizeofStruct
+
+abbrev pub sizeof_rule : Env → Ty → Verdict
+sizeof_rule env t = if is_broken env t then Silent else unless (sizeof_codes env t) (integer kind.ULong (constant_of_bytes (bytes_in t)))
