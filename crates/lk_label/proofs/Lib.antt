@@ -1,3 +1,4 @@
+pub mod HolderLists
 pub mod PartLists
 pub mod WalkSteps
 pub mod Walks
