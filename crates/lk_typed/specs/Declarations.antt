@@ -1,0 +1,114 @@
+-- What declarations add (C99 6.7, 6.2.2, 6.2.7, 6.9.1, 6.9.2): each declared name stands from the end of its declarator on, so in its own initialiser too (6.2.1, 7).
+use Rattle.std.specs.Prelude.{ℕ, Bool, true, false, Option, Some, None, List, [], ◌∷◌, nat_eq, if◌then◌else◌}
+use Rattle.lk_tree.specs.declared.declaration.Declare.{Declare}
+use Rattle.lk_tree.specs.declared.declaration.Init.{Init}
+use Rattle.lk_tree.specs.declared.declaration.InitDeclarator.{InitDeclarator}
+use Rattle.lk_tree.specs.declared.specifiers.Storage.{Storage}
+use Rattle.lk_typed.specs.DeclarationRules.{Scope, Given, Bare, Initialised, has, is_extern, linkage_of, defines_of, meaning_of}
+use Rattle.lk_typed.specs.Env.{Env, Additions, Name, Declared, nothing, both, extend, look_up}
+use Rattle.lk_typed.specs.Initialisers.{completed_by}
+use Rattle.lk_typed.specs.Nodes.{Tells}
+use Rattle.lk_typed.specs.Redeclared.{is_linked_alike, object_type}
+use Rattle.lk_typed.specs.Told.{SpecifierTold, Named, type_of}
+use Rattle.lk_typed.specs.Ty.{Ty, Void, Int, ThreadId, Mutex, Cond, Pointer, Array, Struct, Function, Opaque, array_of, is_function, is_redeclarable}
+
+-- the size that one of two declarations gives
+abbrev pub sized : ℕ → ℕ → ℕ
+sized n m = if nat_eq n 0 then m else n
+
+abbrev pub with_size_of : Ty → ℕ → Option (Ty × ℕ) → Ty
+with_size_of t n None = Array t n
+with_size_of t n (Some other) = Array t (sized n other.1)
+
+-- the type of two declarations of one object (C99 6.2.7, 3): an array has the size that either of them gives
+abbrev pub composite : Ty → Ty → Ty
+composite Void old = Void
+composite (Int k) old = Int k
+composite ThreadId old = ThreadId
+composite Mutex old = Mutex
+composite Cond old = Cond
+composite (Pointer t) old = Pointer t
+composite (Array t n) old = with_size_of t n (array_of old)
+composite (Struct s) old = Struct s
+composite (Function result params dots) old = Function result params dots
+composite (Opaque n) old = Opaque n
+
+abbrev pub composite_if_equal : Ty → Option Ty → Ty
+composite_if_equal t None = t
+composite_if_equal t (Some old) = if is_redeclarable t old then composite t old else t
+
+-- the type of an object with linkage that is declared before (C99 6.2.7, 4)
+abbrev pub old_type : Option Declared → Option Ty
+old_type None = None
+old_type (Some old) = if is_linked_alike old.linkage old.linkage then object_type old.meaning else None
+
+abbrev pub given_by : Option Init → Given
+given_by None = Bare
+given_by (Some init) = Initialised
+
+-- whether `[]` may stand in a declarator: extern, or with an initialiser
+abbrev pub may_lack_size : List Storage → Option Init → Bool
+may_lack_size ss None = has is_extern ss
+may_lack_size ss (Some init) = true
+
+-- the type with the size that an initialiser gives (C99 6.7.8, 22)
+abbrev pub completed : Tells → Option Ty → Option Init → Option Ty
+completed tells None init = None
+completed tells (Some t) None = Some t
+completed tells (Some t) (Some init) = Some (completed_by tells init t)
+
+abbrev pub type_with_old : Env → Name → Option Ty → Option Ty
+type_with_old env name None = None
+type_with_old env name (Some t) = Some (composite_if_equal t (old_type (look_up env name)))
+
+abbrev pub is_function_type : Option Ty → Bool
+is_function_type None = false
+is_function_type (Some t) = is_function t
+
+-- a declared name (C99 6.2.2, 6.2.4); its declaration is faulty where its type is missing
+abbrev pub declared_as : Env → Scope → List Storage → Given → Name → Option Ty → Declared
+declared_as env scope ss given name t =
+    record {
+      name = name;
+      meaning = meaning_of scope ss (type_with_old env name t);
+      linkage = linkage_of env scope ss (is_function_type t) name;
+      defines = defines_of scope ss (is_function_type t) given;
+    }
+
+abbrev pub one_name : Declared → Additions
+one_name d = record { declared = d ∷ []; tags = []; structs = [] }
+
+abbrev pub named_additions : Env → Scope → List Storage → Given → Option Named → Option Ty → Additions
+named_additions env scope ss given None t = nothing
+named_additions env scope ss given (Some named) t = one_name (declared_as env scope ss given named.name t)
+
+abbrev pub initialiser_adds : Tells → Env → Option Init → Additions
+initialiser_adds tells env None = nothing
+initialiser_adds tells env (Some init) = tells.initialiser init env
+
+-- a declarator with its initialiser: what it adds up to its name, and what the initialiser adds behind that
+abbrev pub name_adds : Tells → Scope → SpecifierTold → Env → InitDeclarator → Additions
+name_adds tells scope told env d =
+    let inner = tells.declarator d.declarator in
+    let a = inner.additions env in
+    let t = inner.type env (may_lack_size told.storages d.init) (type_of told) in
+    both a (named_additions (extend env a) scope told.storages (given_by d.init) inner.name (completed tells t d.init))
+
+abbrev pub declarator_adds : Tells → Scope → SpecifierTold → Env → InitDeclarator → Additions
+declarator_adds tells scope told env d =
+    let a = name_adds tells scope told env d in
+    both a (initialiser_adds tells (extend env a) d.init)
+
+abbrev pub declarators_add : Tells → Scope → SpecifierTold → Env → List InitDeclarator → Additions
+declarators_add tells scope told env [] = nothing
+declarators_add tells scope told env (d ∷ ds) = let a = declarator_adds tells scope told env d in both a (declarators_add tells scope told (extend env a) ds)
+
+abbrev pub is_alone : List InitDeclarator → Bool
+is_alone [] = true
+is_alone (d ∷ ds) = false
+
+-- what a declaration adds
+abbrev pub declaration_adds : Tells → Scope → Env → Declare → Additions
+declaration_adds tells scope env node =
+    let told = tells.specifiers node.specifiers env (is_alone node.declarators) in
+    both told.additions (declarators_add tells scope told (extend env told.additions) node.declarators)

@@ -1,0 +1,202 @@
+-- What each layer of a declaration tells, from what its parts tell (C99 6.7.2 to 6.7.6). X is what an expression tells; given are its additions and its value where
+-- it is an integer constant expression.
+use Rattle.std.specs.Prelude.{ℕ, ◌&&◌, Bool, true, false, not, Option, Some, None, List, [], ◌∷◌, ◌++◌, if◌then◌else◌, ℤ}
+use Rattle.lk_base.specs.declared.spot.Spot.{Spot}
+use Rattle.lk_typed.specs.declared.entity.Linkage.TheVariants as linkage
+use Rattle.lk_typed.specs.declared.entity.Defines.TheVariants as defines
+use Rattle.lk_typed.specs.DeclaratorRules.{Size, adjusted, array_rules, array_type, function_rules, parameter_rules, pointer_rules}
+use Rattle.lk_typed.specs.Env.{Env, Additions, Name, AnObject, AFaultyName, Field, nothing, both, past_scope, extend, enter}
+use Rattle.lk_typed.specs.Faults.{Breach}
+use Rattle.lk_typed.specs.MemberRules.{member_rules}
+use Rattle.lk_typed.specs.Told.{SpecifierTold, SpecifierTeller, Named, DeclaratorTold, TypeTold, MemberTold, ItemTold, MemberTeller, with_optional, unless_broken, then_type, some_type, specifiers, type_of, then_member, no_member, enumerator, declares}
+use Rattle.lk_typed.specs.Ty.{Ty, Pointer, Function, is_void, types_of}
+
+-- a form that waits for the place and number of its node
+abbrev pub Placed : Type 0 → Type 0
+Placed A = Spot → ℕ → A
+
+-- ---- declarators (C99 6.7.5)
+
+abbrev pub bare : DeclaratorTold
+bare = record { name = None; additions = λ env. nothing; type = λ env may_be_absent t. t; parameters = λ env. nothing }
+
+-- `* declarator`
+abbrev pub pointer_told : DeclaratorTold → DeclaratorTold
+pointer_told inner =
+    record {
+      name = inner.name;
+      additions = inner.additions;
+      type = λ env may_be_absent t. inner.type env may_be_absent (unless_broken (pointer_rules t) (some_type Pointer t));
+      parameters = inner.parameters;
+    }
+
+-- `declarator[size]`: the size stands behind the declarator inside
+abbrev pub array_told : DeclaratorTold → (Env → Size) → (Env → Additions) → DeclaratorTold
+array_told inner size added =
+    record {
+      name = inner.name;
+      additions = λ env. let a = inner.additions env in both a (added (extend env a));
+      type = λ env may_be_absent t. let n = size (extend env (inner.additions env)) in
+          inner.type env may_be_absent (unless_broken (array_rules env may_be_absent t n) (then_type t (array_type n)));
+      parameters = inner.parameters;
+    }
+
+-- ---- parameters
+
+-- what the parameters of a list tell, each in the environment behind those before it
+abbrev pub ParameterTeller : Type 0
+ParameterTeller = Env → TypeTold
+
+pub record ParametersTold : Type 0 where
+  pub additions : Additions
+  -- their types, missing where one of them is faulty
+  pub types : Option (List Ty)
+
+abbrev pub no_parameter : ParametersTold
+no_parameter = record { additions = nothing; types = Some [] }
+
+abbrev pub one_more : Option Ty → Option (List Ty) → Option (List Ty)
+one_more None ts = None
+one_more (Some t) None = None
+one_more (Some t) (Some ts) = Some (t ∷ ts)
+
+abbrev pub each_parameter : List ParameterTeller → Env → ParametersTold
+each_parameter [] env = no_parameter
+each_parameter (p ∷ ps) env =
+    let first = p env in
+    let others = each_parameter ps (extend env first.additions) in
+    record { additions = both first.additions others.additions; types = one_more first.type others.types }
+
+-- `(void)` is no parameter (C99 6.7.5.3, 10)
+abbrev pub unless_void : ParameterTeller → Bool → Env → ParametersTold
+unless_void p dots env = if (p env).is_bare_void && not dots then record no_parameter { additions = (p env).additions } else each_parameter (p ∷ []) env
+
+abbrev pub parameters_of : List ParameterTeller → Bool → Env → ParametersTold
+parameters_of [] dots env = no_parameter
+parameters_of (p ∷ []) dots env = unless_void p dots env
+parameters_of (p ∷ q ∷ ps) dots env = each_parameter (p ∷ q ∷ ps) env
+
+abbrev pub function_type : Bool → Option (List Ty) → Ty → Option Ty
+function_type dots None result = None
+function_type dots (Some params) result = Some (Function result (types_of params) dots)
+
+-- `declarator(parameters)`, where the declarator may be the name itself, perhaps in parentheses
+abbrev pub function_told : DeclaratorTold → Bool → List ParameterTeller → Bool → DeclaratorTold
+function_told inner is_beside ps dots =
+    record {
+      name = inner.name;
+      additions = λ env. let a = inner.additions env in both a (past_scope (parameters_of ps dots (enter (extend env a))).additions);
+      type = λ env may_be_absent t. let told = parameters_of ps dots (enter (extend env (inner.additions env))) in
+          inner.type env may_be_absent (unless_broken (function_rules t) (then_type t (function_type dots told.types)));
+      parameters = if is_beside then (λ env. (parameters_of ps dots env).additions) else inner.parameters;
+    }
+
+-- a declarator with the question whether it is the name alone, perhaps in parentheses
+pub record DeclaratorLayer : Type 0 where
+  pub told : DeclaratorTold
+  pub is_name : Bool
+
+abbrev pub layer : DeclaratorTold → Bool → DeclaratorLayer
+layer told is_name = record { told = told; is_name = is_name }
+
+abbrev pub inner_of : Option DeclaratorLayer → DeclaratorLayer
+inner_of told = with_optional (layer bare false) (λ inner. inner) told
+
+abbrev pub named_told : Name → Placed DeclaratorTold
+named_told name spot ordinal = record bare { name = Some (record { name = name; spot = spot; ordinal = ordinal }) }
+
+abbrev pub pointer_layer : Option DeclaratorLayer → DeclaratorLayer
+pointer_layer inner = layer (pointer_told (inner_of inner).told) false
+
+abbrev pub function_layer : Option DeclaratorLayer → List ParameterTeller → Bool → DeclaratorLayer
+function_layer inner ps dots = layer (function_told (inner_of inner).told (inner_of inner).is_name ps dots) false
+
+-- ---- a declarator behind its specifiers
+
+-- the type, and the environment behind them both
+pub record Whole : Type 0 where
+  pub type : Option Ty
+  pub additions : Additions
+  pub name : Option Named
+
+abbrev pub with_declarator : Env → Bool → SpecifierTold → Option DeclaratorLayer → Whole
+with_declarator env may_be_absent told inner =
+    let d = (inner_of inner).told in
+    let after = extend env told.additions in
+    record { type = d.type after may_be_absent (type_of told); additions = both told.additions (d.additions after); name = d.name }
+
+-- a parameter's own declaration (C99 6.2.1, 4)
+abbrev pub parameter_name : Option Named → Option Ty → Additions
+parameter_name None t = nothing
+parameter_name (Some named) None = declares named.name AFaultyName
+parameter_name (Some named) (Some t) = declares named.name (AnObject t false)
+
+abbrev pub is_missing : {A : Type 0} → Option A → Bool
+is_missing None = true
+is_missing (Some a) = false
+
+abbrev pub is_none_broken : List Breach → Bool
+is_none_broken [] = true
+is_none_broken (breach ∷ others) = false
+
+abbrev pub has_name : Option Named → Bool
+has_name None = false
+has_name (Some named) = true
+
+-- a parameter's type, adjusted, unless a rule is broken; void with a name is 25 there
+abbrev pub parameter_type : Option Named → Option Ty → Option Ty
+parameter_type named None = None
+parameter_type named (Some t) = if is_void t then None else unless_broken (parameter_rules (has_name named) (Some t)) (Some (adjusted t))
+
+abbrev pub is_void_type : Option Ty → Bool
+is_void_type None = false
+is_void_type (Some t) = is_void t
+
+abbrev pub parameter_told : List SpecifierTeller → Option DeclaratorLayer → ParameterTeller
+parameter_told ss inner env =
+    let told = specifiers ss env false in
+    let whole = with_declarator env true told inner in
+    let t = parameter_type whole.name whole.type in
+    record {
+      additions = both whole.additions (parameter_name whole.name t);
+      type = t;
+      is_bare_void = is_missing inner && is_void_type (type_of told);
+    }
+
+abbrev pub type_name_told : List SpecifierTeller → Option DeclaratorLayer → Env → TypeTold
+type_name_told ss inner env =
+    let whole = with_declarator env false (specifiers ss env false) inner in
+    record { additions = whole.additions; type = whole.type; is_bare_void = false }
+
+-- ---- members
+
+-- a declarator of a member, given the environment, the type on its left and the fields before it
+abbrev pub MemberDeclaratorTeller : Type 0
+MemberDeclaratorTeller = Env → Option Ty → List Field → MemberTold
+
+abbrev pub faulty_member : Additions → MemberTold
+faulty_member additions = record { additions = additions; fields = []; sound = false }
+
+abbrev pub field_told : Env → List Field → Additions → Option Named → Option Ty → MemberTold
+field_told env before additions None t = faulty_member additions
+field_told env before additions (Some named) None = faulty_member additions
+field_told env before additions (Some named) (Some t) =
+    if is_none_broken (member_rules env before named.name t) then record { additions = additions; fields = record { name = named.name; type = t } ∷ []; sound = true } else faulty_member additions
+
+abbrev pub plain_member : DeclaratorLayer → MemberDeclaratorTeller
+plain_member inner env t before = field_told (extend env (inner.told.additions env)) before (inner.told.additions env) inner.told.name (inner.told.type env false t)
+
+abbrev pub declarators_in_turn : List MemberDeclaratorTeller → MemberDeclaratorTeller
+declarators_in_turn [] env t before = no_member
+declarators_in_turn (d ∷ ds) env t before = let first = d env t before in then_member first (declarators_in_turn ds (extend env first.additions) t (before ++ first.fields))
+
+abbrev pub member_told : List SpecifierTeller → List MemberDeclaratorTeller → MemberTeller
+member_told ss ds env before =
+    let told = specifiers ss env false in
+    let inside = declarators_in_turn ds (extend env told.additions) (type_of told) before in
+    record inside { additions = both told.additions inside.additions }
+
+-- ---- enumerators
+
+abbrev pub item_told : Name → Additions → Option ℤ → ItemTold
+item_told name added value = record { additions = both added (declares name (enumerator value)); value = value }

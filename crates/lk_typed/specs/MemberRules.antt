@@ -1,0 +1,30 @@
+-- The rules of members of a struct (C99 6.7.2.1).
+use Rattle.std.specs.Prelude.{ℕ, ◌&&◌, ◌++◌, not, List, [], ◌∷◌, map, is_some, if◌then◌else◌}
+use Rattle.lk_base.specs.declared.code.Code.TheVariants.{Redeclared, Incomplete, LargeType}
+use Rattle.lk_typed.specs.Bounds.{is_large, is_large_struct}
+use Rattle.lk_typed.specs.DeclaratorRules.{is_complete, unless}
+use Rattle.lk_typed.specs.Env.{Env, Name, Members, NotYet, Known, Faulty, Field, field_of, members_of}
+use Rattle.lk_typed.specs.Faults.{Breach, breach_of}
+use Rattle.lk_typed.specs.Ty.{Ty}
+
+abbrev pub types_in : Members → List Ty
+types_in NotYet = []
+types_in (Known fields) = map (λ field. field.type) fields
+types_in Faulty = []
+
+-- the types of the members of each struct
+abbrev pub fields_in : Env → ℕ → List Ty
+fields_in env s = types_in (members_of env s)
+
+-- the rules of a member's name: 21 where the struct has it already; 25 where its type is incomplete, void or a function (C99 6.7.2.1, 2)
+abbrev pub member_rules : Env → List Field → Name → Ty → List Breach
+member_rules env before name t = (if is_some (field_of before name) then breach_of Redeclared name ∷ [] else []) ++ unless (is_complete env t) Incomplete
+
+-- 32 of a declarator
+abbrev pub large_rules : Env → Ty → List Breach
+large_rules env t = unless (not (is_large (fields_in env) t)) LargeType
+
+-- 32 of a member's declarator: its type, or the struct up to and with it
+abbrev pub large_member_rules : Env → List Field → Ty → List Breach
+large_member_rules env before t =
+    unless (not (is_large (fields_in env) t) && not (is_large_struct (fields_in env) (map (λ field. field.type) before ++ t ∷ []))) LargeType
