@@ -1,4 +1,5 @@
 pub mod Code
 pub mod Files
 pub mod Status
+pub mod Steps
 pub mod formers

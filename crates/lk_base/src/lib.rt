@@ -2,6 +2,7 @@
 #![tactic(auto)]
 
 mod boxed;
+mod cell;
 mod code;
 mod fault;
 mod files;
@@ -15,6 +16,7 @@ mod spot;
 mod status;
 
 pub use boxed::Boxed;
+pub use cell::CellStep;
 pub use code::{Code, no_two_codes_share_a_number};
 pub use fault::Fault;
 pub use files::Files;

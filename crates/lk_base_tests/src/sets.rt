@@ -13,6 +13,10 @@ fn a_set_is_sorted_and_meets_and_joins_another(rt: HostRuntime) -> Result<(), Fa
     assert!(rt; both.ids() == [4].as_slice());
     let either = set.union(&other)?;
     assert!(rt; either.ids() == [1, 4, 9].as_slice());
+    let again = either.copy()?;
+    assert!(rt; again.ids() == [1, 4, 9].as_slice());
+    let none = IdSet::empty(alloc);
+    assert!(rt; none.ids().is_empty());
     Ok(())
 }
 

@@ -4,9 +4,9 @@ use Rattle.std.specs.Option.{option_map, option_or, option_and_then}
 use Rattle.std.proofs.Math.Seq.{drop-cons, take-suc}
 use Rattle.lk_types.specs.Table.{Table}
 use Rattle.lk_cells.specs.Parts.{form_of, part_at, type_along}
-use Rattle.lk_types.specs.Steps.{number_of}
+use Rattle.lk_base.specs.Steps.{number_of}
 use Rattle.lk_cells.specs.Moves.{before, whole_at, after_in, path_after, path_turned, next_step}
-use Rattle.lk_types.specs.declared.cell.CellStep.{CellStep}
+use Rattle.lk_base.specs.declared.cell.CellStep.{CellStep}
 
 -- where a step leads to no part, the path that goes on with it leads to none
 pub type_along-stops : (table : Table) (own : ℕ) (path : List CellStep) (i t : ℕ) (d : CellStep) → i < length path → part_at table own t (slice_index_or path i d) ≡ None → type_along table own (drop i path) t ≡ None

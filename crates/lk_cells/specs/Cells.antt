@@ -15,7 +15,7 @@ use Rattle.lk_cells.specs.declared.object.Initial.{Initial}
 use Rattle.lk_cells.specs.declared.object.Initial.TheVariants as initial
 use Rattle.lk_cells.specs.declared.object.Object.{Object}
 use Rattle.lk_values.specs.Values.{is_any_owned}
-use Rattle.lk_types.specs.declared.cell.CellStep.{CellStep}
+use Rattle.lk_base.specs.declared.cell.CellStep.{CellStep}
 use Rattle.lk_values.specs.declared.value.Condition.{Condition}
 use Rattle.lk_values.specs.declared.value.Condition.TheVariants as condition
 use Rattle.lk_values.specs.declared.value.Mutex.{Mutex}

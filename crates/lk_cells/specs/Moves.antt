@@ -5,13 +5,13 @@ use Rattle.lk_types.specs.Table.{Table}
 use Rattle.lk_types.specs.declared.c_type.CType.{CType}
 use Rattle.lk_cells.specs.Parts.{form_of, elements_of, members_in, part_at, type_along}
 use Rattle.lk_values.specs.Paths.{is_path, last_index, above, element_path}
-use Rattle.lk_types.specs.Steps.{number_of}
+use Rattle.lk_base.specs.Steps.{number_of}
 use Rattle.lk_values.specs.Pointers.{pointer_to, pointer_past, position_of}
 use Rattle.lk_values.specs.declared.cell.Cell.{Cell}
 use Rattle.lk_values.specs.declared.cell.Pointer.{Pointer}
 use Rattle.lk_cells.specs.declared.object.Object.{Object}
-use Rattle.lk_types.specs.declared.cell.CellStep.{CellStep}
-use Rattle.lk_types.specs.declared.cell.CellStep.TheVariants.{Field, Index}
+use Rattle.lk_base.specs.declared.cell.CellStep.{CellStep}
+use Rattle.lk_base.specs.declared.cell.CellStep.TheVariants.{Field, Index}
 
 -- The array that a pointer points into: that of the element that it points to or one past. A part that is no element counts
 -- as an array of one (C99 6.5.6, 7).

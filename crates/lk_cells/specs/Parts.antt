@@ -4,8 +4,8 @@ use Rattle.lk_types.specs.Table.{Table, members_of}
 use Rattle.lk_types.specs.declared.c_type.CType.{CType}
 use Rattle.lk_types.specs.declared.c_type.CType.TheVariants.{Void, Int, ThreadId, Mutex, Cond, Pointer, Array, Struct, Function, Opaque}
 use Rattle.lk_cells.specs.declared.parts.Elements.{Elements}
-use Rattle.lk_types.specs.declared.cell.CellStep.{CellStep}
-use Rattle.lk_types.specs.declared.cell.CellStep.TheVariants.{Field, Index}
+use Rattle.lk_base.specs.declared.cell.CellStep.{CellStep}
+use Rattle.lk_base.specs.declared.cell.CellStep.TheVariants.{Field, Index}
 
 -- the elements of an array by its form; one without a size has as many as its object says (C99 6.7.5.2)
 abbrev pub elements_of : ℕ → CType → Option Elements

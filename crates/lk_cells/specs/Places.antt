@@ -10,7 +10,7 @@ use Rattle.lk_values.specs.declared.cell.Cell.{Cell}
 use Rattle.lk_values.specs.declared.cell.Pointer.{Pointer as PointerTo}
 use Rattle.lk_cells.specs.declared.kind.CellKind.{CellKind}
 use Rattle.lk_cells.specs.declared.object.Object.{Object}
-use Rattle.lk_types.specs.declared.cell.CellStep.{CellStep}
+use Rattle.lk_base.specs.declared.cell.CellStep.{CellStep}
 use Rattle.lk_cells.specs.declared.state.State.{State}
 use Rattle.lk_values.specs.declared.value.Condition.{Condition}
 use Rattle.lk_values.specs.declared.value.Condition.TheVariants as condition

@@ -6,8 +6,8 @@ ghost use Rattle.lk_cells.specs.Moves as spec;
 
 use crate::object::Object;
 use crate::parts::{elements_of, form_of, member_count, part_at, type_along};
-use lk_base::NoMemory;
-use lk_types::{CType, CellStep, TypeId, TypeTable};
+use lk_base::{CellStep, NoMemory};
+use lk_types::{CType, TypeId, TypeTable};
 use lk_values::{Cell, Path, Pointer};
 
 /// How many elements the array at a path of an object has, none where there is no array.

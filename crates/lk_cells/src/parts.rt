@@ -3,7 +3,8 @@ ghost use Rattle.std.specs.Prelude.{◌≡◌, length, slice_get};
 ghost use Rattle.std.specs.Option.{option_copied};
 ghost use Rattle.lk_cells.specs.Parts as spec;
 
-use lk_types::{CType, CellStep, TypeId, TypeTable};
+use lk_base::CellStep;
+use lk_types::{CType, TypeId, TypeTable};
 
 /// The elements of an array: their type, and how many there are.
 #[derive(Clone, Copy)]

@@ -7,8 +7,8 @@ use crate::kind::CellKind;
 use crate::moves::moved;
 use crate::object::Object;
 use crate::state::State;
-use lk_base::NoMemory;
-use lk_types::{CType, CellStep, TypeTable};
+use lk_base::{CellStep, NoMemory};
+use lk_types::{CType, TypeTable};
 use lk_values::{Cell, Condition, Mutex, Pointer, Value, Why, either};
 
 /// The object of this number, where it is there.

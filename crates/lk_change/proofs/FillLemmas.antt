@@ -5,7 +5,7 @@ use Rattle.std.specs.Option.{option_map, option_or}
 use Rattle.std.proofs.Math.Seq.{drop-cons}
 use Rattle.lk_types.specs.Table.{Table}
 use Rattle.lk_cells.specs.Parts.{part_at}
-use Rattle.lk_types.specs.declared.cell.CellStep.{CellStep}
+use Rattle.lk_base.specs.declared.cell.CellStep.{CellStep}
 use Rattle.lk_change.specs.Changes.{counted, first_index, index_after, next_path, path_counted}
 
 -- the next path, where the steps so far have led to `rest`, and the last of them that has a next element led to `best`

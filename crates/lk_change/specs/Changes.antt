@@ -31,8 +31,8 @@ use Rattle.lk_cells.specs.declared.kind.CellKind.{CellKind}
 use Rattle.lk_cells.specs.declared.kind.CellKind.TheVariants as cell
 use Rattle.lk_cells.specs.declared.object.Initial.{Initial}
 use Rattle.lk_cells.specs.declared.object.Initial.TheVariants as initial
-use Rattle.lk_types.specs.declared.cell.CellStep.{CellStep}
-use Rattle.lk_types.specs.declared.cell.CellStep.TheVariants.{Field, Index}
+use Rattle.lk_base.specs.declared.cell.CellStep.{CellStep}
+use Rattle.lk_base.specs.declared.cell.CellStep.TheVariants.{Field, Index}
 use Rattle.lk_cells.specs.declared.state.Frame.{Frame}
 use Rattle.lk_cells.specs.declared.state.State.{State}
 use Rattle.lk_cells.specs.declared.state.Thread.{Thread}

@@ -9,14 +9,14 @@ ghost use Rattle.lk_change.specs.Changes as spec;
 
 use crate::change::{Birth, Call, Change, Effect, Going, Turn};
 use lk_arith::{Op, UnaryOp, convert, is_value};
-use lk_base::{Kind, NoMemory, Seq};
+use lk_base::{CellStep, Kind, NoMemory, Seq};
 use lk_cells::{
     CellKind, Computed, Frame, Initial, State, Thread, all_given, binary, condition_in,
     condition_through, converted_to, element_of, form_of, function_in, id_in, kind_through,
     moved_by, mutex_through, number_in, operand, part_of, pointer_in, unary_of, value_through,
 };
 use lk_facts::{Points, RootKind};
-use lk_types::{CType, CellStep, TypeId};
+use lk_types::{CType, TypeId};
 use lk_values::{Cell, Condition, Mutex, Path, Pointer, Value};
 use std::alloc::Global;
 

@@ -5,13 +5,13 @@ ghost use Rattle.lk_change.specs.Changes as spec;
 
 use crate::change::{Change, Effect};
 use crate::changes::{changes, copied_part, stays_on};
-use lk_base::{NoMemory, Seq};
+use lk_base::{CellStep, NoMemory, Seq};
 use lk_cells::{
     CellKind, Object, State, elements_of, form_of, form_through, kind_through, object_at, part_at,
     part_of, zero_of,
 };
 use lk_facts::Points;
-use lk_types::{CellStep, TypeId, TypeTable};
+use lk_types::{TypeId, TypeTable};
 use lk_values::{Cell, Condition, Mutex, Path, Pointer, Value};
 
 /// The step to the first element of the same array, or to the same member.

@@ -56,7 +56,7 @@ impl Grounds<'_> {
         if child {
             return Ok(risen);
         }
-        let kept = IdSet::from_list(alloc, self.held.keep(point))?;
+        let kept = self.held.keep(point).copy()?;
         let all = risen.union(&kept)?;
         Ok(all)
     }
@@ -71,7 +71,7 @@ impl Grounds<'_> {
     {
         match item.source {
             Source::OwnAccess => {
-                let set = IdSet::from_list(alloc, self.held.at(item.point))?;
+                let set = self.held.at(item.point).copy()?;
                 Ok(set)
             }
             Source::ItemBelow {

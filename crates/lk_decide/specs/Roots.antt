@@ -6,8 +6,8 @@ use Rattle.lk_facts.specs.declared.root.RootKind.{RootKind}
 use Rattle.lk_facts.specs.declared.root.RootKind.TheVariants as root
 use Rattle.lk_values.specs.Causes.{◌when◌}
 use Rattle.lk_values.specs.declared.cell.Cell.{Cell}
-use Rattle.lk_types.specs.declared.cell.CellStep.{CellStep}
-use Rattle.lk_types.specs.declared.cell.CellStep.TheVariants.{Index}
+use Rattle.lk_base.specs.declared.cell.CellStep.{CellStep}
+use Rattle.lk_base.specs.declared.cell.CellStep.TheVariants.{Index}
 use Rattle.lk_values.specs.declared.value.Value.{Value}
 use Rattle.lk_values.specs.declared.why.Why.{Why}
 use Rattle.lk_values.specs.declared.why.Why.TheVariants as why

@@ -16,7 +16,7 @@ use Rattle.lk_values.specs.Paths.{is_path}
 use Rattle.lk_values.specs.Pointers as pointers
 use Rattle.lk_decide.specs.Roots as roots
 use Rattle.lk_values.specs.declared.cell.Pointer.{Pointer as PointerTo}
-use Rattle.lk_types.specs.declared.cell.CellStep.{CellStep}
+use Rattle.lk_base.specs.declared.cell.CellStep.{CellStep}
 use Rattle.lk_cells.specs.declared.state.Frame.{Frame}
 use Rattle.lk_cells.specs.declared.state.State.{State}
 use Rattle.lk_cells.specs.declared.state.Thread.{Thread}

@@ -3,10 +3,9 @@ ghost use Rattle.std.specs.Prelude.{◌≡◌, IfOk};
 ghost use Rattle.std.specs.Option.{option_copied};
 ghost use Rattle.lk_decide.specs.Roots as spec;
 
-use lk_base::NoMemory;
+use lk_base::{CellStep, NoMemory};
 use lk_cells::{State, object_at, part_of};
 use lk_facts::{Points, RootKind};
-use lk_types::CellStep;
 use lk_values::{Path, Value, Why};
 use std::alloc::Global;
 

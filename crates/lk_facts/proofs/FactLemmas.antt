@@ -1,14 +1,10 @@
 -- When the points, labels and origins of a program agree.
-use Rattle.std.proofs.Common.{◌≡◌, ◌<◌, ◌≤◌, ℕ, true, false, length, Option, None, Some, refl, sym, ◌∙◌, arith, inl, inr}
-use Rattle.std.specs.Prelude.{slice_get}
-use Rattle.std.specs.Option.{option_map_or}
+use Rattle.std.proofs.Common.{◌≡◌, ◌<◌, ◌≤◌, ℕ, false, length, refl, sym, ◌∙◌, arith, inl, inr}
 use Rattle.std.proofs.lemmas.Bool.{false≢true, cases_lt}
 use Rattle.std.proofs.lemmas.Option.{slice_get_past}
-use Rattle.lk_facts.specs.Facts.{FactTable, facts_of, AreFacts, IsLabelOf, IsLockOrigin}
-use Rattle.lk_facts.specs.Labels.{LabelTable, is_origin_at, root_of}
+use Rattle.lk_facts.specs.Facts.{facts_of, AreFacts, IsLabelOf}
+use Rattle.lk_facts.specs.Labels.{LabelTable, is_origin_at}
 use Rattle.lk_facts.specs.Origins.{OriginTable}
-use Rattle.lk_facts.specs.Program.{IsLockPlace}
-use Rattle.lk_facts.specs.declared.label_entry.LabelEntry.{LabelEntry}
 use Rattle.lk_facts.specs.declared.program.Program.{Program}
 
 -- no label past the end is an origin

@@ -1,5 +1,5 @@
 -- The points that are found to be live.
-use Rattle.std.proofs.Common.{◌≡◌, ◌<◌, ◌≤◌, ◌+◌, ◌||◌, ◌∷◌, [], ◌++◌, ◌⊎◌, ℕ, Bool, true, false, eqb, List, length, take, set, get_or, replicate, Some, None, Contains, ⊎_elim, refl, sym, subst, ap, ◌∙◌, arith, length-append, inl, inr}
+use Rattle.std.proofs.Common.{◌≡◌, ◌<◌, ◌+◌, ◌||◌, ◌∷◌, [], ◌++◌, ◌⊎◌, ℕ, Bool, true, false, eqb, List, length, take, set, get_or, replicate, Some, Contains, ⊎_elim, refl, sym, subst, ap, ◌∙◌, arith, length-append, inl, inr}
 use Rattle.std.specs.Prelude.{slice_get}
 use Rattle.std.proofs.Math.Bool.{or-false}
 use Rattle.std.proofs.Math.ListN.{get_or-append}
@@ -10,7 +10,7 @@ use Rattle.std.proofs.lemmas.List.Folds.{list_any_more}
 use Rattle.std.proofs.lemmas.Option.{slice_get-get_or, slice_get_within, get_or_from_slice_get, same_Some}
 use Rattle.lk_sets.proofs.Members.{Contains-from_has_id, has_id-from_Contains}
 use Rattle.lk_facts.specs.Live.{IsReached}
-use Rattle.lk_facts.specs.Marks.{IsMarked, AreListed, AreMarked, AreFound, AreFollowed}
+use Rattle.lk_facts.specs.Marks.{IsMarked, AreMarked, AreFound, AreFollowed}
 use Rattle.lk_facts.specs.declared.function.Function.{Function}
 use Rattle.lk_facts.specs.declared.live.Marks.{Marks}
 use Rattle.lk_facts.specs.declared.point.Point.{Point}

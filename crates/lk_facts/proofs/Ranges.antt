@@ -1,5 +1,5 @@
 -- What is read from a program or its labels is in range.
-use Rattle.std.proofs.Common.{◌≡◌, ◌<◌, ℕ, true, false, List, length, Option, Some, None, refl, sym, ◌∙◌, subst}
+use Rattle.std.proofs.Common.{◌≡◌, ◌<◌, ℕ, true, false, List, length, Option, Some, None, refl, subst}
 use Rattle.std.specs.Option.{option_and_then, option_map, option_map_or, IfSome}
 use Rattle.std.specs.Prelude.{slice_get}
 use Rattle.std.proofs.lemmas.Bool.{false≢true}
@@ -8,7 +8,6 @@ use Rattle.lk_facts.specs.InRange.{IsInRange, IsPointInRange, IsFunctionInRange,
 use Rattle.lk_facts.specs.Labels.{LabelTable, target_at, is_lock_at, AreLabelsInRange}
 use Rattle.lk_facts.specs.Program.{live_at, function_at, entry_of, exit_of}
 use Rattle.lk_facts.specs.declared.program.Program.{Program}
-use Rattle.lk_facts.specs.declared.function.Function.{Function}
 use Rattle.lk_facts.specs.declared.label_entry.LabelEntry.{LabelEntry}
 use Rattle.lk_facts.specs.declared.point.Point.{Point}
 use Rattle.lk_facts.proofs.Sets.{All-got}

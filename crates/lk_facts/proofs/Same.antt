@@ -1,5 +1,5 @@
 -- Places and the names of labels: when the derived `==` says that two are the same.
-use Rattle.std.proofs.Common.{◌≡◌, ℕ, Bool, true, eqb, refl, ap, ◌∙◌}
+use Rattle.std.proofs.Common.{◌≡◌, true, eqb, refl, ap, ◌∙◌}
 use Rattle.std.proofs.lemmas.Bool.{and_from, and_parts, eqb-true, eq-eqb, false≢true}
 use Rattle.lk_facts.specs.contracts.label_entry.LabelNamePartialEq.TheImpl as name_test
 use Rattle.lk_facts.specs.contracts.place.PlacePartialEq.TheImpl as place_test

@@ -5,7 +5,7 @@ use Rattle.lk_facts.specs.Held.{PointTest, AreLockSets, at_test, keep_test}
 use Rattle.lk_facts.specs.Items.{ItemTest, LockTest, HeldTable, AreItems}
 use Rattle.lk_facts.specs.LockSets.{LockSets}
 use Rattle.lk_facts.specs.Many.{IsLinear}
-use Rattle.lk_facts.specs.Racing.{Setting, AreRaces}
+use Rattle.lk_facts.specs.Racing.{AreRaces}
 use Rattle.lk_facts.specs.Reach.{After}
 use Rattle.lk_facts.specs.Verdicts.{AreVerdicts}
 use Rattle.lk_facts.specs.declared.program.Program.{Program}

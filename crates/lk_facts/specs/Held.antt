@@ -1,5 +1,5 @@
 -- Which locks are held at which points (LOCKSMITH: lock state; the rules are this project's own).
-use Rattle.std.specs.Prelude.{◌≡◌, ◌↔◌, ℕ, ◌<◌, Bool, true, false, Some, ◌⊎◌, length}
+use Rattle.std.specs.Prelude.{◌≡◌, ℕ, Bool, true, false, Some, ◌⊎◌, length}
 use Rattle.lk_facts.specs.Basis.{Basis}
 use Rattle.lk_facts.specs.Doing.{Takes, Frees, Runs}
 use Rattle.lk_facts.specs.Flow.{Over, IsHeldAs, RisesAs, Clash}

@@ -1,7 +1,6 @@
 -- When the numbers in the parts of a program are in range.
-use Rattle.std.specs.Prelude.{ℕ, ◌≡◌, ◌<◌, ◌≤◌, ◌^◌, true, List, ◌&&◌, length, All, IfSome, is_some, ⊤}
+use Rattle.std.specs.Prelude.{ℕ, ◌≡◌, ◌<◌, ◌≤◌, ◌^◌, true, ◌&&◌, length, All, IfSome, is_some, ⊤}
 use Rattle.lk_facts.specs.Effects.{effect_of, entered}
-use Rattle.lk_facts.specs.Places.{AreDifferent}
 use Rattle.lk_facts.specs.declared.action.Action.{Action}
 use Rattle.lk_facts.specs.declared.action.Action.TheVariants as action
 use Rattle.lk_facts.specs.declared.effect.Effect.{Effect}

@@ -7,6 +7,7 @@ pub mod Facts
 pub mod Flow
 pub mod Held
 pub mod InRange
+pub mod Initials
 pub mod Items
 pub mod Labels
 pub mod Lists

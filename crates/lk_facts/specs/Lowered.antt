@@ -1,7 +1,9 @@
 -- What the points of a program keep that were made from its typed tree.
-use Rattle.std.specs.Prelude.{◌≡◌, ◌↔◌, ◌<◌, ◌⊎◌, ℕ, suc, true, [], ◌∷◌, List, Option, None, Some, length, slice_get}
+use Rattle.std.specs.Prelude.{◌≡◌, ◌↔◌, ◌<◌, ◌⊎◌, ℕ, suc, true, [], ◌∷◌, List, Option, Some, length, slice_get}
 use Rattle.lk_base.specs.declared.kind.Kind.TheVariants.{Char}
 use Rattle.lk_facts.specs.InRange.{AllOperands}
+use Rattle.lk_facts.specs.Initials.{IsWritten}
+use Rattle.lk_facts.specs.LabelRules.{AreVoidParts}
 use Rattle.lk_facts.specs.Live.{IsReached}
 use Rattle.lk_facts.specs.Program.{action_at, next_of, live_at, function_at, site_at, entry_of, exit_of, value_site_of, root_at, place_at, root_of_function, function_of_root}
 use Rattle.lk_facts.specs.Reach.{IsNext}
@@ -9,7 +11,7 @@ use Rattle.lk_facts.specs.Typed.{IsForm, HasPartAt, IsRootType, IsNumberOf, IsTy
 use Rattle.lk_facts.specs.declared.action.Action.{Action}
 use Rattle.lk_facts.specs.declared.action.Action.TheVariants as action
 use Rattle.lk_facts.specs.declared.action.Action.TheVariants.{Func, Skip, Return, Text as OfText}
-use Rattle.lk_types.specs.declared.cell.CellStep.{CellStep}
+use Rattle.lk_base.specs.declared.cell.CellStep.{CellStep}
 use Rattle.lk_facts.specs.declared.initial.Initial.{Initial}
 use Rattle.lk_facts.specs.declared.initial.InitialValue.{InitialValue}
 use Rattle.lk_facts.specs.declared.initial.InitialValue.TheVariants as value
@@ -156,5 +158,8 @@ module _ (program : Program) where
     -- a text's bytes are there, and so is each cell that an initialiser of static storage names, with what it points to
     pub texts : (p r : ℕ) → action_at program p ≡ Some (OfText r) → IsText r
     pub initials : (i : ℕ) (initial : Initial) → slice_get program.initials i ≡ Some initial → IsInitial initial
+    pub written : (i : ℕ) (initial : Initial) → slice_get program.initials i ≡ Some initial → IsWritten program initial initial.value
+    -- void has the Parts that points give it
+    pub parts : AreVoidParts program
     -- each location and lock place is a part of its root
     pub places : (n : ℕ) (place : Place) → place_at program n ≡ Some place → IsPlaceOfRoot place

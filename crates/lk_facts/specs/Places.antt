@@ -1,5 +1,5 @@
 -- Lists of different things, and the numbers of these.
-use Rattle.std.specs.Prelude.{◌≡◌, ◌⊎◌, ◌++◌, ◌∷◌, [], ℕ, List, Option, Some, length, slice_get, MatchOption}
+use Rattle.std.specs.Prelude.{◌≡◌, ◌++◌, ◌∷◌, [], ℕ, List, Option, Some, length, slice_get, MatchOption}
 
 -- no two of them are equal
 abbrev pub AreDifferent : {X : Type 0} → List X → Type 0

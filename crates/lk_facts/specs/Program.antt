@@ -1,5 +1,5 @@
 -- What the readers of `Points` read from the parts of a program.
-use Rattle.std.specs.Prelude.{◌≡◌, ◌≤◌, ◌<◌, ℕ, [], zero, suc, Bool, false, List, Option, Some, None, length, slice_get, is_some}
+use Rattle.std.specs.Prelude.{◌≤◌, ◌<◌, ℕ, [], zero, suc, Bool, false, List, Option, None, length, slice_get, is_some}
 use Rattle.std.specs.Option.{option_map, option_map_or, option_and_then}
 use Rattle.lk_base.specs.declared.spot.Spot.{Spot}
 use Rattle.lk_facts.specs.Effects.{effect_of, entered, writes}

@@ -10,9 +10,8 @@ use Rattle.lk_base.specs.declared.kind.Kind.TheVariants as kind
 use Rattle.lk_facts.specs.Program.{value_type_at, slots_of, result_of, root_of_function, parameter_of, root_at}
 use Rattle.lk_facts.specs.declared.action.Action.{Action}
 use Rattle.lk_facts.specs.declared.action.Action.TheVariants as action
-use Rattle.lk_types.specs.declared.cell.CellStep.{CellStep}
-use Rattle.lk_types.specs.declared.cell.CellStep.TheVariants.{Field as ToField, Index as ToIndex}
-use Rattle.lk_facts.specs.declared.place.Place.{Place}
+use Rattle.lk_base.specs.declared.cell.CellStep.{CellStep}
+use Rattle.lk_base.specs.declared.cell.CellStep.TheVariants.{Field as ToField, Index as ToIndex}
 use Rattle.lk_facts.specs.declared.program.Program.{Program}
 use Rattle.lk_facts.specs.declared.root.Holder.{Holder}
 use Rattle.lk_facts.specs.declared.root.Holder.TheVariants as holder

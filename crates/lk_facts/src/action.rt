@@ -5,8 +5,8 @@ ghost use Rattle.lk_facts.specs.Effects.{effect_of};
 use crate::effect::Effect;
 use crate::place::Place;
 use lk_arith::{Op, UnaryOp};
-use lk_base::Seq;
-use lk_types::{CellStep, TypeId};
+use lk_base::{CellStep, Seq};
+use lk_types::TypeId;
 
 /// What a control point does in one step. An operand is the number of the point whose value it is.
 #[derive(Drop)]

@@ -23,7 +23,7 @@ impl Crossing {
     /// The labels outside that flow to the label `l`, in ascending order.
     pub(crate) fn outside_of(&self, l: Label) -> &[u32]
         ensures value { result.now ≡ outside_of self.now l }
-        ensures in_range { (labels : ℕ) → AreSetsBelow labels self.now.outside → IsSetBelow labels result.now }
+        ensures in_range { (n : ℕ) → AreSetsBelow n self.now.outside → IsSetBelow n result.now }
     {
         match self.outside.get(place_of(self.inside.ids(), l.0)) {
             Some(outside) => outside.ids(),

@@ -25,7 +25,8 @@ impl Model for Held {
 
     ghost view = { λ a. sets_of a.labels a.at.items a.keep.items a.out.items a.released.items };
 
-    ghost invariant = { λ a. AreLockSetsInRange (sets_of a.labels a.at.items a.keep.items a.out.items a.released.items) };
+    ghost invariant = { λ a.
+        AreLockSetsInRange (sets_of a.labels a.at.items a.keep.items a.out.items a.released.items) };
 }
 
 impl Held {
@@ -90,38 +91,38 @@ impl Held {
     }
 
     /// The locks that are held at a point.
-    pub fn at(&self, p: u32) -> &[u32]
+    pub fn at(&self, p: u32) -> &IdSet
         requires { p < length self.now.at }
         ensures value { result.now ≡ at_of self.now p }
         ensures in_range { IsSetBelow self.now.labels result.now }
     {
-        self.at[p as usize].ids()
+        &self.at[p as usize]
     }
 
     /// The locks that are held at a point and that nothing it runs may release.
-    pub fn keep(&self, p: u32) -> &[u32]
+    pub fn keep(&self, p: u32) -> &IdSet
         requires { p < length self.now.at }
         ensures value { result.now ≡ keep_of self.now p }
         ensures in_range { IsSetBelow self.now.labels result.now }
     {
-        self.keep[p as usize].ids()
+        &self.keep[p as usize]
     }
 
     /// The locks that are held at the exit of a function.
-    pub fn out(&self, f: u32) -> &[u32]
+    pub fn out(&self, f: u32) -> &IdSet
         requires { f < length self.now.out }
         ensures value { result.now ≡ out_of self.now f }
         ensures in_range { IsSetBelow self.now.labels result.now }
     {
-        self.out[f as usize].ids()
+        &self.out[f as usize]
     }
 
     /// The locks that a function may release, itself or in what it runs.
-    pub fn released(&self, f: u32) -> &[u32]
+    pub fn released(&self, f: u32) -> &IdSet
         requires { f < length self.now.out }
         ensures value { result.now ≡ released_of self.now f }
         ensures in_range { IsSetBelow self.now.labels result.now }
     {
-        self.released[f as usize].ids()
+        &self.released[f as usize]
     }
 }

@@ -1,7 +1,6 @@
 //! What objects of static storage begin with.
 
-use lk_base::Seq;
-use lk_types::CellStep;
+use lk_base::{CellStep, Seq};
 
 /// What a cell of static storage begins with (C99 6.7.8).
 #[derive(Drop)]

@@ -83,7 +83,8 @@ pub fn live_points(
 ) -> Result<Vec<bool>, NoMemory>
     requires { AreStepsInRange points.now functions.now }
     ensures all { IfOk result (λ live. length live.items ≡ length points.now) }
-    ensures exact { IfOk result (λ live. (p : ℕ) → (slice_get live.items p ≡ Some true) ↔ IsReached points.now functions.now p) }
+    ensures exact { IfOk result (λ live. (p : ℕ) →
+        (slice_get live.items p ≡ Some true) ↔ IsReached points.now functions.now p) }
 {
     let mut marks = entries(alloc, points, functions)?;
     follow(points, functions, &mut marks)?;

@@ -43,7 +43,7 @@ fn push_access(
     ensures { OnOk result (AreAccessesBelow facts.now held.now (point + 1) base.new.items) }
 {
     if let Some(item) = access(facts, point) {
-        let locks = IdSet::from_list(alloc, held.at(point))?;
+        let locks = held.at(point).copy()?;
         base.push((item, locks))?;
     }
     Ok(())

@@ -68,7 +68,7 @@ impl Rising<'_> {
         if child || link.starts {
             return Ok(risen);
         }
-        let kept = IdSet::from_list(alloc, self.held.keep(link.point))?;
+        let kept = self.held.keep(link.point).copy()?;
         let all = risen.union(&kept)?;
         Ok(all)
     }

@@ -1,5 +1,5 @@
 //! A set of numbers.
-ghost use Rattle.std.specs.Prelude.{◌≡◌, ◌&&◌, ◌||◌, ℕ, Bool, List, IfOk};
+ghost use Rattle.std.specs.Prelude.{◌≡◌, ◌&&◌, ◌||◌, ℕ, Bool, [], List, IfOk};
 ghost use Rattle.std.specs.List.Sorted.{IsStrictlyIncreasing};
 ghost use Rattle.lk_sets.specs.Ids.{has_id, IsSetOf};
 
@@ -26,6 +26,23 @@ impl Model for IdSet {
 }
 
 impl IdSet {
+    /// The set without numbers. It takes no memory.
+    pub fn empty(alloc: Global) -> IdSet
+        ensures { result ≡ [] }
+    {
+        IdSet {
+            ids: Vec::new(alloc),
+        }
+    }
+
+    /// The same set once more.
+    pub fn copy(&self) -> Result<IdSet, NoMemory>
+        ensures { IfOk result (λ set. set ≡ self.now) }
+    {
+        let ids = self.ids.clone()?;
+        Ok(IdSet { ids })
+    }
+
     /// The set of the numbers in a list, which may have them in any order and more than once.
     pub fn from_list(alloc: Global, list: &[u32]) -> Result<IdSet, NoMemory>
         ensures { IfOk result (IsSetOf (has_id list.now)) }

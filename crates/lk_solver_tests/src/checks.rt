@@ -49,7 +49,7 @@ pub fn are_at(held: &Held, at: &[Pair], keep: &[Pair]) -> bool {
         return false;
     }
     for point in 0..held.points() as u32 {
-        if !is_row(held.at(point), point, at) || !is_row(held.keep(point), point, keep) {
+        if !is_row(held.at(point).ids(), point, at) || !is_row(held.keep(point).ids(), point, keep) {
             return false;
         }
     }
@@ -62,8 +62,8 @@ pub fn are_out(held: &Held, out: &[Pair], released: &[Pair]) -> bool {
         return false;
     }
     for function in 0..held.functions() as u32 {
-        if !is_row(held.out(function), function, out)
-            || !is_row(held.released(function), function, released)
+        if !is_row(held.out(function).ids(), function, out)
+            || !is_row(held.released(function).ids(), function, released)
         {
             return false;
         }

@@ -2,8 +2,8 @@
 //! the entries, each with its value.
 
 use crate::expression::TypedExpr;
-use lk_base::{Seq, Spot};
-use lk_types::{CellStep, TypeId};
+use lk_base::{CellStep, Seq, Spot};
+use lk_types::TypeId;
 
 /// What a part of a local object begins with.
 #[derive(Drop)]

@@ -1,5 +1,4 @@
 pub mod Table
-pub mod Steps
 pub mod Walks
 pub mod Sizes
 pub mod Nodes

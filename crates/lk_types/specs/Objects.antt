@@ -8,8 +8,8 @@ use Rattle.lk_types.specs.Table.{Table, type_at, fields_of}
 use Rattle.lk_types.specs.Walks.{Entry, nodes, most_steps}
 use Rattle.lk_types.specs.declared.c_type.CType.{CType}
 use Rattle.lk_types.specs.declared.c_type.CType.TheVariants.{Void, Int, ThreadId, Mutex, Cond, Pointer, Array, Struct, Function, Opaque}
-use Rattle.lk_types.specs.declared.cell.CellStep.{CellStep}
-use Rattle.lk_types.specs.declared.cell.CellStep.TheVariants.{Field as Member, Index}
+use Rattle.lk_base.specs.declared.cell.CellStep.{CellStep}
+use Rattle.lk_base.specs.declared.cell.CellStep.TheVariants.{Field as Member, Index}
 use Rattle.lk_types.specs.declared.node.Sel.{Sel}
 use Rattle.lk_types.specs.declared.node.Sel.TheVariants.{Target, Element, Field, Part}
 

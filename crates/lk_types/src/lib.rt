@@ -2,7 +2,6 @@
 #![tactic(auto)]
 
 mod c_type;
-mod cell;
 mod equal;
 mod facts;
 mod forms;
@@ -17,7 +16,6 @@ mod type_ids;
 mod walk;
 
 pub use c_type::CType;
-pub use cell::CellStep;
 pub use laws::{
     equal_nodes_have_equal_ids, longer_is_transitive, no_path_stands_twice, older_walks_stay,
     predeclared_types_stay, sizes_are_of_parts, walks_are_of_parts,

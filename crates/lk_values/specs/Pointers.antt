@@ -2,8 +2,8 @@
 use Rattle.std.specs.Prelude.{ℕ, ◌+◌, Bool, true, false, ◌&&◌, List, [], ◌∷◌, ◌++◌, unwrap_or, if◌then◌else◌, nat_eq}
 use Rattle.lk_values.specs.Paths.{is_path, last_index, element_path}
 use Rattle.lk_values.specs.declared.cell.Pointer.{Pointer}
-use Rattle.lk_types.specs.declared.cell.CellStep.{CellStep}
-use Rattle.lk_types.specs.declared.cell.CellStep.TheVariants.{Field, Index}
+use Rattle.lk_base.specs.declared.cell.CellStep.{CellStep}
+use Rattle.lk_base.specs.declared.cell.CellStep.TheVariants.{Field, Index}
 
 -- a pointer to a part
 abbrev pub pointer_to : ℕ → List CellStep → Pointer

@@ -2,7 +2,7 @@
 use Rattle.std.specs.Prelude.{Bool, true, false, List}
 use Rattle.std.specs.List.{list_any}
 use Rattle.std.specs.Map.{values_of}
-use Rattle.lk_types.specs.declared.cell.CellStep.{CellStep}
+use Rattle.lk_base.specs.declared.cell.CellStep.{CellStep}
 use Rattle.lk_values.specs.declared.value.Mutex.{Mutex}
 use Rattle.lk_values.specs.declared.value.Mutex.TheVariants as mutex
 

@@ -4,8 +4,7 @@ ghost use Rattle.lk_values.specs.Paths.{is_path};
 ghost use Rattle.lk_values.specs.Pointers.{pointer_to, pointer_past, position_of, is_same_array, into_array, into_member};
 
 use crate::path::Path;
-use lk_base::NoMemory;
-use lk_types::CellStep;
+use lk_base::{CellStep, NoMemory};
 
 /// A cell: an object, and the path to a scalar part of it.
 #[derive(Drop)]

@@ -5,10 +5,9 @@ ghost use Rattle.std.specs.Cmp.Lexicographic.{lists_equiv, on_texts_equal};
 ghost use Rattle.std.specs.Hash as fed;
 ghost use Rattle.lk_values.specs.Hashes.{paths_alike};
 ghost use Rattle.lk_values.specs.Paths.{is_path, last_index, element_path};
-ghost use Rattle.lk_types.specs.Steps.{code_of, number_of};
+ghost use Rattle.lk_base.specs.Steps.{code_of, number_of};
 
-use lk_base::NoMemory;
-use lk_types::CellStep;
+use lk_base::{CellStep, NoMemory};
 use smallvec::SmallVec;
 use std::alloc::Global;
 use std::hash::{Hash, Hasher};
@@ -22,7 +21,7 @@ pub struct Path {
 
 impl Model for Path {
     ghost use Rattle.std.specs.Prelude.{List};
-    ghost use Rattle.lk_types.specs.declared.cell.CellStep.{CellStep};
+    ghost use Rattle.lk_base.specs.declared.cell.CellStep.{CellStep};
 
     ghost Value = { List CellStep };
 

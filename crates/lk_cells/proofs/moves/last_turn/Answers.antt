@@ -1,7 +1,7 @@
 use Rattle.std.proofs.Common.{arith, sym, ◌∙◌, ap, take, ◌++◌, ◌∷◌, []}
 use Rattle.std.specs.Option.{option_map, option_or}
 use Rattle.lk_cells.specs.Moves.{path_turned}
-use Rattle.lk_types.specs.declared.cell.CellStep.TheVariants.{Field}
+use Rattle.lk_base.specs.declared.cell.CellStep.TheVariants.{Field}
 use Rattle.lk_cells.proofs.PartLemmas.{joined-ends, turned-or}
 use Rattle.lk_cells.proofs.moves.last_turn.Goals as goal
 

@@ -2,7 +2,7 @@ use Rattle.std.proofs.Common.{arith, sym, ◌∙◌, ap, take, drop, ◌++◌, �
 use Rattle.std.specs.Prelude.{map}
 use Rattle.std.specs.Option.{option_map, option_or}
 use Rattle.lk_change.specs.Changes.{path_counted, first_index}
-use Rattle.lk_types.specs.declared.cell.CellStep.TheVariants.{Field}
+use Rattle.lk_base.specs.declared.cell.CellStep.TheVariants.{Field}
 use Rattle.lk_change.proofs.FillLemmas.{joined-ends, counted-or}
 use Rattle.lk_change.proofs.fills.last_turn.Goals as goal
 

@@ -4,7 +4,6 @@ use Rattle.std.proofs.lemmas.List.{length-replicate}
 use Rattle.std.proofs.lemmas.Option.{slice_get_read, slice_get_within}
 use Rattle.lk_facts.proofs.LiveLemmas.{unmarked, entries_more, entry_reached}
 use Rattle.lk_facts.proofs.Sets.{All-read}
-use Rattle.lk_facts.specs.declared.function.Function.{Function}
 use Rattle.lk_facts.proofs.live.entries.Goals as goal
 
 pub loop-function-init : goal.loop-function-init

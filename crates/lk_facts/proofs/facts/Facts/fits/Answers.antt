@@ -1,5 +1,5 @@
 use Rattle.std.proofs.Common.{◌≡◌, ◌≤◌, length, refl, arith}
-use Rattle.lk_facts.proofs.FactLemmas.{agree, each_of}
+use Rattle.lk_facts.proofs.FactLemmas.{agree}
 use Rattle.lk_facts.proofs.facts.Facts.fits.Goals as goal
 
 pub returns : goal.returns

@@ -5,8 +5,8 @@ use Rattle.std.specs.Hash as fed
 use Rattle.std.specs.Hash.{Alike}
 use Rattle.std.proofs.Common.{ap, arith}
 use Rattle.std.proofs.lemmas.Grind.{common_steps}
-use Rattle.lk_types.specs.declared.cell.CellStep.{CellStep}
-use Rattle.lk_types.specs.declared.cell.CellStep.TheVariants.{Field, Index}
+use Rattle.lk_base.specs.declared.cell.CellStep.{CellStep}
+use Rattle.lk_base.specs.declared.cell.CellStep.TheVariants.{Field, Index}
 
 -- what tells one step from another
 abbrev pub code_of : CellStep → List ℕ

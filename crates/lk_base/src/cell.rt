@@ -3,7 +3,7 @@ ghost use Rattle.std.specs.Prelude.{◌≡◌};
 ghost use Rattle.std.specs.Cmp.{partial_equiv_from_equiv};
 ghost use Rattle.std.specs.Cmp.Lexicographic.{on_texts_equal};
 ghost use Rattle.std.specs.Hash as fed;
-ghost use Rattle.lk_types.specs.Steps.{code_of, is_step, number_of, steps_alike};
+ghost use Rattle.lk_base.specs.Steps.{code_of, is_step, number_of, steps_alike};
 
 use std::hash::{Hash, Hasher};
 
@@ -29,6 +29,10 @@ impl CellStep {
 }
 
 impl Default for CellStep {
+    ghost use Rattle.lk_base.specs.declared.cell.CellStep.TheVariants.{Field};
+
+    ghost is_default = { λ step. step ≡ Field 0 };
+
     fn default() -> CellStep {
         CellStep::Field(0)
     }
