@@ -1,13 +1,13 @@
 -- What the points of a program keep that were made from its typed tree.
-use Rattle.std.specs.Prelude.{◌≡◌, ◌↔◌, ◌<◌, ◌⊎◌, ℕ, suc, true, [], ◌∷◌, List, Option, Some, length, slice_get}
+use Rattle.std.specs.Prelude.{◌≡◌, ◌↔◌, ◌<◌, ◌⊎◌, ℕ, suc, true, [], ◌∷◌, List, Option, Some, length, slice_get, ⊤}
 use Rattle.lk_base.specs.declared.kind.Kind.TheVariants.{Char}
 use Rattle.lk_facts.specs.InRange.{AllOperands}
 use Rattle.lk_facts.specs.Initials.{IsWritten}
 use Rattle.lk_facts.specs.LabelRules.{AreVoidParts}
 use Rattle.lk_facts.specs.Live.{IsReached}
-use Rattle.lk_facts.specs.Program.{action_at, next_of, live_at, function_at, site_at, entry_of, exit_of, value_site_of, root_at, place_at, root_of_function, function_of_root}
+use Rattle.lk_facts.specs.Program.{action_at, next_of, live_at, function_at, site_at, entry_of, exit_of, value_site_of, root_at, place_at, parameter_of, root_of_function, function_of_root}
 use Rattle.lk_facts.specs.Reach.{IsNext}
-use Rattle.lk_facts.specs.Typed.{IsForm, HasPartAt, IsRootType, IsNumberOf, IsTyped, IsFunctionTyped}
+use Rattle.lk_facts.specs.Typed.{IsForm, HasPartAt, IsRootType, IsHolderType, IsNumberOf, IsTyped, IsFunctionTyped}
 use Rattle.lk_facts.specs.declared.action.Action.{Action}
 use Rattle.lk_facts.specs.declared.action.Action.TheVariants as action
 use Rattle.lk_facts.specs.declared.action.Action.TheVariants.{Func, Skip, Return, Text as OfText}
@@ -18,7 +18,9 @@ use Rattle.lk_facts.specs.declared.initial.InitialValue.TheVariants as value
 use Rattle.lk_facts.specs.declared.place.Place.{Place}
 use Rattle.lk_facts.specs.declared.program.Program.{Program}
 use Rattle.lk_facts.specs.declared.root.Root.{Root}
-use Rattle.lk_facts.specs.declared.root.RootKind.TheVariants.{Text}
+use Rattle.lk_facts.specs.declared.root.Holder.{Holder}
+use Rattle.lk_facts.specs.declared.root.RootKind.{RootKind}
+use Rattle.lk_facts.specs.declared.root.RootKind.TheVariants.{Global, Static, Local, Heap, Text, Argv, Args, Function as FunctionRoot}
 use Rattle.lk_types.specs.Equal.{IsAlike}
 use Rattle.lk_types.specs.Nodes.{IsNode}
 use Rattle.lk_types.specs.declared.c_type.CType.TheVariants.{Array, Cond, Int, Mutex, Pointer, Void}
@@ -128,6 +130,21 @@ module _ (program : Program) where
     pub is_char : IsForm program.types char (Int Char)
     pub bytes : IsForm program.types root.ty (Array char (length root.bytes))
 
+  -- the type is of pointers to char
+  abbrev pub IsString : ℕ → Type 0
+  IsString t = (char : ℕ) × IsForm program.types t (Pointer char) × IsForm program.types char (Int Char)
+
+  -- the objects of main's arguments (C99 5.1.2.2.1): the pointers to the strings, and the chars of the strings
+  abbrev pub IsArgument : RootKind → ℕ → Type 0
+  IsArgument Global t = ⊤
+  IsArgument Static t = ⊤
+  IsArgument Local t = ⊤
+  IsArgument (Heap one) t = ⊤
+  IsArgument Text t = ⊤
+  IsArgument Argv t = (string n : ℕ) × IsForm program.types t (Array string n) × IsString string
+  IsArgument Args t = (char n : ℕ) × IsForm program.types t (Array char n) × IsForm program.types char (Int Char)
+  IsArgument FunctionRoot t = ⊤
+
   -- the node of a place is one of its root's type
   pub record IsPlaceOfRoot (place : Place) : Type 0 where
     pub ty : ℕ
@@ -161,5 +178,8 @@ module _ (program : Program) where
     pub written : (i : ℕ) (initial : Initial) → slice_get program.initials i ≡ Some initial → IsWritten program initial initial.value
     -- void has the Parts that points give it
     pub parts : AreVoidParts program
+    -- main's arguments, and its second parameter, which points to them
+    pub arguments : (r : ℕ) (root : Root) → root_at program r ≡ Some root → IsArgument root.kind root.ty
+    pub argv : (holder : Holder) (t : ℕ) → parameter_of program program.main 2 ≡ Some holder → IsHolderType program holder t → (string : ℕ) × IsForm program.types t (Pointer string) × IsString string
     -- each location and lock place is a part of its root
     pub places : (n : ℕ) (place : Place) → place_at program n ≡ Some place → IsPlaceOfRoot place

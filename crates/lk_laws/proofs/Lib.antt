@@ -5,3 +5,5 @@ pub mod MoreRaces
 pub mod OneAnalysis
 pub mod Sorted
 pub mod Walking
+mod AlikeTypes
+mod AlikeEdges

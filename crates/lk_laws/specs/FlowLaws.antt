@@ -1,9 +1,14 @@
 -- What edges join. Each law is the contract of a public function.
+use Rattle.std.specs.Prelude.{ℕ}
 use Rattle.lk_facts.specs.EdgeRules.{IsEdge}
 use Rattle.lk_facts.specs.LabelRules.{IsLabel, IsOrigin}
+use Rattle.lk_facts.specs.Lowered.{IsLowered}
 use Rattle.lk_facts.specs.declared.edge.Mark.{Mark}
 use Rattle.lk_facts.specs.declared.label_entry.LabelName.{LabelName}
 use Rattle.lk_facts.specs.declared.program.Program.{Program}
+use Rattle.lk_types.specs.Building.{IsTable}
+use Rattle.lk_types.specs.Equal.{IsAlike}
+use Rattle.lk_types.specs.Nodes.{node_of}
 
 -- an edge joins two labels of the program, so that none is lost where labels are numbered
 abbrev pub EdgesJoinLabels : Type 0
@@ -12,3 +17,12 @@ EdgesJoinLabels = (program : Program) (u v : LabelName) (m : Mark) → IsEdge pr
 -- no edge ends at an origin
 abbrev pub NoEdgeEndsAtAnOrigin : Type 0
 NoEdgeEndsAtAnOrigin = (program : Program) (u v : LabelName) (m : Mark) → IsEdge program u v m → IsOrigin program v → ⊥
+
+-- the type of what a label names
+abbrev pub type_of : Program → LabelName → ℕ
+type_of program x = (node_of program.types x.node).type
+
+-- an edge joins labels of types that are equal but for the sizes of arrays, so that both have the same parts
+abbrev pub EdgesJoinAlike : Type 0
+EdgesJoinAlike =
+    (program : Program) → IsTable program.types → IsLowered program → (u v : LabelName) (m : Mark) → IsEdge program u v m → IsAlike program.types.types (type_of program u) (type_of program v)
