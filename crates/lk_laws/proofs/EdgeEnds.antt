@@ -45,7 +45,7 @@ abbrev direct : Node → Bool
 direct node = is_start node.base && list_all stays_inside node.path
 
 -- a step leads to a Tag, or to the end of a longer path
-data Stepped (node : Node) (s : Sel) (k : Node) : Type 0 where
+pub data Stepped (node : Node) (s : Sel) (k : Node) : Type 0 where
   tagged : (u : ℕ) → first (Tag u) ≡ k → Stepped node s k
   inner : k.base ≡ node.base → k.path ≡ node.path ++ s ∷ [] → Stepped node s k
 
@@ -94,7 +94,7 @@ part_stepped : (node : Node) (t u : ℕ) (b : Bool) (k : Node) → (if b then So
 part_stepped node t u true k h = Stepped.tagged u (some_is _ k h)
 part_stepped node t u false k h = absurd (none-some k h)
 
-stepped : (table : Table) (node : Node) (s : Sel) (k : Node) → step table node s ≡ Some k → Stepped node s k
+pub stepped : (table : Table) (node : Node) (s : Sel) (k : Node) → step table node s ≡ Some k → Stepped node s k
 stepped table node Target k h = target_stepped table node (type_at table node.type) k h
 stepped table node Element k h = longer (element_stays node (type_at table node.type) k h)
 stepped table node (Field j) k h = longer (field_stays node j _ k h)

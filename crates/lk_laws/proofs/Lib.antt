@@ -7,3 +7,4 @@ pub mod Sorted
 pub mod Walking
 mod AlikeTypes
 mod AlikeEdges
+mod OwnSite

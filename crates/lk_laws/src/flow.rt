@@ -1,5 +1,5 @@
 //! What edges join. Each function is a law, which its contract states.
-ghost use Rattle.lk_laws.specs.FlowLaws.{EdgesJoinLabels, EdgesJoinAlike, NoEdgeEndsAtAnOrigin};
+ghost use Rattle.lk_laws.specs.FlowLaws.{EdgesJoinLabels, EdgesJoinAlike, NoEdgeEndsAtAnOrigin, FunctionsHaveSites};
 
 /// An edge joins two labels of the program.
 pub fn edges_join_labels()
@@ -14,4 +14,9 @@ pub fn edges_join_alike()
 /// No edge ends at an origin.
 pub fn no_edge_ends_at_an_origin()
     ensures { NoEdgeEndsAtAnOrigin }
+{}
+
+/// A function that flows to a label other than its own is used as a value, and has a site of its own.
+pub fn functions_have_sites()
+    ensures { FunctionsHaveSites }
 {}

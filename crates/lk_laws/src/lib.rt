@@ -6,7 +6,9 @@ mod flow;
 mod laws;
 mod paths;
 
-pub use flow::{edges_join_alike, edges_join_labels, no_edge_ends_at_an_origin};
+pub use flow::{
+    edges_join_alike, edges_join_labels, functions_have_sites, no_edge_ends_at_an_origin,
+};
 pub use laws::{
     callees_lock_is_not_kept, guard_is_in_lock_sets, held_is_never_not_held, lock_sets_are_exact,
     nothing_is_held_at_entries, races_come_in_pairs, released_is_not_held, suspect_stays_unguarded,
