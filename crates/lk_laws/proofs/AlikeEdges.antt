@@ -8,33 +8,31 @@ use Rattle.lk_arith.specs.declared.operators.Op.{Op}
 use Rattle.lk_arith.specs.declared.operators.Op.TheVariants as op
 use Rattle.lk_base.specs.declared.kind.Kind.{Kind}
 use Rattle.lk_base.specs.declared.kind.Kind.TheVariants as kind
-use Rattle.lk_facts.specs.EdgeRules.{Of, In, IsInside, Loc, Sub, value, target, place, slot, result, parameter, code, allocated, Converts, Passes, Returns, Row, IsBehind, IsEdge}
+use Rattle.lk_facts.specs.EdgeRules.{Of, In, Loc, Sub, value, target, place, result, parameter, code, allocated, Converts, Passes, Returns, Row, IsEdge}
 use Rattle.lk_facts.specs.EdgeRules.Converts.{same as converts_same, to_void, from_void}
 use Rattle.lk_facts.specs.EdgeRules.IsEdge.{row, argv, args, passed, given_back, forth, back as backwards, inside, results, parameters}
 use Rattle.lk_facts.specs.LabelRules.{IsPart, IsWhole}
 use Rattle.lk_facts.specs.Lowered.{IsLowered, IsArgument}
-use Rattle.lk_facts.specs.Program.{root_at, root_of_function, parameter_of, result_of, value_type_at}
-use Rattle.lk_facts.specs.Typed.{IsForm, IsRootType, IsHolderType, GivesForm, GivesNone, Gives, PointsTo, PointsToForm, AreGiven, AreAlike, Moves, Compares, ComparesNumbers, IsComparison, IsShift, IsBinary, IsCall, IsFunctionType, IsFunctionTyped, IsStartRoutine, IsAllocated, IsReturn, IsTyped, IsMember}
+use Rattle.lk_facts.specs.Program.{root_of_function, parameter_of, result_of}
+use Rattle.lk_facts.specs.Typed.{IsForm, IsRootType, IsHolderType, GivesForm, GivesNone, Gives, PointsTo, PointsToForm, AreGiven, AreAlike, Moves, IsComparison, IsShift, IsBinary, IsFunctionType, IsStartRoutine, IsAllocated, IsReturn, IsTyped, IsMember}
 use Rattle.lk_facts.specs.Typed.AreGiven.{none as given_none, more as given_more}
 use Rattle.lk_facts.specs.declared.action.Action.{Action}
 use Rattle.lk_facts.specs.declared.action.Action.TheVariants as action
 use Rattle.lk_facts.specs.declared.edge.Mark.{Mark}
-use Rattle.lk_facts.specs.declared.edge.Mark.TheVariants.{Plain, Enter, Leave}
+use Rattle.lk_facts.specs.declared.edge.Mark.TheVariants.{Plain}
 use Rattle.lk_facts.specs.declared.label_entry.LabelName.{LabelName}
 use Rattle.lk_facts.specs.declared.program.Program.{Program}
 use Rattle.lk_facts.specs.declared.root.Holder.{Holder}
 use Rattle.lk_facts.specs.declared.root.Holder.TheVariants.{Root, Slot, Result, Point}
-use Rattle.lk_laws.proofs.AlikeTypes.{back, joined, pointer_parts, array_parts, structs_are, field_parts, least_alike, target_known, target_step, element_step, field_step, part_step, fields_alike, parts_alike}
+use Rattle.lk_laws.proofs.AlikeTypes.{back, joined, pointer_parts, array_parts, field_parts, least_alike, target_known, target_step, element_step, field_step, part_step, fields_alike, parts_alike}
 use Rattle.lk_laws.specs.FlowLaws.{type_of}
 use Rattle.lk_types.specs.Building.{IsTable, IsMadeOf}
 use Rattle.lk_types.specs.Equal.{IsAlike}
 use Rattle.lk_types.specs.Equal.IsEqualBut.{same}
-use Rattle.lk_types.specs.Nodes.{Node, IsBase, node_of, first, step}
-use Rattle.lk_types.specs.Table.{Table, type_at, least_of, fields_of, IsKnown}
+use Rattle.lk_types.specs.Nodes.{Node, IsBase, node_of}
+use Rattle.lk_types.specs.Table.{Table, type_at, fields_of, IsKnown}
 use Rattle.lk_types.specs.declared.c_type.CType.{CType}
-use Rattle.lk_types.specs.declared.c_type.CType.TheVariants.{Void, Int, ThreadId, Mutex, Cond, Pointer, Array, Struct, Function, Opaque}
-use Rattle.lk_types.specs.declared.node.Base.{Base}
-use Rattle.lk_types.specs.declared.node.Base.TheVariants.{Start, Tag}
+use Rattle.lk_types.specs.declared.c_type.CType.TheVariants.{Void, Int, Pointer, Array, Struct, Function}
 use Rattle.lk_types.specs.declared.node.Sel.{Sel}
 use Rattle.lk_types.specs.declared.node.Sel.TheVariants.{Target, Element, Field, Part}
 

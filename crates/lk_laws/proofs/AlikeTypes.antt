@@ -1,19 +1,19 @@
 -- Types that are equal but for the sizes of arrays: what they are made of is so too.
-use Rattle.std.proofs.Common.{◌≡◌, ◌<◌, ℕ, suc, zero, Bool, true, false, List, [], ◌∷◌, Option, Some, None, refl, sym, ap, subst, ◌∙◌, length, arith}
+use Rattle.std.proofs.Common.{◌≡◌, ◌<◌, ℕ, suc, zero, Bool, true, false, List, [], ◌∷◌, Option, Some, None, refl, sym, ap, subst, ◌∙◌, arith}
 use Rattle.std.proofs.lemmas.Option.{none-some, slice_get_within}
 use Rattle.std.specs.List.{slice_get}
 use Rattle.std.specs.Option.{option_map}
-use Rattle.std.specs.Prelude.{if◌then◌else◌, unwrap_or, ◌||◌}
+use Rattle.std.specs.Prelude.{if◌then◌else◌, unwrap_or}
 use Rattle.lk_types.specs.Building.{IsTable, IsMadeOf}
 use Rattle.lk_types.specs.Equal.{AreEqualBut, AnySizes, IsAlike}
 use Rattle.lk_types.specs.Equal.IsEqualBut.{same, pointers, arrays, functions}
 use Rattle.lk_types.specs.Equal.AreEqualBut.{none, more}
-use Rattle.lk_types.specs.Nodes.{Node, first, step, along, target_of, element_of, field_of, is_void_tag, has_part}
+use Rattle.lk_types.specs.Nodes.{Node, first, step, along, target_of, element_of}
 use Rattle.lk_types.specs.Table.{Table, type_at, least_of, fields_of, IsKnown}
 use Rattle.lk_types.specs.Walks.{has_tag, field as field_branch}
 use Rattle.lk_types.specs.declared.c_type.CType.{CType}
 use Rattle.lk_types.specs.declared.c_type.CType.TheVariants.{Void, Int, ThreadId, Mutex, Cond, Pointer, Array, Struct, Function, Opaque}
-use Rattle.lk_types.specs.declared.node.Base.TheVariants.{Start, Tag}
+use Rattle.lk_types.specs.declared.node.Base.TheVariants.{Tag}
 use Rattle.lk_types.specs.declared.node.Sel.{Sel}
 use Rattle.lk_types.specs.declared.node.Sel.TheVariants.{Target, Element, Field, Part}
 

@@ -133,7 +133,7 @@ within_direct : (table : Table) (t : ℕ) {n : NodeId} → IsWithin table t n �
 within_direct table t (within_start n is) = subst (λ x. direct x ≡ true) (sym is.first) refl
 within_direct table t (within_part m n s w stays steps) = direct_step table (node_of table m) s (node_of table n) (form_of table m) stays (within_direct table t w) steps.leads
 
-inside_to_place : (form : CType) (s : Sel) → leads_inside form s ≡ true → leads_to_place form s ≡ true
+pub inside_to_place : (form : CType) (s : Sel) → leads_inside form s ≡ true → leads_to_place form s ≡ true
 inside_to_place form Target h = refl
 inside_to_place form Element h = refl
 inside_to_place form (Field k) h = h
@@ -141,10 +141,10 @@ inside_to_place form (Part t) h = refl
 
 module _ (program : Program) where
   -- a value or place of the program
-  record IsThere (x : LabelName) : Type 0 where
-    ty : ℕ
-    has : IsHolderType program x.holder ty
-    of : IsNodeOf program.types ty x.node
+  pub record IsThere (x : LabelName) : Type 0 where
+    pub ty : ℕ
+    pub has : IsHolderType program x.holder ty
+    pub of : IsNodeOf program.types ty x.node
 
   not_direct : LabelName → Type 0
   not_direct x = direct (node_of program.types x.node) ≡ false
@@ -161,7 +161,7 @@ module _ (program : Program) where
   names_node {t} (place_start n is at) = node_start n at
   names_node {t} (place_part m n s of leads steps) = node_part m n s of steps
 
-  label_there : (x : LabelName) → IsLabel program x → IsThere x
+  pub label_there : (x : LabelName) → IsLabel program x → IsThere x
   label_there x label = record { ty = label.0; has = label.1; of = names_node label.2 }
 
   whole_there : (h : Holder) (x : LabelName) → IsWhole program h x → IsThere x
@@ -170,7 +170,7 @@ module _ (program : Program) where
   part_there : {x : LabelName} {s : Sel} {y : LabelName} → IsThere x → IsPart program x s y → IsThere y
   part_there {x} {s} {y} there part = record { ty = there.ty; has = subst (λ g. IsHolderType program g there.ty) (sym part.holder) there.has; of = node_part x.node y.node s there.of part.steps }
 
-  label_part : {x : LabelName} {s : Sel} {y : LabelName} → IsThere x → leads_to_place (form_of program.types x.node) s ≡ true → IsPart program x s y → IsLabel program y
+  pub label_part : {x : LabelName} {s : Sel} {y : LabelName} → IsThere x → leads_to_place (form_of program.types x.node) s ≡ true → IsPart program x s y → IsLabel program y
   label_part {x} {s} {y} there leads part = (there.ty, subst (λ g. IsHolderType program g there.ty) (sym part.holder) there.has, place_part x.node y.node s there.of leads part.steps)
 
   place_label : (r : ℕ) (x : LabelName) → place program r x → IsLabel program x

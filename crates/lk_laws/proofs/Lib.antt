@@ -8,3 +8,6 @@ pub mod Walking
 mod AlikeTypes
 mod AlikeEdges
 mod OwnSite
+mod NodesThere
+mod OneContent
+mod VoidNodes

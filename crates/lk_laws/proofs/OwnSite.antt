@@ -1,8 +1,8 @@
 -- A function flows on only where it is used as a value.
-use Rattle.std.proofs.Common.{◌≡◌, ◌⊎◌, ℕ, suc, Bool, true, false, List, [], ◌∷◌, ◌++◌, Option, Some, None, inl, inr, refl, sym, ap, subst, ◌∙◌}
+use Rattle.std.proofs.Common.{◌≡◌, ◌⊎◌, ℕ, Bool, true, false, List, [], ◌∷◌, ◌++◌, Option, Some, None, inl, inr, refl, sym, ap, subst, ◌∙◌}
 use Rattle.std.proofs.lemmas.Option.{none-some}
 use Rattle.std.specs.List.{slice_get}
-use Rattle.lk_facts.specs.EdgeRules.{Of, In, Loc, Sub, value, target, place, code, allocated, Converts, Passes, Returns, Row, IsEdge, AreEdges}
+use Rattle.lk_facts.specs.EdgeRules.{Of, In, place, allocated, Converts, Returns, Row, IsEdge, AreEdges}
 use Rattle.lk_facts.specs.EdgeRules.Converts.{same, to_void, from_void}
 use Rattle.lk_facts.specs.EdgeRules.IsEdge.{row, argv, args, passed, given_back, forth, back, inside, results, parameters}
 use Rattle.lk_facts.specs.LabelRules.{IsPart, IsWhole}
@@ -18,17 +18,14 @@ use Rattle.lk_facts.specs.declared.edge.Edge.{Edge}
 use Rattle.lk_facts.specs.declared.edge.Mark.{Mark}
 use Rattle.lk_facts.specs.declared.label_entry.LabelName.{LabelName}
 use Rattle.lk_facts.specs.declared.program.Program.{Program}
-use Rattle.lk_facts.specs.declared.root.Holder.{Holder}
 use Rattle.lk_facts.specs.declared.root.Holder.TheVariants.{Root}
 use Rattle.lk_facts.specs.declared.root.Root.{Root as RootOf}
 use Rattle.lk_facts.specs.declared.root.RootKind.{RootKind}
 use Rattle.lk_facts.specs.declared.root.RootKind.TheVariants as kind
 use Rattle.lk_laws.proofs.EdgeEnds.{Stepped, stepped}
 use Rattle.lk_types.specs.Nodes.{Node, node_of, first}
-use Rattle.lk_types.specs.declared.node.Base.{Base}
 use Rattle.lk_types.specs.declared.node.Base.TheVariants.{Start, Tag}
 use Rattle.lk_types.specs.declared.node.Sel.{Sel}
-use Rattle.lk_types.specs.declared.node.Sel.TheVariants.{Target, Element}
 
 no_end : {X : Type 0} (xs : List X) (x : X) → xs ++ x ∷ [] ≡ [] → ⊥
 no_end [] x h = absurd cc

@@ -1,5 +1,5 @@
 //! What edges join. Each function is a law, which its contract states.
-ghost use Rattle.lk_laws.specs.FlowLaws.{EdgesJoinLabels, EdgesJoinAlike, NoEdgeEndsAtAnOrigin, FunctionsHaveSites};
+ghost use Rattle.lk_laws.specs.FlowLaws.{EdgesJoinLabels, EdgesJoinAlike, NoEdgeEndsAtAnOrigin, FunctionsHaveSites, Contents};
 
 /// An edge joins two labels of the program.
 pub fn edges_join_labels()
@@ -19,4 +19,11 @@ pub fn no_edge_ends_at_an_origin()
 /// A function that flows to a label other than its own is used as a value, and has a site of its own.
 pub fn functions_have_sites()
     ensures { FunctionsHaveSites }
+{}
+
+/// Contents: where a walk leads from one label to another, and one path of fields and elements leads from both to
+/// pointers, walks lead both ways between what these point to, each in its context. The same holds of each Part of what
+/// `void *` points to.
+pub fn contents()
+    ensures { Contents }
 {}
