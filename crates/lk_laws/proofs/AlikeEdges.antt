@@ -50,10 +50,10 @@ module _ (program : Program) (is : IsTable program.types) (lowered : IsLowered p
   at x = node_of program.types x.node
 
   -- the labels of X have types that are alike to t
-  abbrev Have : (LabelName → Type 0) → ℕ → Type 0
+  abbrev pub Have : (LabelName → Type 0) → ℕ → Type 0
   Have X t = (x : LabelName) → X x → Alike (ty x) t
 
-  then : {a b c : ℕ} → Alike a b → Alike b c → Alike a c
+  pub then : {a b c : ℕ} → Alike a b → Alike b c → Alike a c
   then h k = joined table.types h k
 
   turned : {a b : ℕ} → Alike a b → Alike b a
@@ -63,16 +63,16 @@ module _ (program : Program) (is : IsTable program.types) (lowered : IsLowered p
   meet : {a b c : ℕ} → Alike a c → Alike b c → Alike a b
   meet h k = then h (turned k)
 
-  one_type : (h : Holder) (t u : ℕ) → IsHolderType program h t → IsHolderType program h u → t ≡ u
+  pub one_type : (h : Holder) (t u : ℕ) → IsHolderType program h t → IsHolderType program h u → t ≡ u
   one_type (Root r) t u h k = cc
   one_type (Slot f s) t u h k = cc
   one_type (Result f) t u h k = cc
   one_type (Point p) t u h k = cc
 
-  whole : (h : Holder) (t : ℕ) → IsHolderType program h t → Have (IsWhole program h) t
+  pub whole : (h : Holder) (t : ℕ) → IsHolderType program h t → Have (IsWhole program h) t
   whole h t has x w = same (ap (λ (n : Node). n.type) w.start.first ∙ one_type h w.ty t w.has has)
 
-  value_type : (p t : ℕ) → Gives program p t → Have (value program p) t
+  pub value_type : (p t : ℕ) → Gives program p t → Have (value program p) t
   value_type p t gives x w = then (whole (Point p) gives.0 gives.1 x w) gives.2
 
   part : {x y k l : LabelName} (s : Sel) → Alike (ty x) (ty y) → IsPart program x s k → IsPart program y s l → Alike (ty k) (ty l)
@@ -94,10 +94,10 @@ module _ (program : Program) (is : IsTable program.types) (lowered : IsLowered p
   field : (x y : LabelName) (w k t : ℕ) → Alike (ty x) w → slice_get (fields_of table (type_at table w)) k ≡ Some t → IsPart program x (Field k) y → Alike (ty y) t
   field x y w k t alike has h = field_parts table.types (fields_alike table is (ty x) w alike) k (ty y) t (field_step table is (at x) (at y) k h.steps.leads) has
 
-  target_type : (p t : ℕ) → PointsTo program p t → Have (target program p) t
+  pub target_type : (p t : ℕ) → PointsTo program p t → Have (target program p) t
   target_type p t points y h = then (pointed h.0 y points.1.0 points.0 (whole (Point p) points.1.0 points.1.1 h.0 h.1) points.1.2 h.2) points.2
 
-  pointed_form : (p : ℕ) (form : CType) (points : PointsToForm program p form) → Have (target program p) points.0
+  pub pointed_form : (p : ℕ) (form : CType) (points : PointsToForm program p form) → Have (target program p) points.0
   pointed_form p form points y h = pointed h.0 y points.1.0 points.0 (whole (Point p) points.1.0 points.1.1 h.0 h.1) points.1.2 h.2
 
   loc : {mark m : Mark} {X Y : LabelName → Type 0} {u v : LabelName} (t : ℕ) → Have X t → Have Y t → Loc program mark X Y u v m → Alike (ty u) (ty v)
@@ -119,21 +119,21 @@ module _ (program : Program) (is : IsTable program.types) (lowered : IsLowered p
   some_is : (x y : ℕ) → Some x ≡ Some y → x ≡ y
   some_is x y e = cc
 
-  given : {operands types : List ℕ} → AreGiven program operands types → (k a : ℕ) → slice_get operands k ≡ Some a → (t : ℕ) × (slice_get types k ≡ Some t) × Gives program a t
+  pub given : {operands types : List ℕ} → AreGiven program operands types → (k a : ℕ) → slice_get operands k ≡ Some a → (t : ℕ) × (slice_get types k ≡ Some t) × Gives program a t
   given given_none k a h = absurd (none-some a h)
   given (given_more x t xs ts gives rest) zero a h = (t, refl, subst (λ y. Gives program y t) (some_is x a h) gives)
   given (given_more x t xs ts gives rest) (suc k) a h = given rest k a h
 
   -- the types of what a function takes and gives, and of itself, where it has these
-  record IsOf (g : ℕ) (form : CType) : Type 0 where
-    takes : (k t : ℕ) → slice_get (fields_of table form) (suc k) ≡ Some t → Have (parameter program g (suc k)) t
-    gives : (t : ℕ) → slice_get (fields_of table form) 0 ≡ Some t → Have (result program g) t
+  pub record IsOf (g : ℕ) (form : CType) : Type 0 where
+    pub takes : (k t : ℕ) → slice_get (fields_of table form) (suc k) ≡ Some t → Have (parameter program g (suc k)) t
+    pub gives : (t : ℕ) → slice_get (fields_of table form) 0 ≡ Some t → Have (result program g) t
 
   read_there : {X : Type 0} (f : X → ℕ) (o : Option X) (y : ℕ) → option_map f o ≡ Some y → (x : X) × (o ≡ Some x)
   read_there f None y h = absurd (none-some y h)
   read_there f (Some x) y h = (x, refl)
 
-  function_known : (g r : ℕ) → root_of_function program g ≡ Some r → g < length program.functions
+  pub function_known : (g r : ℕ) → root_of_function program g ≡ Some r → g < length program.functions
   function_known g r h =
       let there = read_there (λ function. function.root) (slice_get program.functions g) r h in
       slice_get_within program.functions g there.0 there.1
@@ -141,24 +141,24 @@ module _ (program : Program) (is : IsTable program.types) (lowered : IsLowered p
   root_type_one : (r t u : ℕ) → IsRootType program r t → IsRootType program r u → t ≡ u
   root_type_one r t u h k = cc
 
-  root_is_one : (g r q : ℕ) → root_of_function program g ≡ Some r → root_of_function program g ≡ Some q → r ≡ q
+  pub root_is_one : (g r q : ℕ) → root_of_function program g ≡ Some r → root_of_function program g ≡ Some q → r ≡ q
   root_is_one g r q h k = cc
 
   form_is_one : (t : ℕ) (f g : CType) → IsForm table t f → IsForm table t g → f ≡ g
   form_is_one t f g h k = cc
 
-  one_form : (g : ℕ) (f h : CType) → IsFunctionType program g f → IsFunctionType program g h → f ≡ h
+  pub one_form : (g : ℕ) (f h : CType) → IsFunctionType program g f → IsFunctionType program g h → f ≡ h
   one_form g f h one two = cc
 
-  parameter_type : (g k : ℕ) (h : Holder) (t : ℕ) → parameter_of program g k ≡ Some h → IsHolderType program h t → Have (parameter program g k) t
+  pub parameter_type : (g k : ℕ) (h : Holder) (t : ℕ) → parameter_of program g k ≡ Some h → IsHolderType program h t → Have (parameter program g k) t
   parameter_type g k h t at_holder has x w =
       let one : w.0 ≡ h = cc in
       whole h t has x (subst (λ h. IsWhole program h x) one w.2)
 
-  result_type : (g t : ℕ) → ((u : ℕ) → result_of program g ≡ Some u → Alike u t) → Have (result program g) t
+  pub result_type : (g t : ℕ) → ((u : ℕ) → result_of program g ≡ Some u → Alike u t) → Have (result program g) t
   result_type g t gives x w = then (same (ap (λ (n : Node). n.type) w.start.first)) (gives w.ty w.has)
 
-  of_function : (g : ℕ) (form : CType) → IsFunctionType program g form → IsOf g form
+  pub of_function : (g : ℕ) (form : CType) → IsFunctionType program g form → IsOf g form
   of_function g form typed =
       let function = lowered.functions g (function_known g typed.0 typed.2) in
       let is_form : Function function.result function.params function.dots ≡ form = one_form g (Function function.result function.params function.dots) form function.of typed in
@@ -168,31 +168,31 @@ module _ (program : Program) (is : IsTable program.types) (lowered : IsLowered p
       })
 
   -- the label of a function
-  code_type : (g : ℕ) (form : CType) → IsFunctionType program g form → (u : LabelName) → code program g u → (t : ℕ) × Alike (ty u) t × IsForm table t form
+  pub code_type : (g : ℕ) (form : CType) → IsFunctionType program g form → (u : LabelName) → code program g u → (t : ℕ) × Alike (ty u) t × IsForm table t form
   code_type g form typed u h =
       let one : h.0 ≡ typed.0 = root_is_one g h.0 typed.0 h.1 typed.2 in
       (typed.1.ty, whole (Root typed.0) typed.1.ty (typed.1, typed.3, refl) u (subst (λ r. IsWhole program (Root r) u) one h.2), typed.4)
 
-  field_of_form : (w k t : ℕ) (form : CType) → IsForm table w form → slice_get (fields_of table form) k ≡ Some t → slice_get (fields_of table (type_at table w)) k ≡ Some t
+  pub field_of_form : (w k t : ℕ) (form : CType) → IsForm table w form → slice_get (fields_of table form) k ≡ Some t → slice_get (fields_of table (type_at table w)) k ≡ Some t
   field_of_form w k t form h has = subst (λ f. slice_get (fields_of table f) k ≡ Some t) (sym (ap (λ o. unwrap_or o Void) h)) has
 
-  code_has : (g r t : ℕ) → root_of_function program g ≡ Some r → IsRootType program r t → Have (code program g) t
+  pub code_has : (g r t : ℕ) → root_of_function program g ≡ Some r → IsRootType program r t → Have (code program g) t
   code_has g r t of has u h = whole (Root r) t has u (subst (λ q. IsWhole program (Root q) u) (root_is_one g h.0 r h.1 of) h.2)
 
   -- a step into what a value points to
-  into_element : (X : LabelName → Type 0) (w e n : ℕ) → Have X w → IsForm table w (Array e n) → Have (In program X Element) e
+  pub into_element : (X : LabelName → Type 0) (w e n : ℕ) → Have X w → IsForm table w (Array e n) → Have (In program X Element) e
   into_element X w e n have form u h = element h.0 u w e n (have h.0 h.1) form h.2.part
 
-  into_field : (X : LabelName → Type 0) (w k t : ℕ) → Have X w → slice_get (fields_of table (type_at table w)) k ≡ Some t → Have (In program X (Field k)) t
+  pub into_field : (X : LabelName → Type 0) (w k t : ℕ) → Have X w → slice_get (fields_of table (type_at table w)) k ≡ Some t → Have (In program X (Field k)) t
   into_field X w k t have has u h = field h.0 u w k t (have h.0 h.1) has h.2.part
 
-  into_part : (X : LabelName → Type 0) (t : ℕ) → IsKnown table t → Have (In program X (Part t)) t
+  pub into_part : (X : LabelName → Type 0) (t : ℕ) → IsKnown table t → Have (In program X (Part t)) t
   into_part X t known u h = then (same (part_step table is (at h.0) (at u) t h.2.part.steps.leads)) (least_alike table is t known)
 
-  of_field : (X : LabelName → Type 0) (w k t : ℕ) → Have X w → slice_get (fields_of table (type_at table w)) k ≡ Some t → Have (Of program X (Field k)) t
+  pub of_field : (X : LabelName → Type 0) (w k t : ℕ) → Have X w → slice_get (fields_of table (type_at table w)) k ≡ Some t → Have (Of program X (Field k)) t
   of_field X w k t have has u h = field h.0 u w k t (have h.0 h.1) has h.2
 
-  of_target : (X : LabelName → Type 0) (w t : ℕ) → Have X w → IsForm table w (Pointer t) → Have (Of program X Target) t
+  pub of_target : (X : LabelName → Type 0) (w t : ℕ) → Have X w → IsForm table w (Pointer t) → Have (Of program X Target) t
   of_target X w t have form u h = pointed h.0 u w t (have h.0 h.1) form h.2
 
   moved : (a b p : ℕ) {u v : LabelName} {m : Mark} → Moves program a b p → Sub program Plain (value program a) (value program p) u v m → Alike (ty u) (ty v)
@@ -250,13 +250,13 @@ module _ (program : Program) (is : IsTable program.types) (lowered : IsLowered p
   returned f None u v m typed h = absurd h
   returned f (Some a) u v m typed h = sub typed.0 (value_type a typed.0 typed.2) (whole (Result f) typed.0 typed.1) h
 
-  element_known : (w e n : ℕ) → IsForm table w (Array e n) → IsKnown table e
+  pub element_known : (w e n : ℕ) → IsForm table w (Array e n) → IsKnown table e
   element_known w e n form =
       let known : w < length table.types = slice_get_within table.types w (Array e n) form in
       let less : e < w = subst (IsMadeOf table w) (ap (λ o. unwrap_or o Void) form) (is.types w known).made_of in
       omega (arith, known)
 
-  start_known : (h : Holder) (x : LabelName) (w : IsWhole program h x) → IsKnown table w.ty
+  pub start_known : (h : Holder) (x : LabelName) (w : IsWhole program h x) → IsKnown table w.ty
   start_known h x w = subst (IsBase table) (ap (λ (n : Node). n.base) w.start.first) w.start.node.base
 
   allocates : (p r t : ℕ) (count : Option ℕ) (u v : LabelName) (m : Mark) → IsAllocated program p r t count → Loc program Plain (allocated program r count) (In program (target program p) (Part t)) u v m → Alike (ty u) (ty v)
@@ -268,11 +268,11 @@ module _ (program : Program) (is : IsTable program.types) (lowered : IsLowered p
       let has : IsRootType program r typed.0.ty = (typed.0, typed.1, refl) in
       loc t (into_element (place program r) typed.0.ty t 0 (whole (Root r) typed.0.ty has) typed.4) (into_part (target program p) t (element_known typed.0.ty t 0 typed.4)) h
 
-  members_of_form : (s k t : ℕ) → IsMember table s k t → slice_get (fields_of table (type_at table s)) k ≡ Some t
+  pub members_of_form : (s k t : ℕ) → IsMember table s k t → slice_get (fields_of table (type_at table s)) k ≡ Some t
   members_of_form s k t member =
       field_of_form s k t (Struct member.0) member.1 (slice_get-map (λ member. member.ty) _ k ∙ ap (option_map (λ member. member.ty)) member.2.1 ∙ ap Some member.2.2)
 
-  start_gives : (g a : ℕ) → (routine : IsStartRoutine program g) → PointsToForm program a Void → Gives program a routine.0
+  pub start_gives : (g a : ℕ) → (routine : IsStartRoutine program g) → PointsToForm program a Void → Gives program a routine.0
   start_gives g a routine points =
       let void : points.0 ≡ routine.1 = is.different points.0 routine.1 Void points.2 routine.2 in
       let pointer : points.1.0 ≡ routine.0 = is.different points.1.0 routine.0 (Pointer routine.1) (subst (λ t. IsForm table points.1.0 (Pointer t)) void points.1.2) routine.3 in
@@ -338,7 +338,7 @@ module _ (program : Program) (is : IsTable program.types) (lowered : IsLowered p
   row_alike p f (action.Scan a) u v m typed h = absurd h
   row_alike p f (action.Fill a spot named) u v m typed h = absurd h
 
-  one_string : (s t : ℕ) → (c d : ℕ) → IsForm table s (Pointer c) → IsForm table c (Int kind.Char) → IsForm table t (Pointer d) → IsForm table d (Int kind.Char) → s ≡ t
+  pub one_string : (s t : ℕ) → (c d : ℕ) → IsForm table s (Pointer c) → IsForm table c (Int kind.Char) → IsForm table t (Pointer d) → IsForm table d (Int kind.Char) → s ≡ t
   one_string s t c d sp cc' tp dc =
       let chars : c ≡ d = is.different c d (Int kind.Char) cc' dc in
       is.different s t (Pointer d) (subst (λ x. IsForm table s (Pointer x)) chars sp) tp

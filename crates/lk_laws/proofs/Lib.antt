@@ -11,3 +11,4 @@ mod OwnSite
 mod NodesThere
 mod OneContent
 mod VoidNodes
+mod RowEnds

@@ -79,19 +79,19 @@ module _ (table : Table) (is : IsTable table) where
           )
       of false plain = inside m ok Target 0 t (way_to_target table is (node_of table m).type t form plain) (steps_by false plain)
 
-  pointer_too : (a b s : ℕ) → Alike a b → IsOf a (Pointer s) → (t : ℕ) × IsOf b (Pointer t)
+  pub pointer_too : (a b s : ℕ) → Alike a b → IsOf a (Pointer s) → (t : ℕ) × IsOf b (Pointer t)
   pointer_too a b s (same e) at = (s, subst (λ x. IsOf x (Pointer s)) e at)
   pointer_too a b s (pointers {t = t} at' bt h) at = (t, bt)
   pointer_too a b s (arrays at' bt h sizes) at = absurd cc
   pointer_too a b s (functions at' bt h hs) at = absurd cc
 
-  array_too : (a b s n : ℕ) → Alike a b → IsOf a (Array s n) → (t m : ℕ) × IsOf b (Array t m)
+  pub array_too : (a b s n : ℕ) → Alike a b → IsOf a (Array s n) → (t m : ℕ) × IsOf b (Array t m)
   array_too a b s n (same e) at = (s, n, subst (λ x. IsOf x (Array s n)) e at)
   array_too a b s n (arrays {t = t} {m = m} at' bt h sizes) at = (t, m, bt)
   array_too a b s n (pointers at' bt h) at = absurd cc
   array_too a b s n (functions at' bt h hs) at = absurd cc
 
-  field_too : {ps qs : List ℕ} → AreEqualBut AnySizes table.types ps qs → (k p : ℕ) → slice_get ps k ≡ Some p → (q : ℕ) × (slice_get qs k ≡ Some q)
+  pub field_too : {ps qs : List ℕ} → AreEqualBut AnySizes table.types ps qs → (k p : ℕ) → slice_get ps k ≡ Some p → (q : ℕ) × (slice_get qs k ≡ Some q)
   field_too none k p h = absurd (none-some p h)
   field_too (more {b = b} h hs) zero p at = (b, refl)
   field_too (more h hs) (suc k) p at = field_too hs k p at
@@ -106,7 +106,7 @@ module _ (table : Table) (is : IsTable table) where
   function_too a b (functions {r = r} {s = q} {ps = ps} {qs = qs} {dots = dots} at bt h hs) = form_of_type a (Function r ps dots) at ∙ sym (form_of_type b (Function q qs dots) bt)
 
   -- a type that has fields is in the table
-  fielded_known : (t k u : ℕ) → slice_get (fields_of table (type_at table t)) k ≡ Some u → IsKnown table t
+  pub fielded_known : (t k u : ℕ) → slice_get (fields_of table (type_at table t)) k ≡ Some u → IsKnown table t
   fielded_known t k u h = of (slice_get table.types t) refl
     where
       of : (o : Option CType) → slice_get table.types t ≡ o → IsKnown table t

@@ -1,4 +1,5 @@
 //! What edges join. Each function is a law, which its contract states.
+ghost use Rattle.lk_laws.specs.RowLaws.{RowsGiveEdges};
 ghost use Rattle.lk_laws.specs.FlowLaws.{EdgesJoinLabels, EdgesJoinAlike, NoEdgeEndsAtAnOrigin, FunctionsHaveSites, Contents};
 
 /// An edge joins two labels of the program.
@@ -9,6 +10,11 @@ pub fn edges_join_labels()
 /// An edge joins two labels whose types are equal but for the sizes of arrays, where the points are typed.
 pub fn edges_join_alike()
     ensures { EdgesJoinAlike }
+{}
+
+/// Each row of the edges gives its edges: what it joins is there. Nothing is joined only where neither side is a pointer.
+pub fn rows_give_edges()
+    ensures { RowsGiveEdges }
 {}
 
 /// No edge ends at an origin.
