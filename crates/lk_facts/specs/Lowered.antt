@@ -1,11 +1,11 @@
 -- What the points of a program keep that were made from its typed tree.
-use Rattle.std.specs.Prelude.{◌≡◌, ◌↔◌, ◌<◌, ◌⊎◌, ℕ, suc, true, [], ◌∷◌, List, Option, Some, length, slice_get, ⊤}
+use Rattle.std.specs.Prelude.{◌≡◌, ◌↔◌, ◌<◌, ◌⊎◌, ℕ, suc, Bool, true, false, [], ◌∷◌, List, Option, Some, length, slice_get, ⊤}
 use Rattle.lk_base.specs.declared.kind.Kind.TheVariants.{Char}
 use Rattle.lk_facts.specs.InRange.{AllOperands}
 use Rattle.lk_facts.specs.Initials.{IsWritten}
-use Rattle.lk_facts.specs.LabelRules.{AreVoidParts}
+use Rattle.lk_facts.specs.LabelRules.{AreVoidParts, IsWithin, form_of}
 use Rattle.lk_facts.specs.Live.{IsReached}
-use Rattle.lk_facts.specs.Program.{action_at, next_of, live_at, function_at, site_at, entry_of, exit_of, value_site_of, root_at, place_at, parameter_of, root_of_function, function_of_root}
+use Rattle.lk_facts.specs.Program.{action_at, next_of, live_at, function_at, site_at, entry_of, exit_of, value_site_of, root_at, place_at, parameter_of, root_of_function, function_of_root, IsLocation, IsLockPlace}
 use Rattle.lk_facts.specs.Reach.{IsNext}
 use Rattle.lk_facts.specs.Typed.{IsForm, HasPartAt, IsRootType, IsHolderType, IsNumberOf, IsTyped, IsFunctionTyped}
 use Rattle.lk_facts.specs.declared.action.Action.{Action}
@@ -22,9 +22,8 @@ use Rattle.lk_facts.specs.declared.root.Holder.{Holder}
 use Rattle.lk_facts.specs.declared.root.RootKind.{RootKind}
 use Rattle.lk_facts.specs.declared.root.RootKind.TheVariants.{Global, Static, Local, Heap, Text, Argv, Args, Function as FunctionRoot}
 use Rattle.lk_types.specs.Equal.{IsAlike}
-use Rattle.lk_types.specs.Nodes.{IsNode}
+use Rattle.lk_types.specs.Objects.{is_mutex, is_value}
 use Rattle.lk_types.specs.declared.c_type.CType.TheVariants.{Array, Cond, Int, Mutex, Pointer, Void}
-use Rattle.lk_types.specs.declared.node.Base.TheVariants.{Start}
 
 -- who has a site: a live call or creation, or a function that is used as a value
 pub data Owner : Type 0 where
@@ -145,12 +144,30 @@ module _ (program : Program) where
   IsArgument Args t = (char n : ℕ) × IsForm program.types t (Array char n) × IsForm program.types char (Int Char)
   IsArgument FunctionRoot t = ⊤
 
-  -- the node of a place is one of its root's type
-  pub record IsPlaceOfRoot (place : Place) : Type 0 where
-    pub ty : ℕ
-    pub of : IsRootType program place.root ty
-    pub start : place.node.base ≡ Start ty
-    pub node : IsNode program.types place.node
+  -- a root whose parts are cells: a text's can't be written, and a function has none
+  abbrev pub holds_cells : RootKind → Bool
+  holds_cells Global = true
+  holds_cells Static = true
+  holds_cells Local = true
+  holds_cells (Heap one) = true
+  holds_cells Text = false
+  holds_cells Argv = true
+  holds_cells Args = true
+  holds_cells FunctionRoot = false
+
+  -- the place is a part of the object of such a root
+  pub record IsPartOfObject (place : Place) : Type 0 where
+    pub root : Root
+    pub of : root_at program place.root ≡ Some root
+    pub cells : holds_cells root.kind ≡ true
+    pub within : IsWithin program.types root.ty place.node
+
+  -- the place of a cell with a value, and that of a mutex; a condition variable is neither
+  abbrev pub IsPlaceOfValue : Place → Type 0
+  IsPlaceOfValue place = IsPartOfObject place × (is_value (form_of program.types place.node) ≡ true)
+
+  abbrev pub IsPlaceOfMutex : Place → Type 0
+  IsPlaceOfMutex place = IsPartOfObject place × (is_mutex (form_of program.types place.node) ≡ true)
 
   pub record IsLowered : Type 0 where
     -- operands and successors of a point stand in its function
@@ -181,5 +198,6 @@ module _ (program : Program) where
     -- main's arguments, and its second parameter, which points to them
     pub arguments : (r : ℕ) (root : Root) → root_at program r ≡ Some root → IsArgument root.kind root.ty
     pub argv : (holder : Holder) (t : ℕ) → parameter_of program program.main 2 ≡ Some holder → IsHolderType program holder t → (string : ℕ) × IsForm program.types t (Pointer string) × IsString string
-    -- each location and lock place is a part of its root
-    pub places : (n : ℕ) (place : Place) → place_at program n ≡ Some place → IsPlaceOfRoot place
+    -- the locations are the places of cells with values, and the lock places those of mutexes
+    pub locations : (place : Place) → ((n : ℕ) × IsLocation program n × (place_at program n ≡ Some place)) ↔ IsPlaceOfValue place
+    pub locks : (place : Place) → ((n : ℕ) × IsLockPlace program n × (place_at program n ≡ Some place)) ↔ IsPlaceOfMutex place

@@ -61,16 +61,16 @@ into_other table form Element b is other path = let array = array_of form b is i
 into_other table form (Field k) b is other path = (λ h. h, λ h. h)
 into_other table form (Part t) b is other path = (λ h. h, λ h. h)
 
-module _ (table : Table) (n : NodeId) (t k u rest : ℕ) (left : IsLeft table n t (suc k)) (part : IsInPart table t k u rest) where
-  below_sel : (e : Entry) → entry_at table u rest ≡ Some e → HasNoElement (entry_of table n).path ↔ HasNoElement (part.sel ∷ e.path)
-  below_sel e at = left.path (under part.sel e) (part.same ∙ ap (option_map (under part.sel)) at)
+module _ (table : Table) (n : NodeId) (t k : ℕ) (sel : Sel) (u rest : ℕ) (left : IsLeft table n t (suc k)) (part : IsInPart table t k sel u rest) where
+  below_sel : (e : Entry) → entry_at table u rest ≡ Some e → HasNoElement (entry_of table n).path ↔ HasNoElement (sel ∷ e.path)
+  below_sel e at = left.path (under sel e) (part.same ∙ ap (option_map (under sel)) at)
 
   -- below a step into anything but an array
   pub less_left : ((v m : ℕ) → type_at table t ≡ Array v m → ⊥) → IsLeft table n u rest
   less_left other = record {
     known = part.known;
-    same = let same = same_part table t k u rest part in record { type = left.same.type ∙ same.type; tag = left.same.tag ∙ same.tag };
-    path = λ e at. let here = below_sel e at in let there = into_other table (type_at table t) part.sel _ part.part other e.path in
+    same = let same = same_part table t k sel u rest part in record { type = left.same.type ∙ same.type; tag = left.same.tag ∙ same.tag };
+    path = λ e at. let here = below_sel e at in let there = into_other table (type_at table t) sel _ part.part other e.path in
         (λ h. there.0 (here.0 h), λ h. here.1 (there.1 h));
   }
 
@@ -79,7 +79,7 @@ module _ (table : Table) (n : NodeId) (t k u rest : ℕ) (left : IsLeft table n 
   in_array v m is none =
       let e = get_or (nodes table u) rest (start u) in
       let at = slice_get-get_or (nodes table u) rest (start u) part.within in
-      into_array table v m part.sel _ (ap (λ form. branch_of table form part.sel) (sym is) ∙ part.part) e.path ((below_sel e at).0 none)
+      into_array table v m sel _ (ap (λ form. branch_of table form sel) (sym is) ∙ part.part) e.path ((below_sel e at).0 none)
 
 -- where nothing is left the path went into no array
 pub none_left : (table : Table) (good : IsTable table) (n : NodeId) (t : ℕ) → IsLeft table n t 0 → HasNoElement (entry_of table n).path

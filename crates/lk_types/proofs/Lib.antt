@@ -12,6 +12,7 @@ pub mod RestLemmas
 pub mod VoidParts
 pub mod NodeLemmas
 pub mod ElementLemmas
+pub mod LeftPath
 pub mod RedeclareLemmas
 pub mod SizeLemmas
 pub mod AddLemmas

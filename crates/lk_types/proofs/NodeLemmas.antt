@@ -33,7 +33,7 @@ tag_alone : (k : ℕ) (e : Entry) → e.tag ≡ true → option_map (λ e. e.tag
 tag_alone zero e tagged is = false≢true (sym (same_Some e.tag false is) ∙ tagged)
 tag_alone (suc k) e tagged is = none-some false is
 
-append-nil : {X : Type 0} (xs : List X) → xs ≡ xs ++ []
+pub append-nil : {X : Type 0} (xs : List X) → xs ≡ xs ++ []
 append-nil [] = refl
 append-nil (x ∷ xs) = ap (λ ys. x ∷ ys) (append-nil xs)
 
@@ -125,10 +125,10 @@ pub record IsSamePart (a b : Option Entry) : Type 0 where
   pub tag : option_map (λ e. e.tag) a ≡ option_map (λ e. e.tag) b
 
 -- an entry and that of the part in whose walk it stands have one type and one tag
-pub same_part : (table : Table) (t k u rest : ℕ) → IsInPart table t k u rest → IsSamePart (entry_at table t (suc k)) (entry_at table u rest)
-same_part table t k u rest part = record {
-  type = ap (option_map (λ e. e.type)) part.same ∙ map_twice (λ e. e.type) (under part.sel) (entry_at table u rest);
-  tag = ap (option_map (λ e. e.tag)) part.same ∙ map_twice (λ e. e.tag) (under part.sel) (entry_at table u rest);
+pub same_part : (table : Table) (t k : ℕ) (sel : Sel) (u rest : ℕ) → IsInPart table t k sel u rest → IsSamePart (entry_at table t (suc k)) (entry_at table u rest)
+same_part table t k sel u rest part = record {
+  type = ap (option_map (λ e. e.type)) part.same ∙ map_twice (λ e. e.type) (under sel) (entry_at table u rest);
+  tag = ap (option_map (λ e. e.tag)) part.same ∙ map_twice (λ e. e.tag) (under sel) (entry_at table u rest);
 }
 
 module _ (table : Table) (good : IsTable table) where
@@ -235,7 +235,7 @@ module _ (table : Table) (good : IsTable table) where
 
   -- an entry of the walk of a field is that of the type
   pub in_field : (t : ℕ) → IsKnown table t → (k u rest number : ℕ) → slice_get (fields_of table (type_at table t)) k ≡ Some u → rest < nodes_of table u →
-      number ≡ nodes_of_all table (take k (fields_of table (type_at table t))) + rest → IsKnown table u → IsInPart table t number u rest
+      number ≡ nodes_of_all table (take k (fields_of table (type_at table t))) + rest → IsKnown table u → IsInPart table t number (Field k) u rest
   in_field t known k u rest number at within is there =
       let ts = fields_of table (type_at table t) in
       let place = nodes_of_all table (take k ts) in
@@ -246,7 +246,6 @@ module _ (table : Table) (good : IsTable table) where
       let got = out_of_part table good t known (field k u) place stands refl rest e entry in
       let same : slice_get (nodes table t) (suc number) ≡ Some (under (Field k) e) = ap (λ n. slice_get (nodes table t) (suc n)) is ∙ got in
       record {
-        sel = Field k;
         part = ap (option_map (field k)) at;
         known = there;
         nearer = omega arith;
@@ -263,7 +262,7 @@ module _ (table : Table) (good : IsTable table) where
   -- an entry of the walk of the one part of a type
   pub in_only : (t : ℕ) → IsKnown table t → (b : Branch) → b.tag ≡ false → branches table (type_at table t) ≡ b ∷ [] →
       branch_of table (type_at table t) b.sel ≡ Some (record { sel = b.sel; type = b.type; tag = false }) → IsKnown table b.type → (number : ℕ) → is_node (entry_at table t (suc number)) →
-      IsInPart table t number b.type number
+      IsInPart table t number b.sel b.type number
   in_only t known b plain is part there number node =
       let whole : nodes table t ≡ start t ∷ (map (under b.sel) (nodes table b.type) ++ []) =
       split table good t known ∙ ap (λ bs. start t ∷ flat_map (at_branch (nodes table)) bs) is ∙ ap (λ es. start t ∷ (es ++ [])) (inside_is (nodes table) b plain) in
@@ -271,7 +270,6 @@ module _ (table : Table) (good : IsTable table) where
       ap (λ es. slice_get es (suc number)) whole ∙ ap (λ es. slice_get es number) (sym (append-nil (map (under b.sel) (nodes table b.type)))) ∙ slice_get-map (under b.sel) (nodes table b.type) number in
       let tags = ap (option_map (λ e. e.tag)) same ∙ map_twice (λ e. e.tag) (under b.sel) (slice_get (nodes table b.type) number) in
       record {
-        sel = b.sel;
         part = part;
         known = there;
         nearer = omega arith;
@@ -318,10 +316,10 @@ module _ (table : Table) (good : IsTable table) where
       ap (λ n. entry_at table t (suc n)) is ∙ way_inside t known (field k u) before stands refl
 
   -- the entries below a pointer are those of what it points to, where no Tag stands
-  pub in_target : (t : ℕ) → IsKnown table t → (u : ℕ) → type_at table t ≡ Pointer u → IsKnown table u → (number : ℕ) → is_node (entry_at table t (suc number)) → IsInPart table t number u number
+  pub in_target : (t : ℕ) → IsKnown table t → (u : ℕ) → type_at table t ≡ Pointer u → IsKnown table u → (number : ℕ) → is_node (entry_at table t (suc number)) → IsInPart table t number Target u number
   in_target t known u is there number node = of (has_tag table u) refl
     where
-      of : (tag : Bool) → has_tag table u ≡ tag → IsInPart table t number u number
+      of : (tag : Bool) → has_tag table u ≡ tag → IsInPart table t number Target u number
       of false plain =
           in_only t known (record { sel = Target; type = u; tag = false }) refl (ap (branches table) is ∙ ap (λ b. b ∷ []) (target_plain u plain))
           (ap (λ form. branch_of table form Target) is ∙ ap Some (target_plain u plain)) there number node

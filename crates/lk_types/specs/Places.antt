@@ -28,8 +28,7 @@ branch_of table form (Field k) = field_of table form k
 branch_of table form (Part t) = None
 
 -- entry k + 1 of the walk of t is entry `rest` of the walk of its part u, below the step to that part
-pub record IsInPart (table : Table) (t k u rest : ℕ) : Type 0 where
-  pub sel : Sel
+pub record IsInPart (table : Table) (t k : ℕ) (sel : Sel) (u rest : ℕ) : Type 0 where
   pub part : branch_of table (type_at table t) sel ≡ Some (record { sel = sel; type = u; tag = false })
   pub known : IsKnown table u
   pub nearer : rest ≤ k

@@ -1,5 +1,5 @@
 //! The numbers of nodes in the walk of a type.
-ghost use Rattle.std.specs.Prelude.{◌≡◌, ◌↔◌, IsTrue, ◌<◌, ◌≤◌, ◌+◌, length, slice_get, Some, None, IfSome, MatchOption};
+ghost use Rattle.std.specs.Prelude.{◌≡◌, ◌↔◌, IsTrue, ◌<◌, ◌≤◌, ◌+◌, length, slice_get, Some, None, IfSome, IfOk, MatchOption};
 ghost use Rattle.std.specs.Option.{option_map};
 ghost use Rattle.lk_types.specs.Table.{IsKnown, type_at, fields_of, least_of};
 ghost use Rattle.lk_types.specs.Walks.{has_tag, branches, fields};
@@ -14,6 +14,8 @@ use crate::c_type::CType;
 use crate::node::{Base, NodeId, Sel};
 use crate::table::TypeTable;
 use crate::type_id::TypeId;
+use lk_base::NoMemory;
+use std::alloc::Global;
 
 /// How a part of a type is reached.
 #[derive(Clone, Copy)]
@@ -89,36 +91,36 @@ impl TypeTable {
         }
     }
 
-    /// The field in whose walk the entry stands that comes so many entries after the one that follows the type's own,
-    /// and the number of the entry there.
-    fn field_at(&self, t: TypeId, number: u32) -> (TypeId, u32)
+    /// The number and the type of the field in whose walk the entry stands that comes so many entries after the one that
+    /// follows the type's own, and the number of the entry there.
+    fn field_at(&self, t: TypeId, number: u32) -> (u32, TypeId, u32)
         requires known { IsKnown self.now t }
         requires entry { is_node (entry_at self.now t (number + 1)) }
         requires fields { branches self.now (type_at self.now t) ≡ fields 0 (fields_of self.now (type_at self.now t)) }
-        ensures { IsInPart self.now t number result.0 result.1 }
+        ensures { IsInPart self.now t number (Field result.0) result.1 result.2 }
     {
         let mut rest = number;
         let mut k = 0;
         while let Some(field) = self.field(t, k) {
             let nodes = self.size(field).nodes;
             if rest < nodes {
-                return (field, rest);
+                return (k, field, rest);
             }
             rest -= nodes;
             k += 1;
         }
-        (t, rest)
+        (k, t, rest)
     }
 
-    /// The part in whose walk an entry stands, and the number of the entry there.
-    fn part_at(&self, t: TypeId, number: u32) -> (TypeId, u32)
+    /// The step to the part in whose walk an entry stands, the part, and the number of the entry there.
+    fn part_at(&self, t: TypeId, number: u32) -> (Sel, TypeId, u32)
         requires known { IsKnown self.now t }
         requires entry { is_node (entry_at self.now t (number + 1)) }
-        ensures { IsInPart self.now t number result.0 result.1 }
+        ensures { IsInPart self.now t number result.0 result.1 result.2 }
     {
         match self.get(t) {
-            CType::Pointer(part) => (*part, number),
-            CType::Array(part, _) => (*part, number),
+            CType::Pointer(part) => (Sel::Target, *part, number),
+            CType::Array(part, _) => (Sel::Element, *part, number),
             CType::Void
             | CType::Int(_)
             | CType::ThreadId
@@ -126,7 +128,10 @@ impl TypeTable {
             | CType::Cond
             | CType::Struct(_)
             | CType::Function { .. }
-            | CType::Opaque(_) => self.field_at(t, number),
+            | CType::Opaque(_) => {
+                let (k, field, rest) = self.field_at(t, number);
+                (Sel::Field(k), field, rest)
+            }
         }
     }
 
@@ -152,11 +157,29 @@ impl TypeTable {
         let mut t = n.base.ty();
         let mut number = n.number;
         while number > 0 {
-            let (part, rest) = self.part_at(t, number - 1);
+            let (_sel, part, rest) = self.part_at(t, number - 1);
             t = part;
             number = rest;
         }
         t
+    }
+
+    /// The steps that lead to a node from where its walk begins.
+    pub fn path(&self, alloc: Global, n: NodeId) -> Result<Vec<Sel>, NoMemory>
+        requires { IsNode self.now n }
+        ensures { IfOk result (λ path. path.items ≡ (node_of self.now n).path) }
+    {
+        self.is_table();
+        let mut path = Vec::new(alloc);
+        let mut t = n.base.ty();
+        let mut number = n.number;
+        while number > 0 {
+            let (sel, part, rest) = self.part_at(t, number - 1);
+            path.push(sel)?;
+            t = part;
+            number = rest;
+        }
+        Ok(path)
     }
 
     /// Whether the path of a node goes into no array, so that the node of an object is one part of it at most.
@@ -168,7 +191,7 @@ impl TypeTable {
         let mut t = n.base.ty();
         let mut number = n.number;
         while number > 0 {
-            let (part, rest) = self.part_at(t, number - 1);
+            let (_sel, part, rest) = self.part_at(t, number - 1);
             if matches!(self.get(t), CType::Array(_, _)) {
                 return false;
             }

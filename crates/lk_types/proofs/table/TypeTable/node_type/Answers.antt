@@ -13,8 +13,8 @@ returns-clause-value c =
 pub loop-number-preserved : goal.loop-number-preserved
 loop-number-preserved c =
     let now = c.args.self.now in
-    let part = c.part_at-part.ensures in
+    let part = c.part_at-sel.ensures in
     let number : suc (c.loop-number.number - 1) ≡ c.loop-number.number = omega (arith, c.loop-number-test.true) in
-    let same = subst (λ k. IsSamePart (entry_at now c.loop-number.t k) (entry_at now c.part_at-part.result.0 c.part_at-part.result.1)) number
-    (same_part now c.loop-number.t (c.loop-number.number - 1) c.part_at-part.result.0 c.part_at-part.result.1 part) in
+    let same = subst (λ k. IsSamePart (entry_at now c.loop-number.t k) (entry_at now c.part_at-sel.result.1 c.part_at-sel.result.2)) number
+    (same_part now c.loop-number.t (c.loop-number.number - 1) c.part_at-sel.result.0 c.part_at-sel.result.1 c.part_at-sel.result.2 part) in
     (part.known, record { type = c.loop-number.invariant.1.type ∙ same.type; tag = c.loop-number.invariant.1.tag ∙ same.tag })
