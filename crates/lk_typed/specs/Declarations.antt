@@ -4,13 +4,13 @@ use Rattle.lk_tree.specs.declared.declaration.Declare.{Declare}
 use Rattle.lk_tree.specs.declared.declaration.Init.{Init}
 use Rattle.lk_tree.specs.declared.declaration.InitDeclarator.{InitDeclarator}
 use Rattle.lk_tree.specs.declared.specifiers.Storage.{Storage}
-use Rattle.lk_typed.specs.DeclarationRules.{Scope, Given, Bare, Initialised, has, is_extern, linkage_of, defines_of, meaning_of}
+use Rattle.lk_typed.specs.DeclarationRules.{InDeclaration, Scope, Given, Bare, Initialised, has, is_extern, linkage_of, defines_of, meaning_of, type_in}
 use Rattle.lk_typed.specs.Env.{Env, Additions, Name, Declared, nothing, both, extend, look_up}
-use Rattle.lk_typed.specs.Initialisers.{completed_by}
-use Rattle.lk_typed.specs.Nodes.{Tells}
+use Rattle.lk_typed.specs.Initialisers.{completed_by, init_adds}
 use Rattle.lk_typed.specs.Redeclared.{is_linked_alike, object_type}
-use Rattle.lk_typed.specs.Told.{SpecifierTold, Named, type_of}
+use Rattle.lk_typed.specs.Told.{SpecifierTold, Named}
 use Rattle.lk_typed.specs.Ty.{Ty, Void, Int, ThreadId, Mutex, Cond, Pointer, Array, Struct, Function, Opaque, array_of, is_function, is_redeclarable}
+use Rattle.lk_typed.specs.Expressions.{declarator_found, specifiers_found}
 
 -- the size that one of two declarations gives
 abbrev pub sized : ℕ → ℕ → ℕ
@@ -52,10 +52,10 @@ may_lack_size ss None = has is_extern ss
 may_lack_size ss (Some init) = true
 
 -- the type with the size that an initialiser gives (C99 6.7.8, 22)
-abbrev pub completed : Tells → Option Ty → Option Init → Option Ty
-completed tells None init = None
-completed tells (Some t) None = Some t
-completed tells (Some t) (Some init) = Some (completed_by tells init t)
+abbrev pub completed : Option Ty → Option Init → Option Ty
+completed None init = None
+completed (Some t) None = Some t
+completed (Some t) (Some init) = Some (completed_by init t)
 
 abbrev pub type_with_old : Env → Name → Option Ty → Option Ty
 type_with_old env name None = None
@@ -82,33 +82,33 @@ abbrev pub named_additions : Env → Scope → List Storage → Given → Option
 named_additions env scope ss given None t = nothing
 named_additions env scope ss given (Some named) t = one_name (declared_as env scope ss given named.name t)
 
-abbrev pub initialiser_adds : Tells → Env → Option Init → Additions
-initialiser_adds tells env None = nothing
-initialiser_adds tells env (Some init) = tells.initialiser init env
+abbrev pub initialiser_adds : Env → Option Init → Additions
+initialiser_adds env None = nothing
+initialiser_adds env (Some init) = init_adds init env
 
 -- a declarator with its initialiser: what it adds up to its name, and what the initialiser adds behind that
-abbrev pub name_adds : Tells → Scope → SpecifierTold → Env → InitDeclarator → Additions
-name_adds tells scope told env d =
-    let inner = tells.declarator d.declarator in
+abbrev pub name_adds : Scope → SpecifierTold → Env → InitDeclarator → Additions
+name_adds scope told env d =
+    let inner = declarator_found d.declarator in
     let a = inner.additions env in
-    let t = inner.type env (may_lack_size told.storages d.init) (type_of told) in
-    both a (named_additions (extend env a) scope told.storages (given_by d.init) inner.name (completed tells t d.init))
+    let t = inner.type env (may_lack_size told.storages d.init) (type_in InDeclaration told) in
+    both a (named_additions (extend env a) scope told.storages (given_by d.init) inner.name (completed t d.init))
 
-abbrev pub declarator_adds : Tells → Scope → SpecifierTold → Env → InitDeclarator → Additions
-declarator_adds tells scope told env d =
-    let a = name_adds tells scope told env d in
-    both a (initialiser_adds tells (extend env a) d.init)
+abbrev pub declarator_adds : Scope → SpecifierTold → Env → InitDeclarator → Additions
+declarator_adds scope told env d =
+    let a = name_adds scope told env d in
+    both a (initialiser_adds (extend env a) d.init)
 
-abbrev pub declarators_add : Tells → Scope → SpecifierTold → Env → List InitDeclarator → Additions
-declarators_add tells scope told env [] = nothing
-declarators_add tells scope told env (d ∷ ds) = let a = declarator_adds tells scope told env d in both a (declarators_add tells scope told (extend env a) ds)
+abbrev pub declarators_add : Scope → SpecifierTold → Env → List InitDeclarator → Additions
+declarators_add scope told env [] = nothing
+declarators_add scope told env (d ∷ ds) = let a = declarator_adds scope told env d in both a (declarators_add scope told (extend env a) ds)
 
 abbrev pub is_alone : List InitDeclarator → Bool
 is_alone [] = true
 is_alone (d ∷ ds) = false
 
 -- what a declaration adds
-abbrev pub declaration_adds : Tells → Scope → Env → Declare → Additions
-declaration_adds tells scope env node =
-    let told = tells.specifiers node.specifiers env (is_alone node.declarators) in
-    both told.additions (declarators_add tells scope told (extend env told.additions) node.declarators)
+abbrev pub declaration_adds : Scope → Env → Declare → Additions
+declaration_adds scope env node =
+    let told = specifiers_found node.specifiers env (is_alone node.declarators) in
+    both told.additions (declarators_add scope told (extend env told.additions) node.declarators)

@@ -61,6 +61,8 @@ pub record Field : Type 0 where
 pub data Members : Type 0 where
   -- nothing yet: the struct is incomplete
   NotYet : Members
+  -- nothing yet, and its definition has begun: it is incomplete up to the closing brace (C99 6.7.2.3, 4)
+  Begun : Members
   Known : List Field → Members
   -- its definition is faulty: what needs its members has neither a type nor a fault
   Faulty : Members

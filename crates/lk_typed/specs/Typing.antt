@@ -13,6 +13,12 @@ pub data Constant : Type 0 where
   Undefined : Constant
   Known : ℤ → Constant
 
+-- the value of a constant, where it is known
+abbrev pub known_value : Constant → Option ℤ
+known_value NotConstant = None
+known_value Undefined = None
+known_value (Known z) = Some z
+
 -- what an address constant points to, or where a place of static storage is (C99 6.6, 9)
 pub data Address : Type 0 where
   NotAddress : Address
@@ -122,6 +128,11 @@ abbrev pub typing_of : Verdict → Option Typing
 typing_of (Typed typing) = Some typing
 typing_of (Broken codes) = None
 typing_of Silent = None
+
+-- what constant an expression is, missing where it has no typing; a place is none (C99 6.6, 6)
+abbrev pub constant_in : Option Typing → Option Constant
+constant_in None = None
+constant_in (Some typing) = Some typing.constant
 
 abbrev pub codes_of : Verdict → List Code
 codes_of (Typed typing) = []
