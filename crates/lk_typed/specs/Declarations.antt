@@ -66,13 +66,14 @@ is_function_type None = false
 is_function_type (Some t) = is_function t
 
 -- a declared name (C99 6.2.2, 6.2.4); its declaration is faulty where its type is missing
-abbrev pub declared_as : Env → Scope → List Storage → Given → Name → Option Ty → Declared
-declared_as env scope ss given name t =
+abbrev pub declared_as : Env → Scope → List Storage → Given → Name → ℕ → Option Ty → Declared
+declared_as env scope ss given name n t =
     record {
       name = name;
       meaning = meaning_of scope ss (type_with_old env name t);
       linkage = linkage_of env scope ss (is_function_type t) name;
       defines = defines_of scope ss (is_function_type t) given;
+      ordinal = n;
     }
 
 abbrev pub one_name : Declared → Additions
@@ -80,7 +81,7 @@ one_name d = record { declared = d ∷ []; tags = []; structs = [] }
 
 abbrev pub named_additions : Env → Scope → List Storage → Given → Option Named → Option Ty → Additions
 named_additions env scope ss given None t = nothing
-named_additions env scope ss given (Some named) t = one_name (declared_as env scope ss given named.name t)
+named_additions env scope ss given (Some named) t = one_name (declared_as env scope ss given named.name named.ordinal t)
 
 abbrev pub initialiser_adds : Env → Option Init → Additions
 initialiser_adds env None = nothing

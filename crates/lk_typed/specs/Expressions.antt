@@ -25,7 +25,7 @@ use Rattle.lk_typed.specs.Layers as layers
 use Rattle.lk_typed.specs.Layers.{DeclaratorLayer, ParameterTeller, MemberDeclaratorTeller}
 use Rattle.lk_typed.specs.Nodes.{Node, AnExpression, ATypeName, Placed, at}
 use Rattle.lk_typed.specs.Statics.{is_static_value}
-use Rattle.lk_typed.specs.Telling.{ExprTeller, TypeNameTeller, added, constant, in_declarator, of_member_declarator, of_specifier, of_declarator, of_item, of_member, of_parameter, of_type_name}
+use Rattle.lk_typed.specs.Telling.{ExprTeller, FormTeller, TypeNameTeller, added, constant, in_declarator, of_member_declarator, of_specifier, of_declarator, of_item, of_member, of_parameter, of_type_name}
 use Rattle.lk_typed.specs.Told.{SpecifierTeller, DeclaratorTold, MemberTeller, ItemTeller, specifiers}
 use Rattle.lk_typed.specs.Ty.{Ty}
 use Rattle.lk_typed.specs.Typing.{Typing, Constant, Named}
@@ -37,45 +37,45 @@ use Rattle.lk_typed.specs.Words.{told_name}
 abbrev pub named : TypeNameTeller → Env → Named
 named told env = record { type = (told env).type; holds_sizeof = (told env).holds_sizeof; adds = (told env).additions }
 
-abbrev FormTeller : Type 0
-FormTeller = layers.Placed DeclaratorLayer
+abbrev DeclaratorFormTeller : Type 0
+DeclaratorFormTeller = layers.Placed DeclaratorLayer
 
-abbrev in_expr : ExprForm-F FormTeller ExprTeller MemberDeclaratorTeller SpecifierTeller DeclaratorLayer ExprTeller ItemTeller MemberTeller ParameterTeller TypeNameTeller → ExprTeller
-in_expr form env = rules.judged (λ judge inside. judge inside) named env form
+abbrev in_expr : ExprForm-F DeclaratorFormTeller FormTeller MemberDeclaratorTeller SpecifierTeller DeclaratorLayer ExprTeller ItemTeller MemberTeller ParameterTeller TypeNameTeller → FormTeller
+in_expr form n env = rules.judged (λ judge inside. judge inside) named env n form
 
-abbrev of_expr : Expr-F FormTeller ExprTeller MemberDeclaratorTeller SpecifierTeller DeclaratorLayer ExprTeller ItemTeller MemberTeller ParameterTeller TypeNameTeller → ExprTeller
-of_expr node = node.form
+abbrev of_expr : Expr-F DeclaratorFormTeller FormTeller MemberDeclaratorTeller SpecifierTeller DeclaratorLayer ExprTeller ItemTeller MemberTeller ParameterTeller TypeNameTeller → ExprTeller
+of_expr node = node.form node.ordinal
 
 unfoldable pub expression : Expr → ExprTeller
-expression = fold-Expr FormTeller ExprTeller MemberDeclaratorTeller SpecifierTeller DeclaratorLayer ExprTeller ItemTeller MemberTeller ParameterTeller TypeNameTeller
+expression = fold-Expr DeclaratorFormTeller FormTeller MemberDeclaratorTeller SpecifierTeller DeclaratorLayer ExprTeller ItemTeller MemberTeller ParameterTeller TypeNameTeller
     in_declarator in_expr of_member_declarator of_specifier of_declarator of_expr of_item of_member of_parameter of_type_name
 
 unfoldable pub declarator_layer : Declarator → DeclaratorLayer
-declarator_layer = fold-Declarator FormTeller ExprTeller MemberDeclaratorTeller SpecifierTeller DeclaratorLayer ExprTeller ItemTeller MemberTeller ParameterTeller TypeNameTeller
+declarator_layer = fold-Declarator DeclaratorFormTeller FormTeller MemberDeclaratorTeller SpecifierTeller DeclaratorLayer ExprTeller ItemTeller MemberTeller ParameterTeller TypeNameTeller
     in_declarator in_expr of_member_declarator of_specifier of_declarator of_expr of_item of_member of_parameter of_type_name
 
 unfoldable pub specifier_found : Specifier → SpecifierTeller
-specifier_found = fold-Specifier FormTeller ExprTeller MemberDeclaratorTeller SpecifierTeller DeclaratorLayer ExprTeller ItemTeller MemberTeller ParameterTeller TypeNameTeller
+specifier_found = fold-Specifier DeclaratorFormTeller FormTeller MemberDeclaratorTeller SpecifierTeller DeclaratorLayer ExprTeller ItemTeller MemberTeller ParameterTeller TypeNameTeller
     in_declarator in_expr of_member_declarator of_specifier of_declarator of_expr of_item of_member of_parameter of_type_name
 
 unfoldable pub member_found : Member → MemberTeller
-member_found = fold-Member FormTeller ExprTeller MemberDeclaratorTeller SpecifierTeller DeclaratorLayer ExprTeller ItemTeller MemberTeller ParameterTeller TypeNameTeller
+member_found = fold-Member DeclaratorFormTeller FormTeller MemberDeclaratorTeller SpecifierTeller DeclaratorLayer ExprTeller ItemTeller MemberTeller ParameterTeller TypeNameTeller
     in_declarator in_expr of_member_declarator of_specifier of_declarator of_expr of_item of_member of_parameter of_type_name
 
 unfoldable pub member_declarator_found : MemberDeclarator → MemberDeclaratorTeller
-member_declarator_found = fold-MemberDeclarator FormTeller ExprTeller MemberDeclaratorTeller SpecifierTeller DeclaratorLayer ExprTeller ItemTeller MemberTeller ParameterTeller TypeNameTeller
+member_declarator_found = fold-MemberDeclarator DeclaratorFormTeller FormTeller MemberDeclaratorTeller SpecifierTeller DeclaratorLayer ExprTeller ItemTeller MemberTeller ParameterTeller TypeNameTeller
     in_declarator in_expr of_member_declarator of_specifier of_declarator of_expr of_item of_member of_parameter of_type_name
 
 unfoldable pub item_found : Item → ItemTeller
-item_found = fold-Item FormTeller ExprTeller MemberDeclaratorTeller SpecifierTeller DeclaratorLayer ExprTeller ItemTeller MemberTeller ParameterTeller TypeNameTeller
+item_found = fold-Item DeclaratorFormTeller FormTeller MemberDeclaratorTeller SpecifierTeller DeclaratorLayer ExprTeller ItemTeller MemberTeller ParameterTeller TypeNameTeller
     in_declarator in_expr of_member_declarator of_specifier of_declarator of_expr of_item of_member of_parameter of_type_name
 
 unfoldable pub parameter_found : Parameter → ParameterTeller
-parameter_found = fold-Parameter FormTeller ExprTeller MemberDeclaratorTeller SpecifierTeller DeclaratorLayer ExprTeller ItemTeller MemberTeller ParameterTeller TypeNameTeller
+parameter_found = fold-Parameter DeclaratorFormTeller FormTeller MemberDeclaratorTeller SpecifierTeller DeclaratorLayer ExprTeller ItemTeller MemberTeller ParameterTeller TypeNameTeller
     in_declarator in_expr of_member_declarator of_specifier of_declarator of_expr of_item of_member of_parameter of_type_name
 
 unfoldable pub type_found : TypeName → TypeNameTeller
-type_found = fold-TypeName FormTeller ExprTeller MemberDeclaratorTeller SpecifierTeller DeclaratorLayer ExprTeller ItemTeller MemberTeller ParameterTeller TypeNameTeller
+type_found = fold-TypeName DeclaratorFormTeller FormTeller MemberDeclaratorTeller SpecifierTeller DeclaratorLayer ExprTeller ItemTeller MemberTeller ParameterTeller TypeNameTeller
     in_declarator in_expr of_member_declarator of_specifier of_declarator of_expr of_item of_member of_parameter of_type_name
 
 -- specifiers, each behind those before it
@@ -127,7 +127,7 @@ breach_at (AText bytes) code = breach code
 breach_at AnotherForm code = breach code
 
 abbrev pub expr_breaches : Expr → Env → List Breach
-expr_breaches e env = map (breach_at (written e)) (rules.codes_at expression name_of env (out-ExprForm e.form))
+expr_breaches e env = map (breach_at (written e)) (rules.codes_at expression name_of env e.ordinal (out-ExprForm e.form))
 
 abbrev at_pair : (Env × Node) → Placed
 at_pair (env, node) = at env node

@@ -139,8 +139,8 @@ with_declarator env may_be_absent told inner =
 -- a parameter's own declaration (C99 6.2.1, 4)
 abbrev pub parameter_name : Option Named → Option Ty → Additions
 parameter_name None t = nothing
-parameter_name (Some named) None = declares named.name AFaultyName
-parameter_name (Some named) (Some t) = declares named.name (AnObject t false)
+parameter_name (Some named) None = declares named.name named.ordinal AFaultyName
+parameter_name (Some named) (Some t) = declares named.name named.ordinal (AnObject t false)
 
 abbrev pub is_missing : {A : Type 0} → Option A → Bool
 is_missing None = true
@@ -212,5 +212,5 @@ member_told ss ds env before =
 
 -- ---- enumerators
 
-abbrev pub item_told : Name → Additions → Option ℤ → Bool → ItemTold
-item_told name added value holds = record { additions = both added (declares name (enumerator value)); value = value; holds_sizeof = holds }
+abbrev pub item_told : Name → ℕ → Additions → Option ℤ → Bool → ItemTold
+item_told name n added value holds = record { additions = both added (declares name n (enumerator value)); value = value; holds_sizeof = holds }

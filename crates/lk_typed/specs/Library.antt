@@ -100,7 +100,7 @@ library_function name = latest (λ f. is_name f.name name) library
 -- ---- the declarations with which each source begins, in its file scope
 
 abbrev declared : Linkage → Defines → Name → Meaning → Declared
-declared reach defined name meaning = record { name = name; meaning = meaning; linkage = reach; defines = defined }
+declared reach defined name meaning = record { name = name; meaning = meaning; linkage = reach; defines = defined; ordinal = 0 }
 
 abbrev pub predeclared_types : List Declared
 predeclared_types =

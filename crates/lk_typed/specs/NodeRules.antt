@@ -60,11 +60,11 @@ parameter_meaning (Some t) = AnObject t false
 
 -- a name without linkage
 abbrev pub plain_name : Name → Meaning → Declared
-plain_name name meaning = record { name = name; meaning = meaning; linkage = linkage.None; defines = defines.Nothing }
+plain_name name meaning = record { name = name; meaning = meaning; linkage = linkage.None; defines = defines.Nothing; ordinal = 0 }
 
--- the rules of a name, by what it becomes
+-- the rules of a name, by what it becomes; none asks which node declares it
 abbrev pub name_use_rules : Env → Option Ty → Name → NameUse → List Breach
-name_use_rules env t name (Declares scope ss given n at_end) = name_rules env (declared_as env scope ss given name t) ++ of_type t (λ t. named_rules env at_end scope ss name t given) ++ given_rules n
+name_use_rules env t name (Declares scope ss given n at_end) = name_rules env (declared_as env scope ss given name 0 t) ++ of_type t (λ t. named_rules env at_end scope ss name t given) ++ given_rules n
 name_use_rules env t name (IsMember before) = of_type t (λ t. member_rules env before name t)
 name_use_rules env t name IsParameter = name_rules env (plain_name name (parameter_meaning t)) ++ of_type t void_rules
 name_use_rules env t name Unnamed = []

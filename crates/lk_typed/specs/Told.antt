@@ -262,5 +262,5 @@ abbrev pub enumerator : Option ℤ → Meaning
 enumerator None = AFaultyName
 enumerator (Some z) = AnEnumerator z
 
-abbrev pub declares : Name → Meaning → Additions
-declares name meaning = record { declared = record { name = name; meaning = meaning; linkage = linkage.None; defines = defines.Nothing } ∷ []; tags = []; structs = [] }
+abbrev pub declares : Name → ℕ → Meaning → Additions
+declares name n meaning = record { declared = record { name = name; meaning = meaning; linkage = linkage.None; defines = defines.Nothing; ordinal = n } ∷ []; tags = []; structs = [] }
