@@ -4,43 +4,47 @@ use Rattle.lk_tree.specs.declared.declaration.Declare.{Declare}
 use Rattle.lk_tree.specs.declared.declaration.Init.{Init}
 use Rattle.lk_tree.specs.declared.declaration.InitDeclarator.{InitDeclarator}
 use Rattle.lk_tree.specs.declared.specifiers.Storage.{Storage}
+use Rattle.lk_typed.specs.declared.entity.Linkage.{Linkage}
 use Rattle.lk_typed.specs.DeclarationRules.{InDeclaration, Scope, Given, Bare, Initialised, has, is_extern, linkage_of, defines_of, meaning_of, type_in}
-use Rattle.lk_typed.specs.Env.{Env, Additions, Name, Declared, nothing, both, extend, look_up}
+use Rattle.lk_typed.specs.Env.{Env, Additions, Name, Declared, nothing, both, extend, look_up, or_else}
 use Rattle.lk_typed.specs.Initialisers.{completed_by, init_adds}
-use Rattle.lk_typed.specs.Redeclared.{is_linked_alike, object_type}
-use Rattle.lk_typed.specs.Told.{SpecifierTold, Named}
-use Rattle.lk_typed.specs.Ty.{Ty, Void, Int, ThreadId, Mutex, Cond, Pointer, Array, Struct, Function, Opaque, array_of, is_function, is_redeclarable}
+use Rattle.lk_typed.specs.Redeclared.{is_linked_alike, object_type, function_type}
+use Rattle.lk_typed.specs.Told.{SpecifierTold, Named, with_optional}
+use Rattle.lk_typed.specs.Ty.{Ty, Void, Int, ThreadId, Mutex, Cond, Pointer, Array, Struct, Function, Opaque, Tys, none, more, target_of, array_of, function_of, is_function, is_redeclarable}
 use Rattle.lk_typed.specs.Expressions.{declarator_found, specifiers_found}
 
 -- the size that one of two declarations gives
 abbrev pub sized : ℕ → ℕ → ℕ
 sized n m = if nat_eq n 0 then m else n
 
-abbrev pub with_size_of : Ty → ℕ → Option (Ty × ℕ) → Ty
-with_size_of t n None = Array t n
-with_size_of t n (Some other) = Array t (sized n other.1)
+abbrev mutual
+  -- the type of two declarations of one name (C99 6.2.7, 3): an array in it has the size that either of them gives
+  pub composite : Ty → Ty → Ty
+  composite Void old = Void
+  composite (Int k) old = Int k
+  composite ThreadId old = ThreadId
+  composite Mutex old = Mutex
+  composite Cond old = Cond
+  composite (Pointer t) old = with_optional (Pointer t) (λ u. Pointer (composite t u)) (target_of old)
+  composite (Array t n) old = with_optional (Array t n) (λ other. Array (composite t other.0) (sized n other.1)) (array_of old)
+  composite (Struct s) old = Struct s
+  composite (Function result params dots) old =
+      with_optional (Function result params dots) (λ other. Function (composite result other.result) (composites params other.params) dots) (function_of old)
+  composite (Opaque n) old = Opaque n
 
--- the type of two declarations of one object (C99 6.2.7, 3): an array has the size that either of them gives
-abbrev pub composite : Ty → Ty → Ty
-composite Void old = Void
-composite (Int k) old = Int k
-composite ThreadId old = ThreadId
-composite Mutex old = Mutex
-composite Cond old = Cond
-composite (Pointer t) old = Pointer t
-composite (Array t n) old = with_size_of t n (array_of old)
-composite (Struct s) old = Struct s
-composite (Function result params dots) old = Function result params dots
-composite (Opaque n) old = Opaque n
+  pub composites : Tys → Tys → Tys
+  composites none olds = none
+  composites (more t ts) none = more t ts
+  composites (more t ts) (more old olds) = more (composite t old) (composites ts olds)
 
 abbrev pub composite_if_equal : Ty → Option Ty → Ty
 composite_if_equal t None = t
 composite_if_equal t (Some old) = if is_redeclarable t old then composite t old else t
 
--- the type of an object with linkage that is declared before (C99 6.2.7, 4)
+-- the type of an object or function with linkage that is declared before (C99 6.2.7, 4)
 abbrev pub old_type : Option Declared → Option Ty
 old_type None = None
-old_type (Some old) = if is_linked_alike old.linkage old.linkage then object_type old.meaning else None
+old_type (Some old) = if is_linked_alike old.linkage old.linkage then or_else (object_type old.meaning) (function_type old.meaning) else None
 
 abbrev pub given_by : Option Init → Given
 given_by None = Bare
@@ -57,9 +61,10 @@ completed None init = None
 completed (Some t) None = Some t
 completed (Some t) (Some init) = Some (completed_by init t)
 
-abbrev pub type_with_old : Env → Name → Option Ty → Option Ty
-type_with_old env name None = None
-type_with_old env name (Some t) = Some (composite_if_equal t (old_type (look_up env name)))
+-- a name with linkage has the composite type (C99 6.2.7, 4)
+abbrev pub type_with_old : Env → Name → Linkage → Option Ty → Option Ty
+type_with_old env name reach None = None
+type_with_old env name reach (Some t) = Some (composite_if_equal t (if is_linked_alike reach reach then old_type (look_up env name) else None))
 
 abbrev pub is_function_type : Option Ty → Bool
 is_function_type None = false
@@ -68,10 +73,11 @@ is_function_type (Some t) = is_function t
 -- a declared name (C99 6.2.2, 6.2.4); its declaration is faulty where its type is missing
 abbrev pub declared_as : Env → Scope → List Storage → Given → Name → ℕ → Option Ty → Declared
 declared_as env scope ss given name n t =
+    let reach = linkage_of env scope ss (is_function_type t) name in
     record {
       name = name;
-      meaning = meaning_of scope ss (type_with_old env name t);
-      linkage = linkage_of env scope ss (is_function_type t) name;
+      meaning = meaning_of scope ss (type_with_old env name reach t);
+      linkage = reach;
       defines = defines_of scope ss (is_function_type t) given;
       ordinal = n;
     }
