@@ -7,16 +7,19 @@ use lk_arith::{
 use lk_base::Kind::{
     self, Bool, Char, Int, LLong, Long, SChar, Short, UChar, UInt, ULLong, ULong, UShort,
 };
-use std::process::Abort;
+use std::alloc::Global;
 use std::test::Fail;
 
 const KINDS: [Kind; 12] = [
     Bool, Char, SChar, UChar, Short, UShort, Int, UInt, Long, ULong, LLong, ULLong,
 ];
 
-const OVERFLOW: Result<i128, Undefined> = Err(Undefined::Overflow);
+/// What an operation comes to.
+type Answer = Result<i128, Undefined>;
 
-const SHIFT: Result<i128, Undefined> = Err(Undefined::Shift);
+const OVERFLOW: Answer = Err(Undefined::Overflow);
+
+const SHIFT: Answer = Err(Undefined::Shift);
 
 /// The bits, the bytes and the ends of each kind.
 const ENDS: [(Kind, u32, u64, bool, i128, i128); 12] = [
@@ -417,7 +420,7 @@ const BINARY: [(Kind, i128, i128, &str, &str); 54] = [
 ];
 
 /// What shifts come to, of a value of a kind by a number of places.
-const SHIFTS: [(Op, Kind, i128, i128, Result<i128, Undefined>); 155] = [
+const SHIFTS: [(Op, Kind, i128, i128, Answer); 155] = [
     (Op::ShiftLeft, Bool, 1, 0, Ok(1)),
     (Op::ShiftLeft, Bool, 1, 0, Ok(1)),
     (Op::ShiftLeft, Bool, 1, 1, SHIFT),
@@ -768,96 +771,166 @@ const CONVERSIONS: [(Kind, i128, i128); 84] = [
     (ULLong, i128::MIN, 0),
 ];
 
-/// The promoted kind of each of `KINDS`.
-const PROMOTED: [Kind; 12] = [
-    Int, Int, Int, Int, Int, Int, Int, UInt, Long, ULong, LLong, ULLong,
+/// A kind, its promoted kind, and the common kind of it and each of `KINDS`.
+const COMMON: [(Kind, Kind, [Kind; 12]); 12] = [
+    (
+        Bool,
+        Int,
+        [
+            Int, Int, Int, Int, Int, Int, Int, UInt, Long, ULong, LLong, ULLong,
+        ],
+    ),
+    (
+        Char,
+        Int,
+        [
+            Int, Int, Int, Int, Int, Int, Int, UInt, Long, ULong, LLong, ULLong,
+        ],
+    ),
+    (
+        SChar,
+        Int,
+        [
+            Int, Int, Int, Int, Int, Int, Int, UInt, Long, ULong, LLong, ULLong,
+        ],
+    ),
+    (
+        UChar,
+        Int,
+        [
+            Int, Int, Int, Int, Int, Int, Int, UInt, Long, ULong, LLong, ULLong,
+        ],
+    ),
+    (
+        Short,
+        Int,
+        [
+            Int, Int, Int, Int, Int, Int, Int, UInt, Long, ULong, LLong, ULLong,
+        ],
+    ),
+    (
+        UShort,
+        Int,
+        [
+            Int, Int, Int, Int, Int, Int, Int, UInt, Long, ULong, LLong, ULLong,
+        ],
+    ),
+    (
+        Int,
+        Int,
+        [
+            Int, Int, Int, Int, Int, Int, Int, UInt, Long, ULong, LLong, ULLong,
+        ],
+    ),
+    (
+        UInt,
+        UInt,
+        [
+            UInt, UInt, UInt, UInt, UInt, UInt, UInt, UInt, Long, ULong, LLong, ULLong,
+        ],
+    ),
+    (
+        Long,
+        Long,
+        [
+            Long, Long, Long, Long, Long, Long, Long, Long, Long, ULong, LLong, ULLong,
+        ],
+    ),
+    (
+        ULong,
+        ULong,
+        [
+            ULong, ULong, ULong, ULong, ULong, ULong, ULong, ULong, ULong, ULong, ULLong, ULLong,
+        ],
+    ),
+    (
+        LLong,
+        LLong,
+        [
+            LLong, LLong, LLong, LLong, LLong, LLong, LLong, LLong, LLong, ULLong, LLong, ULLong,
+        ],
+    ),
+    (
+        ULLong,
+        ULLong,
+        [
+            ULLong, ULLong, ULLong, ULLong, ULLong, ULLong, ULLong, ULLong, ULLong, ULLong, ULLong,
+            ULLong,
+        ],
+    ),
 ];
 
-/// The common kind of each two of `KINDS`.
-const USUAL: [[Kind; 12]; 12] = [
-    [
-        Int, Int, Int, Int, Int, Int, Int, UInt, Long, ULong, LLong, ULLong,
-    ],
-    [
-        Int, Int, Int, Int, Int, Int, Int, UInt, Long, ULong, LLong, ULLong,
-    ],
-    [
-        Int, Int, Int, Int, Int, Int, Int, UInt, Long, ULong, LLong, ULLong,
-    ],
-    [
-        Int, Int, Int, Int, Int, Int, Int, UInt, Long, ULong, LLong, ULLong,
-    ],
-    [
-        Int, Int, Int, Int, Int, Int, Int, UInt, Long, ULong, LLong, ULLong,
-    ],
-    [
-        Int, Int, Int, Int, Int, Int, Int, UInt, Long, ULong, LLong, ULLong,
-    ],
-    [
-        Int, Int, Int, Int, Int, Int, Int, UInt, Long, ULong, LLong, ULLong,
-    ],
-    [
-        UInt, UInt, UInt, UInt, UInt, UInt, UInt, UInt, Long, ULong, LLong, ULLong,
-    ],
-    [
-        Long, Long, Long, Long, Long, Long, Long, Long, Long, ULong, LLong, ULLong,
-    ],
-    [
-        ULong, ULong, ULong, ULong, ULong, ULong, ULong, ULong, ULong, ULong, ULLong, ULLong,
-    ],
-    [
-        LLong, LLong, LLong, LLong, LLong, LLong, LLong, LLong, LLong, ULLong, LLong, ULLong,
-    ],
-    [
-        ULLong, ULLong, ULLong, ULLong, ULLong, ULLong, ULLong, ULLong, ULLong, ULLong, ULLong,
-        ULLong,
-    ],
-];
+/// Whether a kind has these bits and bytes, this sign and these ends.
+fn has_ends(kind: Kind, bits: u32, bytes: u64, signed: bool, lowest: i128, highest: i128) -> bool {
+    width(kind) == bits
+        && bytes_of(kind) == bytes
+        && is_signed(kind) == signed
+        && least(kind) == lowest
+        && greatest(kind) == highest
+        && is_value(kind, lowest)
+        && is_value(kind, highest)
+}
 
 #[test]
 fn kinds_have_their_sizes_and_ends(rt: HostRuntime) -> Result<(), Fail> {
-    for (kind, bits, bytes, signed, lowest, highest) in ENDS {
-        assert_eq!(rt; width(kind), bits, "{kind:?}");
-        assert_eq!(rt; bytes_of(kind), bytes, "{kind:?}");
-        assert_eq!(rt; is_signed(kind), signed, "{kind:?}");
-        assert_eq!(rt;
-            (least(kind), greatest(kind)),
-            (lowest, highest),
-            "{kind:?}"
-        );
-        assert!(rt; is_value(kind, lowest) && is_value(kind, highest));
+    for (kind, bits, bytes, signed, lowest, highest) in &ENDS {
+        assert!(rt; has_ends(*kind, *bits, *bytes, *signed, *lowest, *highest));
+    }
+    Ok(())
+}
+
+/// Whether a shift comes to this, of a value of a kind by a number of places.
+fn shift_comes_to(op: Op, kind: Kind, a: i128, places: i128, want: Answer) -> bool {
+    op.is_shift() && is_value(kind, a) && outcome(op, kind, a, places) == want
+}
+
+/// Writes what an operator comes to of two values of a kind.
+fn write_binary(text: &mut String, op: Op, kind: Kind, a: i128, b: i128) -> Result<(), Fail> {
+    if is_value(kind, a) && is_value(kind, b) {
+        write_answer(text, outcome(op, kind, a, b), arith(op, kind, a, b))?;
+    }
+    Ok(())
+}
+
+/// Writes a value or its absence's cause, where the other answer is the same but for the cause.
+fn write_answer(text: &mut String, answer: Answer, alone: Option<i128>) -> Result<(), Fail> {
+    match answer {
+        Ok(value) if alone == Some(value) => write!(text, "{value} ")?,
+        Err(cause) if alone.is_none() => write!(text, "{cause:?} ")?,
+        Ok(_) | Err(_) => write!(text, "differs ")?,
     }
     Ok(())
 }
 
 /// What each of some operators comes to of two values of a kind.
 fn binary_text(
-    rt: &(impl Abort + AllocGlobal),
+    alloc: Global,
     operators: &[Op],
     kind: Kind,
     a: i128,
     b: i128,
 ) -> Result<String, Fail> {
-    assert!(rt; is_value(kind, a) && is_value(kind, b));
-    let mut text = String::new(rt.alloc());
+    let mut text = String::new(alloc);
     for op in operators {
-        let result = outcome(*op, kind, a, b);
-        assert_eq!(rt; arith(*op, kind, a, b), result.ok());
-        match result {
-            Ok(value) => write!(&mut text, "{value} ")?,
-            Err(cause) => write!(&mut text, "{cause:?} ")?,
-        }
+        write_binary(&mut text, *op, kind, a, b)?;
     }
     Ok(text)
 }
 
 #[test]
-fn binary_operators_at_the_ends_of_each_kind(rt: HostRuntime) -> Result<(), Fail> {
-    for (kind, a, b, arithmetic, others) in &BINARY {
-        let text = binary_text(&rt, &ARITHMETIC, *kind, *a, *b)?;
-        assert_eq!(rt; text.as_str(), *arithmetic, "{kind:?} {a} {b}");
-        let text = binary_text(&rt, &OTHERS, *kind, *a, *b)?;
-        assert_eq!(rt; text.as_str(), *others, "{kind:?} {a} {b}");
+fn arithmetic_at_the_ends_of_each_kind(rt: HostRuntime) -> Result<(), Fail> {
+    for (kind, a, b, want, _) in &BINARY {
+        let text = binary_text(rt.alloc(), &ARITHMETIC, *kind, *a, *b)?;
+        assert!(rt; text.as_str() == *want, "{kind:?} {a} {b}");
+    }
+    Ok(())
+}
+
+#[test]
+fn other_operators_at_the_ends_of_each_kind(rt: HostRuntime) -> Result<(), Fail> {
+    for (kind, a, b, _, want) in &BINARY {
+        let text = binary_text(rt.alloc(), &OTHERS, *kind, *a, *b)?;
+        assert!(rt; text.as_str() == *want, "{kind:?} {a} {b}");
     }
     Ok(())
 }
@@ -865,27 +938,24 @@ fn binary_operators_at_the_ends_of_each_kind(rt: HostRuntime) -> Result<(), Fail
 #[test]
 fn shifts_by_places_in_and_out_of_range(rt: HostRuntime) -> Result<(), Fail> {
     for (op, kind, a, places, want) in &SHIFTS {
-        assert!(rt; op.is_shift() && is_value(*kind, *a));
-        assert_eq!(rt;
-            outcome(*op, *kind, *a, *places),
-            *want,
-            "{op:?} at {kind:?} of {a} by {places}"
-        );
+        assert!(rt; shift_comes_to(*op, *kind, *a, *places, *want));
+    }
+    Ok(())
+}
+
+/// Writes what a unary operator comes to of a value of a kind.
+fn write_unary(text: &mut String, op: UnaryOp, kind: Kind, a: i128) -> Result<(), Fail> {
+    if is_value(kind, a) {
+        write_answer(text, unary_outcome(op, kind, a), unary(op, kind, a))?;
     }
     Ok(())
 }
 
 /// What each unary operator comes to of a value of a kind.
-fn unary_text(rt: &(impl Abort + AllocGlobal), kind: Kind, a: i128) -> Result<String, Fail> {
-    assert!(rt; is_value(kind, a));
-    let mut text = String::new(rt.alloc());
+fn unary_text(alloc: Global, kind: Kind, a: i128) -> Result<String, Fail> {
+    let mut text = String::new(alloc);
     for op in UNARY_OPERATORS {
-        let result = unary_outcome(op, kind, a);
-        assert_eq!(rt; unary(op, kind, a), result.ok());
-        match result {
-            Ok(value) => write!(&mut text, "{value} ")?,
-            Err(cause) => write!(&mut text, "{cause:?} ")?,
-        }
+        write_unary(&mut text, op, kind, a)?;
     }
     Ok(text)
 }
@@ -893,40 +963,47 @@ fn unary_text(rt: &(impl Abort + AllocGlobal), kind: Kind, a: i128) -> Result<St
 #[test]
 fn unary_operators_at_the_ends_of_each_kind(rt: HostRuntime) -> Result<(), Fail> {
     for (kind, a, want) in &UNARY {
-        assert_eq!(rt; unary_text(&rt, *kind, *a)?.as_str(), *want, "{kind:?} {a}");
+        let text = unary_text(rt.alloc(), *kind, *a)?;
+        assert!(rt; text.as_str() == *want, "{kind:?} {a}");
     }
     Ok(())
+}
+
+/// Whether a number is this one at a kind.
+fn converts_to(kind: Kind, number: i128, want: i128) -> bool {
+    convert(kind, number) == want && is_value(kind, number) == (number == want)
 }
 
 #[test]
 fn any_number_converts_to_each_kind(rt: HostRuntime) -> Result<(), Fail> {
-    for (kind, number, want) in CONVERSIONS {
-        assert_eq!(rt; convert(kind, number), want, "{number} to {kind:?}");
-        assert_eq!(rt;
-            is_value(kind, number),
-            number == want,
-            "{number} at {kind:?}"
-        );
+    for (kind, number, want) in &CONVERSIONS {
+        assert!(rt; converts_to(*kind, *number, *want));
     }
     Ok(())
 }
 
+/// Whether a kind has these common kinds with each of `KINDS`.
+fn has_common_kinds(a: Kind, row: &[Kind; 12]) -> bool {
+    for (b, want) in KINDS.iter().zip(row) {
+        if usual(a, *b) != *want {
+            return false;
+        }
+    }
+    true
+}
+
 #[test]
 fn two_kinds_have_a_common_one(rt: HostRuntime) -> Result<(), Fail> {
-    for ((a, alone), row) in KINDS.iter().zip(&PROMOTED).zip(&USUAL) {
-        assert_eq!(rt; promoted(*a), *alone, "{a:?}");
-        for (b, want) in KINDS.iter().zip(row) {
-            assert_eq!(rt; usual(*a, *b), *want, "{a:?} and {b:?}");
-        }
+    for (a, alone, row) in &COMMON {
+        assert!(rt; promoted(*a) == *alone && has_common_kinds(*a, row));
     }
     Ok(())
 }
 
 #[test]
 fn comparisons_give_int(rt: HostRuntime) -> Result<(), Fail> {
-    assert_eq!(rt; Op::LessOrEqual.result_kind(ULong), Int);
-    assert_eq!(rt; Op::Or.result_kind(ULong), ULong);
-    assert_eq!(rt; UnaryOp::Not.result_kind(ULong), Int);
-    assert_eq!(rt; UnaryOp::Negate.result_kind(ULong), ULong);
+    assert!(rt; Op::LessOrEqual.result_kind(ULong) == Int && Op::Or.result_kind(ULong) == ULong);
+    assert!(rt; UnaryOp::Not.result_kind(ULong) == Int);
+    assert!(rt; UnaryOp::Negate.result_kind(ULong) == ULong);
     Ok(())
 }

@@ -1,7 +1,9 @@
 -- Address constants: what the operators make of them (C99 6.6, 9; 6.5.6, 7 and 8). An address outside its array and its end is Nowhere; one past the end is accepted.
-use Rattle.std.specs.Prelude.{ℕ, Bool, true, false, ◌&&◌, Option, Some, None, ℤ, pos, neg_ℤ, ◌+ℤ◌, int_le, unsigned_abs, nat_eq, nat_lt, if◌then◌else◌}
+use Rattle.std.specs.Prelude.{ℕ, Bool, true, false, ◌&&◌, Option, Some, None, List, [], ◌∷◌, ◌++◌, ℤ, pos, neg_ℤ, ◌+ℤ◌, int_le, unsigned_abs, nat_eq, nat_lt, if◌then◌else◌}
+use Rattle.lk_base.specs.declared.cell.CellStep.TheVariants.{Field, Index}
+use Rattle.lk_base.specs.declared.cell.CellStep.{CellStep}
 use Rattle.lk_typed.specs.Ty.{Ty, Void, Int, ThreadId, Mutex, Cond, Pointer, Array, Struct, Function, Opaque}
-use Rattle.lk_typed.specs.Typing.{Typing, Constant, NotConstant, Undefined, Known, Address, NotAddress, NullAddress, FunctionAddress, Element, Nowhere, value_of_type}
+use Rattle.lk_typed.specs.Typing.{Typing, Constant, NotConstant, Undefined, Known, Address, Position, NotAddress, NullAddress, FunctionAddress, Inside, Nowhere, value_of_type}
 
 -- whether there is an element with this index
 abbrev pub is_there : ℕ → Option ℕ → Bool
@@ -13,13 +15,27 @@ abbrev pub is_within : ℤ → Option ℕ → Bool
 is_within index None = int_le (pos 0) index
 is_within index (Some count) = int_le (pos 0) index && int_le index (pos count)
 
--- the first of so many elements inside a place: inside an array its own, inside a struct a member, which counts as an array of one
-abbrev pub first_inside : Option ℕ → Address → Address
-first_inside count NotAddress = NotAddress
-first_inside count NullAddress = Nowhere
-first_inside count FunctionAddress = Nowhere
-first_inside count (Element index others) = if is_there index others then Element 0 count else Nowhere
-first_inside count Nowhere = Nowhere
+-- the steps to a place
+abbrev pub steps_to : Position → List CellStep
+steps_to position = if position.is_element then position.steps ++ Index position.index ∷ [] else position.steps
+
+-- a part of a place that is there
+abbrev pub part_of : Position → Position → Address
+part_of position part = if is_there position.index position.count then Inside part else Nowhere
+
+-- the first element of the array at a place, and the member with this number of the struct there
+abbrev pub first_element : Option ℕ → Position → Position
+first_element count position = record { anchor = position.anchor; steps = steps_to position; is_element = true; index = 0; count = count }
+
+abbrev pub member_at : ℕ → Position → Position
+member_at k position = record { anchor = position.anchor; steps = steps_to position ++ Field k ∷ []; is_element = false; index = 0; count = Some 1 }
+
+abbrev pub inside : (Position → Position) → Address → Address
+inside part NotAddress = NotAddress
+inside part NullAddress = Nowhere
+inside part (FunctionAddress n) = Nowhere
+inside part (Inside position) = part_of position (part position)
+inside part Nowhere = Nowhere
 
 -- how many elements an array type has; 0 stands for no size
 abbrev pub count_of : ℕ → Option ℕ
@@ -29,8 +45,8 @@ count_of n = if nat_eq n 0 then None else Some n
 abbrev pub moved_by : ℤ → Address → Address
 moved_by n NotAddress = NotAddress
 moved_by n NullAddress = Nowhere
-moved_by n FunctionAddress = Nowhere
-moved_by n (Element index count) = if is_within (pos index +ℤ n) count then Element (unsigned_abs (pos index +ℤ n)) count else Nowhere
+moved_by n (FunctionAddress f) = Nowhere
+moved_by n (Inside position) = if is_within (pos position.index +ℤ n) position.count then Inside (record position { index = unsigned_abs (pos position.index +ℤ n) }) else Nowhere
 moved_by n Nowhere = Nowhere
 
 -- an address plus an integer constant
@@ -59,10 +75,10 @@ value_at ThreadId e = read e
 value_at Mutex e = read e
 value_at Cond e = read e
 value_at (Pointer t) e = read e
-value_at (Array t n) e = record { type = Pointer t; is_place = false; constant = NotConstant; is_null = false; address = first_inside (count_of n) e.address }
+value_at (Array t n) e = record { type = Pointer t; is_place = false; constant = NotConstant; is_null = false; address = inside (first_element (count_of n)) e.address }
 value_at (Struct s) e = read e
 value_at (Function result params dots) e =
-    record { type = Pointer (Function result params dots); is_place = false; constant = NotConstant; is_null = false; address = FunctionAddress }
+    record { type = Pointer (Function result params dots); is_place = false; constant = NotConstant; is_null = false; address = e.address }
 value_at (Opaque n) e = read e
 
 abbrev pub value : Typing → Typing

@@ -7,10 +7,11 @@ use Rattle.lk_typed.specs.declared.entity.Linkage.{Linkage}
 use Rattle.lk_typed.specs.declared.entity.Linkage.TheVariants as linkage
 use Rattle.lk_typed.specs.declared.entity.Defines.{Defines}
 use Rattle.lk_typed.specs.declared.entity.Defines.TheVariants as defines
-use Rattle.lk_typed.specs.DeclaratorRules.{has_dots, is_complete, of_type, unless}
+use Rattle.lk_typed.specs.DeclaratorRules.{has_dots, of_type, unless}
 use Rattle.lk_typed.specs.Env.{Env, Name, Declared, Meaning, AnObject, AFunction, ATypedef, AFaultyName, is_name, look_up}
 use Rattle.lk_typed.specs.Faults.{Breach}
-use Rattle.lk_typed.specs.Told.{SpecifierTold, named_type}
+use Rattle.lk_typed.specs.Sizes.{is_complete}
+use Rattle.lk_typed.specs.Told.{SpecifierTold, named_type, type_of, unless_broken}
 use Rattle.lk_typed.specs.Ty.{Ty, Tys, Pointer, Function, char, int, is_array, is_function, is_same, types_of}
 
 -- ---- specifiers
@@ -67,6 +68,10 @@ may_have InType ss = nat_eq (count_of is_linking ss) 0
 -- 22 of specifiers: words or a type in none of the combinations, or storage classes that can't stand there
 abbrev pub specifier_rules : Holder → SpecifierTold → List Breach
 specifier_rules holder told = unless (is_some (named_type told.words told.types) && may_have holder told.storages) Mismatch
+
+-- the type that specifiers name, missing where they break a rule
+abbrev pub type_in : Holder → SpecifierTold → Option Ty
+type_in holder told = unless_broken (specifier_rules holder told) (type_of told)
 
 -- ---- declared names
 

@@ -4,43 +4,47 @@ use Rattle.lk_tree.specs.declared.declaration.Declare.{Declare}
 use Rattle.lk_tree.specs.declared.declaration.Init.{Init}
 use Rattle.lk_tree.specs.declared.declaration.InitDeclarator.{InitDeclarator}
 use Rattle.lk_tree.specs.declared.specifiers.Storage.{Storage}
-use Rattle.lk_typed.specs.DeclarationRules.{Scope, Given, Bare, Initialised, has, is_extern, linkage_of, defines_of, meaning_of}
-use Rattle.lk_typed.specs.Env.{Env, Additions, Name, Declared, nothing, both, extend, look_up}
-use Rattle.lk_typed.specs.Initialisers.{completed_by}
-use Rattle.lk_typed.specs.Nodes.{Tells}
-use Rattle.lk_typed.specs.Redeclared.{is_linked_alike, object_type}
-use Rattle.lk_typed.specs.Told.{SpecifierTold, Named, type_of}
-use Rattle.lk_typed.specs.Ty.{Ty, Void, Int, ThreadId, Mutex, Cond, Pointer, Array, Struct, Function, Opaque, array_of, is_function, is_redeclarable}
+use Rattle.lk_typed.specs.declared.entity.Linkage.{Linkage}
+use Rattle.lk_typed.specs.DeclarationRules.{InDeclaration, Scope, Given, Bare, Initialised, has, is_extern, linkage_of, defines_of, meaning_of, type_in}
+use Rattle.lk_typed.specs.Env.{Env, Additions, Name, Declared, nothing, both, extend, look_up, or_else}
+use Rattle.lk_typed.specs.Initialisers.{completed_by, init_adds}
+use Rattle.lk_typed.specs.Redeclared.{is_linked_alike, object_type, function_type}
+use Rattle.lk_typed.specs.Told.{SpecifierTold, Named, with_optional}
+use Rattle.lk_typed.specs.Ty.{Ty, Void, Int, ThreadId, Mutex, Cond, Pointer, Array, Struct, Function, Opaque, Tys, none, more, target_of, array_of, function_of, is_function, is_redeclarable}
+use Rattle.lk_typed.specs.Expressions.{declarator_found, specifiers_found}
 
 -- the size that one of two declarations gives
 abbrev pub sized : ℕ → ℕ → ℕ
 sized n m = if nat_eq n 0 then m else n
 
-abbrev pub with_size_of : Ty → ℕ → Option (Ty × ℕ) → Ty
-with_size_of t n None = Array t n
-with_size_of t n (Some other) = Array t (sized n other.1)
+abbrev mutual
+  -- the type of two declarations of one name (C99 6.2.7, 3): an array in it has the size that either of them gives
+  pub composite : Ty → Ty → Ty
+  composite Void old = Void
+  composite (Int k) old = Int k
+  composite ThreadId old = ThreadId
+  composite Mutex old = Mutex
+  composite Cond old = Cond
+  composite (Pointer t) old = with_optional (Pointer t) (λ u. Pointer (composite t u)) (target_of old)
+  composite (Array t n) old = with_optional (Array t n) (λ other. Array (composite t other.0) (sized n other.1)) (array_of old)
+  composite (Struct s) old = Struct s
+  composite (Function result params dots) old =
+      with_optional (Function result params dots) (λ other. Function (composite result other.result) (composites params other.params) dots) (function_of old)
+  composite (Opaque n) old = Opaque n
 
--- the type of two declarations of one object (C99 6.2.7, 3): an array has the size that either of them gives
-abbrev pub composite : Ty → Ty → Ty
-composite Void old = Void
-composite (Int k) old = Int k
-composite ThreadId old = ThreadId
-composite Mutex old = Mutex
-composite Cond old = Cond
-composite (Pointer t) old = Pointer t
-composite (Array t n) old = with_size_of t n (array_of old)
-composite (Struct s) old = Struct s
-composite (Function result params dots) old = Function result params dots
-composite (Opaque n) old = Opaque n
+  pub composites : Tys → Tys → Tys
+  composites none olds = none
+  composites (more t ts) none = more t ts
+  composites (more t ts) (more old olds) = more (composite t old) (composites ts olds)
 
 abbrev pub composite_if_equal : Ty → Option Ty → Ty
 composite_if_equal t None = t
 composite_if_equal t (Some old) = if is_redeclarable t old then composite t old else t
 
--- the type of an object with linkage that is declared before (C99 6.2.7, 4)
+-- the type of an object or function with linkage that is declared before (C99 6.2.7, 4)
 abbrev pub old_type : Option Declared → Option Ty
 old_type None = None
-old_type (Some old) = if is_linked_alike old.linkage old.linkage then object_type old.meaning else None
+old_type (Some old) = if is_linked_alike old.linkage old.linkage then or_else (object_type old.meaning) (function_type old.meaning) else None
 
 abbrev pub given_by : Option Init → Given
 given_by None = Bare
@@ -52,27 +56,30 @@ may_lack_size ss None = has is_extern ss
 may_lack_size ss (Some init) = true
 
 -- the type with the size that an initialiser gives (C99 6.7.8, 22)
-abbrev pub completed : Tells → Option Ty → Option Init → Option Ty
-completed tells None init = None
-completed tells (Some t) None = Some t
-completed tells (Some t) (Some init) = Some (completed_by tells init t)
+abbrev pub completed : Option Ty → Option Init → Option Ty
+completed None init = None
+completed (Some t) None = Some t
+completed (Some t) (Some init) = Some (completed_by init t)
 
-abbrev pub type_with_old : Env → Name → Option Ty → Option Ty
-type_with_old env name None = None
-type_with_old env name (Some t) = Some (composite_if_equal t (old_type (look_up env name)))
+-- a name with linkage has the composite type (C99 6.2.7, 4)
+abbrev pub type_with_old : Env → Name → Linkage → Option Ty → Option Ty
+type_with_old env name reach None = None
+type_with_old env name reach (Some t) = Some (composite_if_equal t (if is_linked_alike reach reach then old_type (look_up env name) else None))
 
 abbrev pub is_function_type : Option Ty → Bool
 is_function_type None = false
 is_function_type (Some t) = is_function t
 
 -- a declared name (C99 6.2.2, 6.2.4); its declaration is faulty where its type is missing
-abbrev pub declared_as : Env → Scope → List Storage → Given → Name → Option Ty → Declared
-declared_as env scope ss given name t =
+abbrev pub declared_as : Env → Scope → List Storage → Given → Name → ℕ → Option Ty → Declared
+declared_as env scope ss given name n t =
+    let reach = linkage_of env scope ss (is_function_type t) name in
     record {
       name = name;
-      meaning = meaning_of scope ss (type_with_old env name t);
-      linkage = linkage_of env scope ss (is_function_type t) name;
+      meaning = meaning_of scope ss (type_with_old env name reach t);
+      linkage = reach;
       defines = defines_of scope ss (is_function_type t) given;
+      ordinal = n;
     }
 
 abbrev pub one_name : Declared → Additions
@@ -80,35 +87,35 @@ one_name d = record { declared = d ∷ []; tags = []; structs = [] }
 
 abbrev pub named_additions : Env → Scope → List Storage → Given → Option Named → Option Ty → Additions
 named_additions env scope ss given None t = nothing
-named_additions env scope ss given (Some named) t = one_name (declared_as env scope ss given named.name t)
+named_additions env scope ss given (Some named) t = one_name (declared_as env scope ss given named.name named.ordinal t)
 
-abbrev pub initialiser_adds : Tells → Env → Option Init → Additions
-initialiser_adds tells env None = nothing
-initialiser_adds tells env (Some init) = tells.initialiser init env
+abbrev pub initialiser_adds : Env → Option Init → Additions
+initialiser_adds env None = nothing
+initialiser_adds env (Some init) = init_adds init env
 
 -- a declarator with its initialiser: what it adds up to its name, and what the initialiser adds behind that
-abbrev pub name_adds : Tells → Scope → SpecifierTold → Env → InitDeclarator → Additions
-name_adds tells scope told env d =
-    let inner = tells.declarator d.declarator in
+abbrev pub name_adds : Scope → SpecifierTold → Env → InitDeclarator → Additions
+name_adds scope told env d =
+    let inner = declarator_found d.declarator in
     let a = inner.additions env in
-    let t = inner.type env (may_lack_size told.storages d.init) (type_of told) in
-    both a (named_additions (extend env a) scope told.storages (given_by d.init) inner.name (completed tells t d.init))
+    let t = inner.type env (may_lack_size told.storages d.init) (type_in InDeclaration told) in
+    both a (named_additions (extend env a) scope told.storages (given_by d.init) inner.name (completed t d.init))
 
-abbrev pub declarator_adds : Tells → Scope → SpecifierTold → Env → InitDeclarator → Additions
-declarator_adds tells scope told env d =
-    let a = name_adds tells scope told env d in
-    both a (initialiser_adds tells (extend env a) d.init)
+abbrev pub declarator_adds : Scope → SpecifierTold → Env → InitDeclarator → Additions
+declarator_adds scope told env d =
+    let a = name_adds scope told env d in
+    both a (initialiser_adds (extend env a) d.init)
 
-abbrev pub declarators_add : Tells → Scope → SpecifierTold → Env → List InitDeclarator → Additions
-declarators_add tells scope told env [] = nothing
-declarators_add tells scope told env (d ∷ ds) = let a = declarator_adds tells scope told env d in both a (declarators_add tells scope told (extend env a) ds)
+abbrev pub declarators_add : Scope → SpecifierTold → Env → List InitDeclarator → Additions
+declarators_add scope told env [] = nothing
+declarators_add scope told env (d ∷ ds) = let a = declarator_adds scope told env d in both a (declarators_add scope told (extend env a) ds)
 
 abbrev pub is_alone : List InitDeclarator → Bool
 is_alone [] = true
 is_alone (d ∷ ds) = false
 
 -- what a declaration adds
-abbrev pub declaration_adds : Tells → Scope → Env → Declare → Additions
-declaration_adds tells scope env node =
-    let told = tells.specifiers node.specifiers env (is_alone node.declarators) in
-    both told.additions (declarators_add tells scope told (extend env told.additions) node.declarators)
+abbrev pub declaration_adds : Scope → Env → Declare → Additions
+declaration_adds scope env node =
+    let told = specifiers_found node.specifiers env (is_alone node.declarators) in
+    both told.additions (declarators_add scope told (extend env told.additions) node.declarators)

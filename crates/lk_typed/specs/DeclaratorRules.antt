@@ -1,34 +1,12 @@
 -- What a declarator makes of the type on its left, and the rules that it may break (C99 6.7.5). A type is missing where something on the left is faulty.
-use Rattle.std.specs.Prelude.{ℕ, ◌*◌, ◌++◌, Bool, true, false, not, ◌&&◌, ◌||◌, Option, Some, None, List, [], ◌∷◌, nat_eq, nat_lt, ℤ, pos, int_le, unsigned_abs}
+use Rattle.std.specs.Prelude.{ℕ, ◌*◌, ◌++◌, Bool, true, false, not, ◌&&◌, ◌||◌, Option, Some, None, List, [], ◌∷◌, nat_lt, ℤ, pos, int_le, unsigned_abs}
 use Rattle.lk_base.specs.declared.code.Code.{Code}
 use Rattle.lk_base.specs.declared.code.Code.TheVariants.{Mismatch, Incomplete, VariableArray, OwnVararg, StructValue, MutexValue}
-use Rattle.lk_typed.specs.Env.{Env, Members, NotYet, Known, Faulty, members_of}
+use Rattle.lk_typed.specs.Env.{Env}
 use Rattle.lk_typed.specs.Faults.{Breach, breach}
+use Rattle.lk_typed.specs.Sizes.{is_complete}
+use Rattle.lk_typed.specs.Typing.{Constant, known_value}
 use Rattle.lk_typed.specs.Ty.{Ty, Void, Int, ThreadId, Mutex, Cond, Pointer, Array, Struct, Function, Opaque, function_of, holds_of, is_array, is_function, is_lock, is_struct, is_void}
-
--- a struct whose definition has begun and isn't at its end: a struct has one member at least
-abbrev pub begun : Members
-begun = Known []
-
--- whether the definition of a struct is at its end; of a faulty one nothing is asked
-abbrev pub are_known : Members → Bool
-are_known NotYet = false
-are_known (Known []) = false
-are_known (Known (field ∷ fields)) = true
-are_known Faulty = true
-
--- whether the size of an object of the type is known (C99 6.2.5, 1)
-abbrev pub is_complete : Env → Ty → Bool
-is_complete env Void = false
-is_complete env (Int k) = true
-is_complete env ThreadId = true
-is_complete env Mutex = true
-is_complete env Cond = true
-is_complete env (Pointer t) = true
-is_complete env (Array t n) = not (nat_eq n 0)
-is_complete env (Struct s) = are_known (members_of env s)
-is_complete env (Function result params dots) = false
-is_complete env (Opaque n) = false
 
 -- a rule of one code
 abbrev pub unless : Bool → Code → List Breach
@@ -42,16 +20,9 @@ of_type (Some t) rule = rule t
 
 -- ---- arrays (C99 6.7.5.2)
 
--- what is known of an expression that is to be an integer constant (C99 6.6)
-pub data Value : Type 0 where
-  Constant : ℤ → Value
-  Varying : Value
-  -- it has no type, since a fault stands in it or a name in it is faulty
-  Untyped : Value
-
--- what stands between the brackets of an array, if anything does
+-- what stands between the brackets of an array, if anything does: what constant it is (C99 6.6), missing where it has no type
 abbrev pub Size : Type 0
-Size = Option Value
+Size = Option (Option Constant)
 
 -- the most elements that an array has, those of arrays in it counted
 unfoldable pub most_elements : ℕ
@@ -77,24 +48,31 @@ abbrev pub is_few : ℕ → Option Ty → Bool
 is_few n None = true
 is_few n (Some t) = not (nat_lt most_elements (n * elements t))
 
--- 31: the size is a constant in range, and with those of the arrays inside not too many; it is missing only where that is admitted
+-- a constant in range, and with those of the arrays inside not too many
+abbrev pub is_size_of : Option Ty → Option ℤ → Bool
+is_size_of element None = false
+is_size_of element (Some z) = is_size z && is_few (unsigned_abs z) element
+
+-- 31: the size is such a constant; it is missing only where that is admitted
 abbrev pub has_size : Bool → Option Ty → Size → Bool
 has_size may_be_absent element None = may_be_absent
-has_size may_be_absent element (Some (Constant z)) = is_size z && is_few (unsigned_abs z) element
-has_size may_be_absent element (Some Varying) = false
-has_size may_be_absent element (Some Untyped) = true
+has_size may_be_absent element (Some None) = true
+has_size may_be_absent element (Some (Some c)) = is_size_of element (known_value c)
 
 -- the rules of `declarator[size]`: 25 of the element (C99 6.7.5.2, 1), 31 of the size
 abbrev pub array_rules : Env → Bool → Option Ty → Size → List Breach
 array_rules env may_be_absent element size =
     of_type element (λ t. unless (is_complete env t) Incomplete) ++ unless (has_size may_be_absent element size) VariableArray
 
+abbrev pub array_of_size : Option ℤ → Ty → Option Ty
+array_of_size None t = None
+array_of_size (Some z) t = Some (Array t (unsigned_abs z))
+
 -- the type with so many elements, 0 where no size is written
 abbrev pub array_type : Size → Ty → Option Ty
 array_type None t = Some (Array t 0)
-array_type (Some (Constant z)) t = Some (Array t (unsigned_abs z))
-array_type (Some Varying) t = None
-array_type (Some Untyped) t = None
+array_type (Some None) t = None
+array_type (Some (Some c)) t = array_of_size (known_value c) t
 
 -- ---- pointers (C99 6.7.5.1)
 

@@ -1,6 +1,6 @@
 -- What a node of the tree is given from outside: the names, tags and structs in scope (C99 6.2.1, 6.2.3), and what the node stands as; and what a node adds for those
 -- after it. A node never makes an environment: it says what it adds, so a block gives its environment back by itself.
-use Rattle.std.specs.Prelude.{ℕ, Bool, true, false, Option, Some, None, List, [], ◌∷◌, ◌++◌, ℤ, length, drop, slice_get, slice_set, nat_eq, unwrap_or, if◌then◌else◌}
+use Rattle.std.specs.Prelude.{ℕ, suc, Bool, true, false, Option, Some, None, List, [], ◌∷◌, ◌++◌, ℤ, length, drop, slice_get, slice_set, nat_eq, unwrap_or, if◌then◌else◌}
 use Rattle.std.specs.Cmp.Lexicographic.{pointwise}
 use Rattle.lk_typed.specs.declared.entity.Linkage.{Linkage}
 use Rattle.lk_typed.specs.declared.entity.Defines.{Defines}
@@ -39,6 +39,8 @@ pub record Declared : Type 0 where
   pub linkage : Linkage
   -- what its declaration defines (C99 6.9.1, 6.9.2)
   pub defines : Defines
+  -- the number of the node that declares it; 0 of what is predeclared
+  pub ordinal : ℕ
 
 -- ---- tags and structs
 
@@ -61,6 +63,8 @@ pub record Field : Type 0 where
 pub data Members : Type 0 where
   -- nothing yet: the struct is incomplete
   NotYet : Members
+  -- nothing yet, and its definition has begun: it is incomplete up to the closing brace (C99 6.7.2.3, 4)
+  Begun : Members
   Known : List Field → Members
   -- its definition is faulty: what needs its members has neither a type nor a fault
   Faulty : Members
@@ -190,3 +194,8 @@ members_of env s = unwrap_or (slice_get env.structs s) NotYet
 -- a member of a struct by its name
 abbrev pub field_of : List Field → Name → Option Field
 field_of fields name = latest (λ field. is_name field.name name) fields
+
+-- the number of that member
+abbrev pub number_of_field : List Field → Name → ℕ
+number_of_field [] name = 0
+number_of_field (field ∷ others) name = if is_name field.name name then 0 else suc (number_of_field others name)

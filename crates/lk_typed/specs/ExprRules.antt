@@ -1,6 +1,6 @@
 -- The rule of each form of expression, over what was found of its parts; and what is found of an expression itself. The two equations that tie the knot,
 -- of an expression and of a type name, belong to the fold over the whole tree.
-use Rattle.std.specs.Prelude.{Bool, true, false, ◌&&◌, ◌||◌, not, Option, Some, None, List, [], ◌∷◌}
+use Rattle.std.specs.Prelude.{ℕ, Bool, true, false, ◌&&◌, ◌||◌, not, Option, Some, None, List, [], ◌∷◌}
 use Rattle.lk_base.specs.declared.code.Code.{Code}
 use Rattle.lk_tree.specs.declared.expression.DeclaratorForm.TheOpen.{ExprForm-F}
 use Rattle.lk_tree.specs.declared.operators.BinaryOperator.{BinaryOperator}
@@ -112,30 +112,30 @@ module _ {D X M S G I B P : Type 0} where
   look_of env (ExprForm-F.Text bytes) = record (plain_look false) { text = Some bytes }
   look_of env (ExprForm-F.Paren inner) = record (plain_look inner.look.holds_sizeof) { word = inner.look.word; routine = inner.look.routine }
 
-  -- ---- the rules, each where all parts have a type; `env` is the environment behind the parts
+  -- ---- the rules, each where all parts have a type; `env` is the environment behind the parts, `n` the number of the node
 
-  abbrev pub rule : Env → ExprForm-F D X M S G Judged I B P Named → Verdict
-  rule env (ExprForm-F.Comma left right) = with_two left.typing right.typing (λ a b. comma_rule (value a) (value b))
-  rule env (ExprForm-F.Assign op left right) = with_two left.typing right.typing (assign_rule env op)
-  rule env (ExprForm-F.Choice condition taken other) =
+  abbrev pub rule : Env → ℕ → ExprForm-F D X M S G Judged I B P Named → Verdict
+  rule env n (ExprForm-F.Comma left right) = with_two left.typing right.typing (λ a b. comma_rule (value a) (value b))
+  rule env n (ExprForm-F.Assign op left right) = with_two left.typing right.typing (assign_rule env op)
+  rule env n (ExprForm-F.Choice condition taken other) =
       with_one condition.typing (λ c. with_two taken.typing other.typing (λ a b. choice_rule (value c) (value a) (value b)))
-  rule env (ExprForm-F.Binary op left right) = with_two left.typing right.typing (λ a b. binary_rule env op (value a) (value b))
-  rule env (ExprForm-F.Cast type operand) = with_type type.type (λ target. with_one operand.typing (cast_rule target))
-  rule env (ExprForm-F.Pre op operand) = with_one operand.typing (step_rule env)
-  rule env (ExprForm-F.Prefix op operand) = with_one operand.typing (prefix_rule op)
-  rule env (ExprForm-F.SizeofExpr operand) = with_one operand.typing (λ e. sizeof_rule env e.type)
-  rule env (ExprForm-F.SizeofType type) = with_type type.type (sizeof_rule env)
-  rule env (ExprForm-F.Index array inner) = with_two array.typing inner.typing (λ a i. index_rule env (value a) (value i))
-  rule env (ExprForm-F.Call function arguments) =
+  rule env n (ExprForm-F.Binary op left right) = with_two left.typing right.typing (λ a b. binary_rule env op (value a) (value b))
+  rule env n (ExprForm-F.Cast type operand) = with_type type.type (λ target. with_one operand.typing (cast_rule target))
+  rule env n (ExprForm-F.Pre op operand) = with_one operand.typing (step_rule env)
+  rule env n (ExprForm-F.Prefix op operand) = with_one operand.typing (prefix_rule op)
+  rule env n (ExprForm-F.SizeofExpr operand) = with_one operand.typing (λ e. sizeof_rule env e.type)
+  rule env n (ExprForm-F.SizeofType type) = with_type type.type (sizeof_rule env)
+  rule env n (ExprForm-F.Index array inner) = with_two array.typing inner.typing (λ a i. index_rule env (value a) (value i))
+  rule env n (ExprForm-F.Call function arguments) =
       with_one function.typing (λ f. with_arguments (arguments_of arguments) (call_rule env (record { typing = f; look = function.look })))
-  rule env (ExprForm-F.Member object member) = with_one object.typing (λ e. dot_rule env e member)
-  rule env (ExprForm-F.Arrow pointer member) = with_one pointer.typing (λ e. arrow_rule env (value e) member)
-  rule env (ExprForm-F.Post op operand) = with_one operand.typing (step_rule env)
-  rule env (ExprForm-F.Word word) = word_rule env word
-  rule env (ExprForm-F.Number kind number) = number_rule kind number
-  rule env (ExprForm-F.Char number) = char_rule number
-  rule env (ExprForm-F.Text bytes) = text_rule bytes
-  rule env (ExprForm-F.Paren inner) = with_one inner.typing Typed
+  rule env n (ExprForm-F.Member object member) = with_one object.typing (λ e. dot_rule env e member)
+  rule env n (ExprForm-F.Arrow pointer member) = with_one pointer.typing (λ e. arrow_rule env (value e) member)
+  rule env n (ExprForm-F.Post op operand) = with_one operand.typing (step_rule env)
+  rule env n (ExprForm-F.Word word) = word_rule env word
+  rule env n (ExprForm-F.Number kind number) = number_rule kind number
+  rule env n (ExprForm-F.Char number) = char_rule number
+  rule env n (ExprForm-F.Text bytes) = text_rule n bytes
+  rule env n (ExprForm-F.Paren inner) = with_one inner.typing Typed
 
   -- ---- what is found of an expression in an environment
 
@@ -143,17 +143,17 @@ module _ {D X M S G I B P : Type 0} where
   abbrev pub found_in : {E T : Type 0} → (E → Env → Judged) → (T → Env → Named) → Env → ExprForm-F D X M S G E I B P T → ExprForm-F D X M S G Judged I B P Named
   found_in judge name env form = each_part (found_at judge) (found_at name) (placed judge name env form)
 
-  abbrev pub verdict : {E T : Type 0} → (E → Env → Judged) → (T → Env → Named) → Env → ExprForm-F D X M S G E I B P T → Verdict
-  verdict judge name env form = let found = found_in judge name env form in rule (extend env (additions_of found)) found
+  abbrev pub verdict : {E T : Type 0} → (E → Env → Judged) → (T → Env → Named) → Env → ℕ → ExprForm-F D X M S G E I B P T → Verdict
+  verdict judge name env n form = let found = found_in judge name env form in rule (extend env (additions_of found)) n found
 
-  abbrev pub judged : {E T : Type 0} → (E → Env → Judged) → (T → Env → Named) → Env → ExprForm-F D X M S G E I B P T → Judged
-  judged judge name env form =
+  abbrev pub judged : {E T : Type 0} → (E → Env → Judged) → (T → Env → Named) → Env → ℕ → ExprForm-F D X M S G E I B P T → Judged
+  judged judge name env n form =
       let found = found_in judge name env form in
-      record { typing = typing_of (verdict judge name env form); look = look_of env found; adds = additions_of found }
+      record { typing = typing_of (verdict judge name env n form); look = look_of env found; adds = additions_of found }
 
   -- the codes that hold at the node itself
-  abbrev pub codes_at : {E T : Type 0} → (E → Env → Judged) → (T → Env → Named) → Env → ExprForm-F D X M S G E I B P T → List Code
-  codes_at judge name env form = codes_of (verdict judge name env form)
+  abbrev pub codes_at : {E T : Type 0} → (E → Env → Judged) → (T → Env → Named) → Env → ℕ → ExprForm-F D X M S G E I B P T → List Code
+  codes_at judge name env n form = codes_of (verdict judge name env n form)
 
   -- the parts of the node, each with its environment
   abbrev pub parts : {E T A : Type 0} → (E → A) → (T → A) → (E → Env → Judged) → (T → Env → Named) → Env → ExprForm-F D X M S G E I B P T → List (Placed A)

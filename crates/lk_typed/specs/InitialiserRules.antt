@@ -10,8 +10,9 @@ use Rattle.lk_typed.specs.Ty.{Ty, Void, Int, ThreadId, Mutex, Cond, Pointer, Arr
 
 -- ---- what an initialiser is asked for
 
--- an expression, where it has a type
+-- an expression, where it has a type, or an initialiser word
 pub record Seen : Type 0 where
+  -- the type of its value, or of the object that the word initialises
   pub type : Ty
   -- how many bytes a text has, without the zero at its end
   pub text : Option ℕ

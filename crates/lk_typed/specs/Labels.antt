@@ -1,8 +1,7 @@
 -- The labels of a function (C99 6.2.1, 3 and 6.8.1): all that stand in its body.
-use Rattle.std.specs.Prelude.{ℕ, Bool, ◌&&◌, ◌++◌, List, [], ◌∷◌, Option, Some, None, nat_lt}
+use Rattle.std.specs.Prelude.{ℕ, Bool, ◌&&◌, ◌++◌, List, [], ◌∷◌, Option, Some, None, nat_lt, nat_eq}
 use Rattle.std.specs.List.{list_any}
 use Rattle.std.specs.Cmp.Lexicographic.{pointwise}
-use Rattle.std.specs.Prelude.{nat_eq}
 use Rattle.lk_tree.specs.declared.statement.BlockItem.TheOpen.{BlockItem-F, StmtForm-F, Stmt-F}
 use Rattle.lk_tree.specs.declared.statement.BlockItem.TheFolds.{fold-Stmt}
 use Rattle.lk_tree.specs.declared.statement.Stmt.{Stmt}

@@ -1,9 +1,9 @@
--- What each layer of a declaration tells, from what its parts tell (C99 6.7.2 to 6.7.6). X is what an expression tells; given are its additions and its value where
--- it is an integer constant expression.
-use Rattle.std.specs.Prelude.{ℕ, ◌&&◌, Bool, true, false, not, Option, Some, None, List, [], ◌∷◌, ◌++◌, if◌then◌else◌, ℤ}
+-- What each layer of a declaration tells, from what its parts tell (C99 6.7.2 to 6.7.6).
+use Rattle.std.specs.Prelude.{ℕ, ◌&&◌, ◌||◌, Bool, true, false, not, Option, Some, None, List, [], ◌∷◌, ◌++◌, if◌then◌else◌, ℤ}
 use Rattle.lk_base.specs.declared.spot.Spot.{Spot}
 use Rattle.lk_typed.specs.declared.entity.Linkage.TheVariants as linkage
 use Rattle.lk_typed.specs.declared.entity.Defines.TheVariants as defines
+use Rattle.lk_typed.specs.DeclarationRules.{InType, type_in}
 use Rattle.lk_typed.specs.DeclaratorRules.{Size, adjusted, array_rules, array_type, function_rules, parameter_rules, pointer_rules}
 use Rattle.lk_typed.specs.Env.{Env, Additions, Name, AnObject, AFaultyName, Field, nothing, both, past_scope, extend, enter}
 use Rattle.lk_typed.specs.Faults.{Breach}
@@ -18,7 +18,7 @@ Placed A = Spot → ℕ → A
 -- ---- declarators (C99 6.7.5)
 
 abbrev pub bare : DeclaratorTold
-bare = record { name = None; additions = λ env. nothing; type = λ env may_be_absent t. t; parameters = λ env. nothing }
+bare = record { name = None; additions = λ env. nothing; type = λ env may_be_absent t. t; parameters = λ env. nothing; holds_sizeof = λ env. false }
 
 -- `* declarator`
 abbrev pub pointer_told : DeclaratorTold → DeclaratorTold
@@ -28,17 +28,19 @@ pointer_told inner =
       additions = inner.additions;
       type = λ env may_be_absent t. inner.type env may_be_absent (unless_broken (pointer_rules t) (some_type Pointer t));
       parameters = inner.parameters;
+      holds_sizeof = inner.holds_sizeof;
     }
 
 -- `declarator[size]`: the size stands behind the declarator inside
-abbrev pub array_told : DeclaratorTold → (Env → Size) → (Env → Additions) → DeclaratorTold
-array_told inner size added =
+abbrev pub array_told : DeclaratorTold → (Env → Size) → (Env → Additions) → (Env → Bool) → DeclaratorTold
+array_told inner size added holds =
     record {
       name = inner.name;
       additions = λ env. let a = inner.additions env in both a (added (extend env a));
       type = λ env may_be_absent t. let n = size (extend env (inner.additions env)) in
           inner.type env may_be_absent (unless_broken (array_rules env may_be_absent t n) (then_type t (array_type n)));
       parameters = inner.parameters;
+      holds_sizeof = λ env. inner.holds_sizeof env || holds (extend env (inner.additions env));
     }
 
 -- ---- parameters
@@ -51,9 +53,10 @@ pub record ParametersTold : Type 0 where
   pub additions : Additions
   -- their types, missing where one of them is faulty
   pub types : Option (List Ty)
+  pub holds_sizeof : Bool
 
 abbrev pub no_parameter : ParametersTold
-no_parameter = record { additions = nothing; types = Some [] }
+no_parameter = record { additions = nothing; types = Some []; holds_sizeof = false }
 
 abbrev pub one_more : Option Ty → Option (List Ty) → Option (List Ty)
 one_more None ts = None
@@ -65,11 +68,12 @@ each_parameter [] env = no_parameter
 each_parameter (p ∷ ps) env =
     let first = p env in
     let others = each_parameter ps (extend env first.additions) in
-    record { additions = both first.additions others.additions; types = one_more first.type others.types }
+    record { additions = both first.additions others.additions; types = one_more first.type others.types; holds_sizeof = first.holds_sizeof || others.holds_sizeof }
 
 -- `(void)` is no parameter (C99 6.7.5.3, 10)
 abbrev pub unless_void : ParameterTeller → Bool → Env → ParametersTold
-unless_void p dots env = if (p env).is_bare_void && not dots then record no_parameter { additions = (p env).additions } else each_parameter (p ∷ []) env
+unless_void p dots env =
+    if (p env).is_bare_void && not dots then record no_parameter { additions = (p env).additions; holds_sizeof = (p env).holds_sizeof } else each_parameter (p ∷ []) env
 
 abbrev pub parameters_of : List ParameterTeller → Bool → Env → ParametersTold
 parameters_of [] dots env = no_parameter
@@ -89,6 +93,7 @@ function_told inner is_beside ps dots =
       type = λ env may_be_absent t. let told = parameters_of ps dots (enter (extend env (inner.additions env))) in
           inner.type env may_be_absent (unless_broken (function_rules t) (then_type t (function_type dots told.types)));
       parameters = if is_beside then (λ env. (parameters_of ps dots env).additions) else inner.parameters;
+      holds_sizeof = λ env. inner.holds_sizeof env || (parameters_of ps dots (enter (extend env (inner.additions env)))).holds_sizeof;
     }
 
 -- a declarator with the question whether it is the name alone, perhaps in parentheses
@@ -118,26 +123,28 @@ pub record Whole : Type 0 where
   pub type : Option Ty
   pub additions : Additions
   pub name : Option Named
+  pub holds_sizeof : Bool
 
 abbrev pub with_declarator : Env → Bool → SpecifierTold → Option DeclaratorLayer → Whole
 with_declarator env may_be_absent told inner =
     let d = (inner_of inner).told in
     let after = extend env told.additions in
-    record { type = d.type after may_be_absent (type_of told); additions = both told.additions (d.additions after); name = d.name }
+    record {
+      type = d.type after may_be_absent (type_in InType told);
+      additions = both told.additions (d.additions after);
+      name = d.name;
+      holds_sizeof = told.holds_sizeof || d.holds_sizeof after;
+    }
 
 -- a parameter's own declaration (C99 6.2.1, 4)
 abbrev pub parameter_name : Option Named → Option Ty → Additions
 parameter_name None t = nothing
-parameter_name (Some named) None = declares named.name AFaultyName
-parameter_name (Some named) (Some t) = declares named.name (AnObject t false)
+parameter_name (Some named) None = declares named.name named.ordinal AFaultyName
+parameter_name (Some named) (Some t) = declares named.name named.ordinal (AnObject t false)
 
 abbrev pub is_missing : {A : Type 0} → Option A → Bool
 is_missing None = true
 is_missing (Some a) = false
-
-abbrev pub is_none_broken : List Breach → Bool
-is_none_broken [] = true
-is_none_broken (breach ∷ others) = false
 
 abbrev pub has_name : Option Named → Bool
 has_name None = false
@@ -161,12 +168,13 @@ parameter_told ss inner env =
       additions = both whole.additions (parameter_name whole.name t);
       type = t;
       is_bare_void = is_missing inner && is_void_type (type_of told);
+      holds_sizeof = whole.holds_sizeof;
     }
 
 abbrev pub type_name_told : List SpecifierTeller → Option DeclaratorLayer → Env → TypeTold
 type_name_told ss inner env =
     let whole = with_declarator env false (specifiers ss env false) inner in
-    record { additions = whole.additions; type = whole.type; is_bare_void = false }
+    record { additions = whole.additions; type = whole.type; is_bare_void = false; holds_sizeof = whole.holds_sizeof }
 
 -- ---- members
 
@@ -174,17 +182,23 @@ type_name_told ss inner env =
 abbrev pub MemberDeclaratorTeller : Type 0
 MemberDeclaratorTeller = Env → Option Ty → List Field → MemberTold
 
-abbrev pub faulty_member : Additions → MemberTold
-faulty_member additions = record { additions = additions; fields = []; sound = false }
+abbrev pub faulty_member : Additions → Bool → MemberTold
+faulty_member additions holds = record { additions = additions; fields = []; sound = false; holds_sizeof = holds }
 
-abbrev pub field_told : Env → List Field → Additions → Option Named → Option Ty → MemberTold
-field_told env before additions None t = faulty_member additions
-field_told env before additions (Some named) None = faulty_member additions
-field_told env before additions (Some named) (Some t) =
-    if is_none_broken (member_rules env before named.name t) then record { additions = additions; fields = record { name = named.name; type = t } ∷ []; sound = true } else faulty_member additions
+-- the fields of a member that breaks these rules
+abbrev pub field_unless : List Breach → Name → Ty → MemberTold → MemberTold
+field_unless [] name t faulty = record faulty { fields = record { name = name; type = t } ∷ []; sound = true }
+field_unless (breach ∷ others) name t faulty = faulty
+
+abbrev pub field_told : Env → List Field → Option Named → Option Ty → MemberTold → MemberTold
+field_told env before None t faulty = faulty
+field_told env before (Some named) None faulty = faulty
+field_told env before (Some named) (Some t) faulty = field_unless (member_rules env before named.name t) named.name t faulty
 
 abbrev pub plain_member : DeclaratorLayer → MemberDeclaratorTeller
-plain_member inner env t before = field_told (extend env (inner.told.additions env)) before (inner.told.additions env) inner.told.name (inner.told.type env false t)
+plain_member inner env t before =
+    let d = inner.told in
+    field_told (extend env (d.additions env)) before d.name (d.type env false t) (faulty_member (d.additions env) (d.holds_sizeof env))
 
 abbrev pub declarators_in_turn : List MemberDeclaratorTeller → MemberDeclaratorTeller
 declarators_in_turn [] env t before = no_member
@@ -193,10 +207,10 @@ declarators_in_turn (d ∷ ds) env t before = let first = d env t before in then
 abbrev pub member_told : List SpecifierTeller → List MemberDeclaratorTeller → MemberTeller
 member_told ss ds env before =
     let told = specifiers ss env false in
-    let inside = declarators_in_turn ds (extend env told.additions) (type_of told) before in
-    record inside { additions = both told.additions inside.additions }
+    let inside = declarators_in_turn ds (extend env told.additions) (type_in InType told) before in
+    record inside { additions = both told.additions inside.additions; holds_sizeof = told.holds_sizeof || inside.holds_sizeof }
 
 -- ---- enumerators
 
-abbrev pub item_told : Name → Additions → Option ℤ → ItemTold
-item_told name added value = record { additions = both added (declares name (enumerator value)); value = value }
+abbrev pub item_told : Name → ℕ → Additions → Option ℤ → Bool → ItemTold
+item_told name n added value holds = record { additions = both added (declares name n (enumerator value)); value = value; holds_sizeof = holds }

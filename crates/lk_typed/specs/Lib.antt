@@ -9,6 +9,7 @@ pub mod Declarations
 pub mod DeclaratorRules
 pub mod Env
 pub mod ExprRules
+pub mod Expressions
 pub mod Faults
 pub mod Forms
 pub mod HolderRules
@@ -28,10 +29,12 @@ pub mod Redeclared
 pub mod Sizes
 pub mod Stands
 pub mod StatementRules
+pub mod Statements
 pub mod Statics
 pub mod Telling
 pub mod Told
 pub mod Ty
 pub mod TypeWords
 pub mod Typing
+pub mod Units
 pub mod Words

@@ -4,6 +4,7 @@ use Rattle.lk_base.specs.declared.code.Code.{Code}
 use Rattle.lk_base.specs.declared.code.Code.TheVariants.{Attribute, JoinResult}
 use Rattle.lk_typed.specs.declared.entity.Linkage.{Linkage}
 use Rattle.lk_typed.specs.declared.entity.Linkage.TheVariants as linkage
+use Rattle.lk_typed.specs.declared.entity.Defines.{Defines}
 use Rattle.lk_typed.specs.declared.entity.Defines.TheVariants as defines
 use Rattle.lk_typed.specs.Ty.{Ty, Void, ThreadId, Mutex, Cond, Pointer, Function, Opaque, types_of, int, unsigned_int, size_type, char, void_pointer}
 use Rattle.lk_typed.specs.Env.{Name, Meaning, AFunction, ATypedef, AnInitialiserWord, Declared, is_name, latest}
@@ -98,21 +99,22 @@ library_function name = latest (λ f. is_name f.name name) library
 
 -- ---- the declarations with which each source begins, in its file scope
 
-abbrev declared : Linkage → Name → Meaning → Declared
-declared reach name meaning = record { name = name; meaning = meaning; linkage = reach; defines = defines.Nothing }
+abbrev declared : Linkage → Defines → Name → Meaning → Declared
+declared reach defined name meaning = record { name = name; meaning = meaning; linkage = reach; defines = defined; ordinal = 0 }
 
 abbrev pub predeclared_types : List Declared
 predeclared_types =
-    declared linkage.None (codes "pthread_t") (ATypedef ThreadId)
-    ∷ declared linkage.None (codes "pthread_mutex_t") (ATypedef Mutex)
-    ∷ declared linkage.None (codes "pthread_cond_t") (ATypedef Cond)
-    ∷ declared linkage.None (codes "size_t") (ATypedef size_type)
-    ∷ declared linkage.None (codes "pthread_attr_t") (ATypedef (Opaque 0))
-    ∷ declared linkage.None (codes "pthread_mutexattr_t") (ATypedef (Opaque 1))
-    ∷ declared linkage.None (codes "pthread_condattr_t") (ATypedef (Opaque 2))
-    ∷ declared linkage.None (codes "PTHREAD_MUTEX_INITIALIZER") (AnInitialiserWord Mutex)
-    ∷ declared linkage.None (codes "PTHREAD_COND_INITIALIZER") (AnInitialiserWord Cond)
+    declared linkage.None defines.Nothing (codes "pthread_t") (ATypedef ThreadId)
+    ∷ declared linkage.None defines.Nothing (codes "pthread_mutex_t") (ATypedef Mutex)
+    ∷ declared linkage.None defines.Nothing (codes "pthread_cond_t") (ATypedef Cond)
+    ∷ declared linkage.None defines.Nothing (codes "size_t") (ATypedef size_type)
+    ∷ declared linkage.None defines.Nothing (codes "pthread_attr_t") (ATypedef (Opaque 0))
+    ∷ declared linkage.None defines.Nothing (codes "pthread_mutexattr_t") (ATypedef (Opaque 1))
+    ∷ declared linkage.None defines.Nothing (codes "pthread_condattr_t") (ATypedef (Opaque 2))
+    ∷ declared linkage.None defines.Nothing (codes "PTHREAD_MUTEX_INITIALIZER") (AnInitialiserWord Mutex)
+    ∷ declared linkage.None defines.Nothing (codes "PTHREAD_COND_INITIALIZER") (AnInitialiserWord Cond)
     ∷ []
 
+-- a library function has external linkage, and what it does is its body
 unfoldable pub predeclared_names : List Declared
-predeclared_names = predeclared_types ++ map (λ f. declared linkage.External f.name (AFunction (type_of_function f))) library
+predeclared_names = predeclared_types ++ map (λ f. declared linkage.External defines.Whole f.name (AFunction (type_of_function f))) library

@@ -2,13 +2,15 @@
 use Rattle.std.specs.Prelude.{ℕ, ◌&&◌, ◌++◌, not, List, [], ◌∷◌, map, is_some, if◌then◌else◌}
 use Rattle.lk_base.specs.declared.code.Code.TheVariants.{Redeclared, Incomplete, LargeType}
 use Rattle.lk_typed.specs.Bounds.{is_large, is_large_struct}
-use Rattle.lk_typed.specs.DeclaratorRules.{is_complete, unless}
-use Rattle.lk_typed.specs.Env.{Env, Name, Members, NotYet, Known, Faulty, Field, field_of, members_of}
+use Rattle.lk_typed.specs.DeclaratorRules.{unless}
+use Rattle.lk_typed.specs.Env.{Env, Name, Members, NotYet, Begun, Known, Faulty, Field, field_of, members_of}
 use Rattle.lk_typed.specs.Faults.{Breach, breach_of}
+use Rattle.lk_typed.specs.Sizes.{is_complete}
 use Rattle.lk_typed.specs.Ty.{Ty}
 
 abbrev pub types_in : Members → List Ty
 types_in NotYet = []
+types_in Begun = []
 types_in (Known fields) = map (λ field. field.type) fields
 types_in Faulty = []
 

@@ -21,26 +21,28 @@ use Rattle.lk_tree.specs.declared.statement.Decl.TheVariants as decl
 use Rattle.lk_tree.specs.declared.statement.Function.{Function}
 use Rattle.lk_tree.specs.declared.statement.Stmt.{Stmt}
 use Rattle.lk_tree.specs.declared.statement.StmtForm.{StmtForm, out-StmtForm}
-use Rattle.lk_typed.specs.DeclarationRules.{Scope, AtFile, Defined, is_static_object}
+use Rattle.lk_typed.specs.DeclarationRules.{InDeclaration, InDefinition, InType, Scope, AtFile, Defined, is_static_object, type_in}
 use Rattle.lk_typed.specs.Declarations.{completed, declaration_adds, declarator_adds, given_by, is_alone, may_lack_size, name_adds, named_additions}
 use Rattle.lk_typed.specs.Env.{Env, Additions, Field, nothing, both, past_scope, extend, enter}
 use Rattle.lk_typed.specs.DeclaratorRules.{elements}
 use Rattle.lk_typed.specs.InitialiserRules.{Object}
 use Rattle.lk_typed.specs.Initialisers.{parts_of_init}
 use Rattle.lk_typed.specs.Labels.{labels}
-use Rattle.lk_typed.specs.Nodes.{Node, AnExternal, ADeclaration, ADefinition, AMember, AnItem, AParameter, ATypeName, ADeclarator, AnInitialiser, AStatement, AnExpression, Placed, at, Tells, Left, NameUse, Declares, IsMember, IsParameter, Unnamed}
+use Rattle.lk_typed.specs.Nodes.{Node, AnExternal, ADeclaration, ADefinition, AMember, AnItem, AParameter, ATypeName, ADeclarator, AnInitialiser, AStatement, AnExpression, Placed, at, Left, NameUse, Declares, IsMember, IsParameter, Unnamed}
 use Rattle.lk_typed.specs.Parts.{declarator_parts, items_in_turn, perhaps, specifiers_parts, statement_parts}
-use Rattle.lk_typed.specs.StatementRules.{in_body_of_switch, in_function}
-use Rattle.lk_typed.specs.Told.{SpecifierTold, type_of}
+use Rattle.lk_typed.specs.StatementRules.{in_function}
+use Rattle.lk_typed.specs.Told.{SpecifierTold}
 use Rattle.lk_typed.specs.Ty.{Ty, Signature, function_of}
+use Rattle.lk_typed.specs.Statements.{stmt_adds}
+use Rattle.lk_typed.specs.Expressions.{declarator_found, expr_parts, member_declarator_found, specifiers_found}
 
 -- ---- declarations
 
 -- the declared type, and that with the size of its initialiser
-abbrev pub type_declared : Tells → SpecifierTold → Env → InitDeclarator → Option Ty
-type_declared tells told env d =
-    let inner = tells.declarator d.declarator in
-    completed tells (inner.type env (may_lack_size told.storages d.init) (type_of told)) d.init
+abbrev pub type_declared : SpecifierTold → Env → InitDeclarator → Option Ty
+type_declared told env d =
+    let inner = declarator_found d.declarator in
+    completed (inner.type env (may_lack_size told.storages d.init) (type_in InDeclaration told)) d.init
 
 abbrev pub object_of : Option Ty → Bool → Option Object
 object_of None is_static = None
@@ -52,25 +54,25 @@ elements_given None init = 0
 elements_given (Some t) None = 0
 elements_given (Some t) (Some init) = elements t
 
-abbrev pub initialiser_part : Tells → Scope → SpecifierTold → Env → InitDeclarator → List Placed
-initialiser_part tells scope told env d =
-    perhaps (extend env (name_adds tells scope told env d)) (AnInitialiser (object_of (type_declared tells told env d) (is_static_object scope told.storages))) d.init
+abbrev pub initialiser_part : Scope → SpecifierTold → Env → InitDeclarator → List Placed
+initialiser_part scope told env d =
+    perhaps (extend env (name_adds scope told env d)) (AnInitialiser (object_of (type_declared told env d) (is_static_object scope told.storages))) d.init
 
-abbrev pub declared_left : Tells → Scope → SpecifierTold → Env → Env → InitDeclarator → Left
-declared_left tells scope told at_end env d =
-    record { type = type_of told; may_be_absent = may_lack_size told.storages d.init; use_of_name = Declares scope told.storages (given_by d.init) (elements_given (type_declared tells told env d) d.init) at_end; is_whole = true }
+abbrev pub declared_left : Scope → SpecifierTold → Env → Env → InitDeclarator → Left
+declared_left scope told at_end env d =
+    record { type = type_in InDeclaration told; may_be_absent = may_lack_size told.storages d.init; use_of_name = Declares scope told.storages (given_by d.init) (elements_given (type_declared told env d) d.init) at_end; is_whole = true }
 
-abbrev pub declarators_in_turn : Tells → Env → Scope → SpecifierTold → Env → List InitDeclarator → List Placed
-declarators_in_turn tells at_end scope told env [] = []
-declarators_in_turn tells at_end scope told env (d ∷ ds) =
-    at env (ADeclarator (declared_left tells scope told at_end env d) d.declarator) ∷
-    initialiser_part tells scope told env d ++ declarators_in_turn tells at_end scope told (extend env (declarator_adds tells scope told env d)) ds
+abbrev pub declarators_in_turn : Env → Scope → SpecifierTold → Env → List InitDeclarator → List Placed
+declarators_in_turn at_end scope told env [] = []
+declarators_in_turn at_end scope told env (d ∷ ds) =
+    at env (ADeclarator (declared_left scope told at_end env d) d.declarator) ∷
+    initialiser_part scope told env d ++ declarators_in_turn at_end scope told (extend env (declarator_adds scope told env d)) ds
 
-abbrev pub declaration_parts : Tells → Env → Scope → Env → Declare → List Placed
-declaration_parts tells at_end scope env node =
+abbrev pub declaration_parts : Env → Scope → Env → Declare → List Placed
+declaration_parts at_end scope env node =
     let alone = is_alone node.declarators in
-    let told = tells.specifiers node.specifiers env alone in
-    specifiers_parts tells alone env node.specifiers ++ declarators_in_turn tells at_end scope told (extend env told.additions) node.declarators
+    let told = specifiers_found node.specifiers env alone in
+    specifiers_parts alone env node.specifiers ++ declarators_in_turn at_end scope told (extend env told.additions) node.declarators
 
 -- ---- definitions of functions (C99 6.9.1): the parameters stand in the scope of the body's outermost block
 
@@ -100,54 +102,54 @@ result_of None = None
 result_of (Some t) = result_in (function_of t)
 
 -- the environment behind the declarator of a definition, with its name
-abbrev pub behind_declarator : Tells → SpecifierTold → Env → Function → Env
-behind_declarator tells told env node =
-    let inner = tells.declarator node.declarator in
+abbrev pub behind_declarator : SpecifierTold → Env → Function → Env
+behind_declarator told env node =
+    let inner = declarator_found node.declarator in
     let after = extend env (inner.additions env) in
-    extend after (named_additions after AtFile told.storages Defined inner.name (inner.type env false (type_of told)))
+    extend after (named_additions after AtFile told.storages Defined inner.name (inner.type env false (type_in InDefinition told)))
 
 -- the environment of a body, with its parameters
-abbrev pub in_body : Tells → SpecifierTold → Env → Function → Env
-in_body tells told env node =
-    let inner = tells.declarator node.declarator in
-    let inside = enter (behind_declarator tells told env node) in
-    record (extend inside (inner.parameters inside)) { result = result_of (inner.type env false (type_of told)) }
+abbrev pub in_body : SpecifierTold → Env → Function → Env
+in_body told env node =
+    let inner = declarator_found node.declarator in
+    let inside = enter (behind_declarator told env node) in
+    record (extend inside (inner.parameters inside)) { result = result_of (inner.type env false (type_in InDefinition told)) }
 
-abbrev pub definition_parts : Tells → Env → Env → Function → List Placed
-definition_parts tells at_end env node =
-    let told = tells.specifiers node.specifiers env false in
+abbrev pub definition_parts : Env → Env → Function → List Placed
+definition_parts at_end env node =
+    let told = specifiers_found node.specifiers env false in
     let after = extend env told.additions in
-    specifiers_parts tells false env node.specifiers ++
-    at after (ADeclarator (record { type = type_of told; may_be_absent = false; use_of_name = Declares AtFile told.storages Defined 0 at_end; is_whole = true }) node.declarator) ∷
-    items_in_turn tells (in_function (labels node.body)) (in_body tells told after node) (body_items (out-StmtForm node.body.form))
+    specifiers_parts false env node.specifiers ++
+    at after (ADeclarator (record { type = type_in InDefinition told; may_be_absent = false; use_of_name = Declares AtFile told.storages Defined 0 at_end; is_whole = true }) node.declarator) ∷
+    items_in_turn (in_function (labels node.body)) (in_body told after node) (body_items (out-StmtForm node.body.form))
 
 -- ---- members, parameters and type names
 
 abbrev pub type_left : SpecifierTold → Bool → NameUse → Left
-type_left told may_be_absent name = record { type = type_of told; may_be_absent = may_be_absent; use_of_name = name; is_whole = true }
+type_left told may_be_absent name = record { type = type_in InType told; may_be_absent = may_be_absent; use_of_name = name; is_whole = true }
 
-abbrev pub member_part : Env → SpecifierTold → List Field → Tells → MemberDeclarator-F DeclaratorForm ExprForm MemberDeclarator Specifier Declarator Expr Item Member Parameter TypeName → List Placed
-member_part env told before tells (MemberDeclarator-F.Plain inner) = at env (ADeclarator (type_left told false (IsMember before)) inner) ∷ []
-member_part env told before tells (MemberDeclarator-F.Field inner width) =
-    at env (ADeclarator (type_left told false (IsMember before)) inner) ∷ at (extend env ((tells.declarator inner).additions env)) (AnExpression width) ∷ []
-member_part env told before tells (MemberDeclarator-F.Unnamed width) = at env (AnExpression width) ∷ []
+abbrev pub member_part : Env → SpecifierTold → List Field → MemberDeclarator-F DeclaratorForm ExprForm MemberDeclarator Specifier Declarator Expr Item Member Parameter TypeName → List Placed
+member_part env told before (MemberDeclarator-F.Plain inner) = at env (ADeclarator (type_left told false (IsMember before)) inner) ∷ []
+member_part env told before (MemberDeclarator-F.Field inner width) =
+    at env (ADeclarator (type_left told false (IsMember before)) inner) ∷ at (extend env ((declarator_found inner).additions env)) (AnExpression width) ∷ []
+member_part env told before (MemberDeclarator-F.Unnamed width) = at env (AnExpression width) ∷ []
 
-abbrev pub members_in_turn : Tells → SpecifierTold → Env → List Field → List MemberDeclarator → List Placed
-members_in_turn tells told env before [] = []
-members_in_turn tells told env before (d ∷ ds) =
-    let member = tells.member_declarator d env (type_of told) before in
-    member_part env told before tells (out-MemberDeclarator d) ++ members_in_turn tells told (extend env member.additions) (before ++ member.fields) ds
+abbrev pub members_in_turn : SpecifierTold → Env → List Field → List MemberDeclarator → List Placed
+members_in_turn told env before [] = []
+members_in_turn told env before (d ∷ ds) =
+    let member = member_declarator_found d env (type_in InType told) before in
+    member_part env told before (out-MemberDeclarator d) ++ members_in_turn told (extend env member.additions) (before ++ member.fields) ds
 
-abbrev pub member_parts : Tells → Env → List Field → Member → List Placed
-member_parts tells env before m =
-    let told = tells.specifiers m.specifiers env false in
-    specifiers_parts tells false env m.specifiers ++ members_in_turn tells told (extend env told.additions) before m.declarators
+abbrev pub member_parts : Env → List Field → Member → List Placed
+member_parts env before m =
+    let told = specifiers_found m.specifiers env false in
+    specifiers_parts false env m.specifiers ++ members_in_turn told (extend env told.additions) before m.declarators
 
 -- a type name, or a parameter
-abbrev pub type_parts : Tells → Env → Bool → NameUse → List Specifier → Option Declarator → List Placed
-type_parts tells env may_be_absent name ss d =
-    let told = tells.specifiers ss env false in
-    specifiers_parts tells false env ss ++ perhaps (extend env told.additions) (ADeclarator (type_left told may_be_absent name)) d
+abbrev pub type_parts : Env → Bool → NameUse → List Specifier → Option Declarator → List Placed
+type_parts env may_be_absent name ss d =
+    let told = specifiers_found ss env false in
+    specifiers_parts false env ss ++ perhaps (extend env told.additions) (ADeclarator (type_left told may_be_absent name)) d
 
 -- ---- all nodes
 
@@ -157,42 +159,42 @@ external_part env (decl.Declare node) = at env (ADeclaration AtFile node) ∷ []
 external_part env (decl.Empty node) = []
 
 -- the parts of a node; `at_end` is the environment behind the whole source
-abbrev pub parts : Tells → Env → Env → Node → List Placed
-parts tells at_end env (AnExternal d) = external_part env d
-parts tells at_end env (ADeclaration scope node) = declaration_parts tells at_end scope env node
-parts tells at_end env (ADefinition node) = definition_parts tells at_end env node
-parts tells at_end env (AMember before m) = member_parts tells env before m
-parts tells at_end env (AnItem before i) = perhaps env AnExpression (out-Item i).value
-parts tells at_end env (AParameter lone p) = type_parts tells env true IsParameter (out-Parameter p).specifiers (out-Parameter p).declarator
-parts tells at_end env (ATypeName n) = type_parts tells env false Unnamed (out-TypeName n).specifiers (out-TypeName n).declarator
-parts tells at_end env (ADeclarator left d) = declarator_parts tells env left (out-DeclaratorForm d.form)
-parts tells at_end env (AnInitialiser object init) = parts_of_init tells object env (out-Init init)
-parts tells at_end env (AStatement around s) = statement_parts tells (λ e inner inside. in_body_of_switch around (tells.switch_of e inner inside)) around env (out-StmtForm s.form)
-parts tells at_end env (AnExpression e) = tells.inside e env
+abbrev pub parts : Env → Env → Node → List Placed
+parts at_end env (AnExternal d) = external_part env d
+parts at_end env (ADeclaration scope node) = declaration_parts at_end scope env node
+parts at_end env (ADefinition node) = definition_parts at_end env node
+parts at_end env (AMember before m) = member_parts env before m
+parts at_end env (AnItem before i) = perhaps env AnExpression (out-Item i).value
+parts at_end env (AParameter lone p) = type_parts env true IsParameter (out-Parameter p).specifiers (out-Parameter p).declarator
+parts at_end env (ATypeName n) = type_parts env false Unnamed (out-TypeName n).specifiers (out-TypeName n).declarator
+parts at_end env (ADeclarator left d) = declarator_parts env left (out-DeclaratorForm d.form)
+parts at_end env (AnInitialiser object init) = parts_of_init object env (out-Init init)
+parts at_end env (AStatement around s) = statement_parts around env (out-StmtForm s.form)
+parts at_end env (AnExpression e) = expr_parts e env
 
 -- ---- a source
 
 -- what the parameters and the body leave behind: the structs, so that no number stands for two
-abbrev pub past_body : Tells → SpecifierTold → Env → Function → Additions
-past_body tells told env node =
-    past_scope (both ((tells.declarator node.declarator).parameters (enter (behind_declarator tells told env node))) (tells.statement node.body (in_body tells told env node)))
+abbrev pub past_body : SpecifierTold → Env → Function → Additions
+past_body told env node =
+    past_scope (both ((declarator_found node.declarator).parameters (enter (behind_declarator told env node))) (stmt_adds node.body (in_body told env node)))
 
-abbrev pub external_adds : Tells → Env → Decl → Additions
-external_adds tells env (decl.Function node) =
-    let told = tells.specifiers node.specifiers env false in
-    let inner = tells.declarator node.declarator in
+abbrev pub external_adds : Env → Decl → Additions
+external_adds env (decl.Function node) =
+    let told = specifiers_found node.specifiers env false in
+    let inner = declarator_found node.declarator in
     let after = extend env told.additions in
     let a = inner.additions after in
-    both told.additions (both a (both (named_additions (extend after a) AtFile told.storages Defined inner.name (inner.type after false (type_of told))) (past_body tells told after node)))
-external_adds tells env (decl.Declare node) = declaration_adds tells AtFile env node
-external_adds tells env (decl.Empty node) = nothing
+    both told.additions (both a (both (named_additions (extend after a) AtFile told.storages Defined inner.name (inner.type after false (type_in InDefinition told))) (past_body told after node)))
+external_adds env (decl.Declare node) = declaration_adds AtFile env node
+external_adds env (decl.Empty node) = nothing
 
 -- the external declarations of a source, each behind those before it (C99 6.2.1, 4)
-abbrev pub externals_in_turn : Tells → Env → List Decl → List Placed
-externals_in_turn tells env [] = []
-externals_in_turn tells env (d ∷ ds) = at env (AnExternal d) ∷ externals_in_turn tells (extend env (external_adds tells env d)) ds
+abbrev pub externals_in_turn : Env → List Decl → List Placed
+externals_in_turn env [] = []
+externals_in_turn env (d ∷ ds) = at env (AnExternal d) ∷ externals_in_turn (extend env (external_adds env d)) ds
 
 -- the environment behind them
-abbrev pub behind_all : Tells → Env → List Decl → Env
-behind_all tells env [] = env
-behind_all tells env (d ∷ ds) = behind_all tells (extend env (external_adds tells env d)) ds
+abbrev pub behind_all : Env → List Decl → Env
+behind_all env [] = env
+behind_all env (d ∷ ds) = behind_all (extend env (external_adds env d)) ds

@@ -1,5 +1,5 @@
--- The codes that hold at each node of a source, by the rules of its kind; and where a node stands.
-use Rattle.std.specs.Prelude.{ℕ, ◌&&◌, ◌++◌, Bool, true, false, Option, Some, None, List, [], ◌∷◌, if◌then◌else◌}
+-- The codes that hold at each node of a source, by the rules of its kind: where its parts have types; and where a node stands.
+use Rattle.std.specs.Prelude.{ℕ, ◌&&◌, ◌||◌, ◌++◌, not, Bool, true, false, Option, Some, None, List, [], ◌∷◌, is_some, if◌then◌else◌, ℤ, pos}
 use Rattle.lk_base.specs.declared.spot.Spot.{Spot}
 use Rattle.lk_tree.specs.declared.declaration.Init.{Init, out-Init}
 use Rattle.lk_tree.specs.declared.declaration.Init.TheOpen.{Init-F}
@@ -26,25 +26,27 @@ use Rattle.lk_tree.specs.declared.statement.Function.{Function}
 use Rattle.lk_tree.specs.declared.statement.Stmt.{Stmt}
 use Rattle.lk_tree.specs.declared.statement.StmtForm.{StmtForm, out-StmtForm}
 use Rattle.lk_base.specs.declared.code.Code.TheVariants.{Incomplete}
-use Rattle.lk_typed.specs.DeclarationRules.{InDefinition, InType, definition_rules, named_rules}
+use Rattle.lk_typed.specs.DeclarationRules.{Holder, InDefinition, InType, definition_rules, named_rules, type_in}
 use Rattle.lk_typed.specs.Declarations.{declared_as}
 use Rattle.lk_typed.specs.DeclaratorRules.{array_rules, function_rules, of_type, parameter_rules, pointer_rules}
-use Rattle.lk_typed.specs.Env.{Env, Name, Declared, Meaning, AnObject, AFaultyName, extend}
+use Rattle.lk_typed.specs.Env.{Env, Name, Declared, Meaning, AnObject, AnEnumerator, AFaultyName, extend}
 use Rattle.lk_typed.specs.declared.entity.Linkage.TheVariants as linkage
 use Rattle.lk_typed.specs.declared.entity.Defines.TheVariants as defines
 use Rattle.lk_typed.specs.Layers.{has_name}
 use Rattle.lk_typed.specs.Faults.{Breach, breach}
 use Rattle.lk_typed.specs.HolderRules.{all_specifier_rules, declaration_rules, item_rules, member_node_rules}
-use Rattle.lk_typed.specs.InitialiserRules.{given_rules}
-use Rattle.lk_typed.specs.Initialisers.{initialiser_rules}
+use Rattle.lk_typed.specs.InitialiserRules.{Object, given_rules}
+use Rattle.lk_typed.specs.Initialisers.{as_initialiser, initialiser_rules}
 use Rattle.lk_typed.specs.MemberRules.{large_member_rules, large_rules, member_rules}
-use Rattle.lk_typed.specs.Nodes.{Node, AnExternal, ADeclaration, ADefinition, AMember, AnItem, AParameter, ATypeName, ADeclarator, AnInitialiser, AStatement, AnExpression, Tells, Left, NameUse, Declares, IsMember, IsParameter, Unnamed}
+use Rattle.lk_typed.specs.NodeParts.{parts}
+use Rattle.lk_typed.specs.Nodes.{Node, AnExternal, ADeclaration, ADefinition, AMember, AnItem, AParameter, ATypeName, ADeclarator, AnInitialiser, AStatement, AnExpression, Placed, Left, NameUse, Declares, IsMember, IsParameter, Unnamed}
 use Rattle.lk_typed.specs.Parts.{added_by, first_adds, inner_adds, size_in}
 use Rattle.lk_typed.specs.Redeclared.{name_rules}
 use Rattle.lk_typed.specs.Stands.{Mark}
 use Rattle.lk_typed.specs.StatementRules.{Around, Returned, Nothing, Converted, break_rules, case_rules, condition_rules, continue_rules, default_rules, dropped_rules, goto_rules, label_rules, return_rules, switch_rules}
-use Rattle.lk_typed.specs.Told.{Named, enumerator, type_of}
+use Rattle.lk_typed.specs.Told.{Named, with_optional}
 use Rattle.lk_typed.specs.Ty.{Ty, is_void}
+use Rattle.lk_typed.specs.Expressions.{declarator_found, expr_breaches, expr_constant, expr_conversion, expr_type, expr_word, has_expr_type, item_found, parameter_found, specifiers_found, type_found}
 
 -- ---- declared names, with the type on the left of the name, which is theirs
 
@@ -58,23 +60,23 @@ parameter_meaning (Some t) = AnObject t false
 
 -- a name without linkage
 abbrev pub plain_name : Name → Meaning → Declared
-plain_name name meaning = record { name = name; meaning = meaning; linkage = linkage.None; defines = defines.Nothing }
+plain_name name meaning = record { name = name; meaning = meaning; linkage = linkage.None; defines = defines.Nothing; ordinal = 0 }
 
--- the rules of a name, by what it becomes
+-- the rules of a name, by what it becomes; none asks which node declares it
 abbrev pub name_use_rules : Env → Option Ty → Name → NameUse → List Breach
-name_use_rules env t name (Declares scope ss given n at_end) = name_rules env (declared_as env scope ss given name t) ++ of_type t (λ t. named_rules env at_end scope ss name t given) ++ given_rules n
+name_use_rules env t name (Declares scope ss given n at_end) = name_rules env (declared_as env scope ss given name 0 t) ++ of_type t (λ t. named_rules env at_end scope ss name t given) ++ given_rules n
 name_use_rules env t name (IsMember before) = of_type t (λ t. member_rules env before name t)
 name_use_rules env t name IsParameter = name_rules env (plain_name name (parameter_meaning t)) ++ of_type t void_rules
 name_use_rules env t name Unnamed = []
 
 -- ---- declarators
 
-abbrev pub form_rules : Tells → Env → Left → DeclaratorForm-F DeclaratorForm ExprForm MemberDeclarator Specifier Declarator Expr Item Member Parameter TypeName → List Breach
-form_rules tells env left (DeclaratorForm-F.Star qualifiers inner) = pointer_rules left.type
-form_rules tells env left (DeclaratorForm-F.Named name) = name_use_rules env left.type name left.use_of_name
-form_rules tells env left (DeclaratorForm-F.Group inner) = []
-form_rules tells env left (DeclaratorForm-F.ArrayOf inner size) = array_rules env left.may_be_absent left.type (size_in tells size (extend env (inner_adds tells inner env)))
-form_rules tells env left (DeclaratorForm-F.FunctionOf inner ps dots) = function_rules left.type
+abbrev pub form_rules : Env → Left → DeclaratorForm-F DeclaratorForm ExprForm MemberDeclarator Specifier Declarator Expr Item Member Parameter TypeName → List Breach
+form_rules env left (DeclaratorForm-F.Star qualifiers inner) = pointer_rules left.type
+form_rules env left (DeclaratorForm-F.Named name) = name_use_rules env left.type name left.use_of_name
+form_rules env left (DeclaratorForm-F.Group inner) = []
+form_rules env left (DeclaratorForm-F.ArrayOf inner size) = array_rules env left.may_be_absent left.type (size_in size (extend env (inner_adds inner env)))
+form_rules env left (DeclaratorForm-F.FunctionOf inner ps dots) = function_rules left.type
 
 -- 32 stands at the whole declarator
 abbrev pub bound_rules : Env → NameUse → Ty → List Breach
@@ -83,85 +85,160 @@ bound_rules env (IsMember before) t = large_member_rules env before t
 bound_rules env IsParameter t = large_rules env t
 bound_rules env Unnamed t = large_rules env t
 
-abbrev pub whole_rules : Tells → Env → Left → Declarator → List Breach
-whole_rules tells env left d = if left.is_whole then of_type ((tells.declarator d).type env left.may_be_absent left.type) (bound_rules env left.use_of_name) else []
+abbrev pub whole_rules : Env → Left → Declarator → List Breach
+whole_rules env left d = if left.is_whole then of_type ((declarator_found d).type env left.may_be_absent left.type) (bound_rules env left.use_of_name) else []
 
 -- ---- statements
 
-abbrev pub optional_rules : Tells → Env → (Option Ty → List Breach) → Option Expr → List Breach
-optional_rules tells env rule None = []
-optional_rules tells env rule (Some e) = rule (tells.value_type e env)
+abbrev pub optional_rules : Env → (Option Ty → List Breach) → Option Expr → List Breach
+optional_rules env rule None = []
+optional_rules env rule (Some e) = rule (expr_type e env)
 
-abbrev pub first_rules : Tells → Env → ForFirst → List Breach
-first_rules tells env (first.Expr e) = optional_rules tells env dropped_rules e
-first_rules tells env (first.Declare node) = []
+abbrev pub first_rules : Env → ForFirst → List Breach
+first_rules env (first.Expr e) = optional_rules env dropped_rules e
+first_rules env (first.Declare node) = []
 
 -- the rules of a for: its condition is one, its other parts are dropped (C99 6.8.5.3)
-abbrev pub for_rules : Tells → Env → ForFirst → Option Expr → Option Expr → List Breach
-for_rules tells env start condition step =
-    let behind_first = extend env (first_adds tells start env) in
-    let behind_condition = extend behind_first (added_by tells condition behind_first) in
-    first_rules tells env start ++ optional_rules tells behind_first condition_rules condition ++ optional_rules tells behind_condition dropped_rules step
+abbrev pub for_rules : Env → ForFirst → Option Expr → Option Expr → List Breach
+for_rules env start condition step =
+    let behind_first = extend env (first_adds start env) in
+    let behind_condition = extend behind_first (added_by condition behind_first) in
+    first_rules env start ++ optional_rules behind_first condition_rules condition ++ optional_rules behind_condition dropped_rules step
 
-abbrev pub converted_rules : Tells → Env → Expr → Option Ty → List Breach
-converted_rules tells env e None = []
-converted_rules tells env e (Some result) = tells.conversion e env result
+abbrev pub converted_rules : Env → Expr → Option Ty → List Breach
+converted_rules env e None = []
+converted_rules env e (Some result) = expr_conversion e env result
 
-abbrev pub returned : Tells → Env → Option Expr → Returned
-returned tells env None = Nothing
-returned tells env (Some e) = Converted (converted_rules tells env e env.result)
+abbrev pub returned : Env → Option Expr → Returned
+returned env None = Nothing
+returned env (Some e) = Converted (converted_rules env e env.result)
 
-abbrev pub stmt_rules : Tells → Around → Env → ℕ → StmtForm-F BlockItem StmtForm Stmt → List Breach
-stmt_rules tells around env n (StmtForm-F.Label name inner) = label_rules around name n
-stmt_rules tells around env n (StmtForm-F.Case value inner) = case_rules around n (tells.constant value env)
-stmt_rules tells around env n (StmtForm-F.Default inner) = default_rules around n
-stmt_rules tells around env n (StmtForm-F.Block items) = []
-stmt_rules tells around env n (StmtForm-F.Do e) = optional_rules tells env dropped_rules e
-stmt_rules tells around env n (StmtForm-F.If e taken other) = condition_rules (tells.value_type e env)
-stmt_rules tells around env n (StmtForm-F.Switch e inner) = switch_rules (tells.value_type e env)
-stmt_rules tells around env n (StmtForm-F.While e inner) = condition_rules (tells.value_type e env)
-stmt_rules tells around env n (StmtForm-F.Until inner e) = condition_rules (tells.value_type e env)
-stmt_rules tells around env n (StmtForm-F.For start condition step inner) = for_rules tells env start condition step
-stmt_rules tells around env n (StmtForm-F.Goto name) = goto_rules around name
-stmt_rules tells around env n StmtForm-F.Continue = continue_rules around
-stmt_rules tells around env n StmtForm-F.Break = break_rules around
-stmt_rules tells around env n (StmtForm-F.Return e) = return_rules env.result (returned tells env e)
+abbrev pub stmt_rules : Around → Env → ℕ → StmtForm-F BlockItem StmtForm Stmt → List Breach
+stmt_rules around env n (StmtForm-F.Label name inner) = label_rules around name n
+stmt_rules around env n (StmtForm-F.Case value inner) = case_rules around n (expr_constant value env)
+stmt_rules around env n (StmtForm-F.Default inner) = default_rules around n
+stmt_rules around env n (StmtForm-F.Block items) = []
+stmt_rules around env n (StmtForm-F.Do e) = optional_rules env dropped_rules e
+stmt_rules around env n (StmtForm-F.If e taken other) = condition_rules (expr_type e env)
+stmt_rules around env n (StmtForm-F.Switch e inner) = switch_rules (expr_type e env)
+stmt_rules around env n (StmtForm-F.While e inner) = condition_rules (expr_type e env)
+stmt_rules around env n (StmtForm-F.Until inner e) = condition_rules (expr_type e env)
+stmt_rules around env n (StmtForm-F.For start condition step inner) = for_rules env start condition step
+stmt_rules around env n (StmtForm-F.Goto name) = goto_rules around name
+stmt_rules around env n StmtForm-F.Continue = continue_rules around
+stmt_rules around env n StmtForm-F.Break = break_rules around
+stmt_rules around env n (StmtForm-F.Return e) = return_rules env.result (returned env e)
 
 -- ---- all nodes
 
 -- the type of a declarator behind its specifiers
-abbrev pub type_behind : Tells → Env → Bool → List Specifier → Option Declarator → Option Ty
-type_behind tells env may_be_absent ss None = type_of (tells.specifiers ss env false)
-type_behind tells env may_be_absent ss (Some d) =
-    let told = tells.specifiers ss env false in (tells.declarator d).type (extend env told.additions) may_be_absent (type_of told)
+abbrev pub type_behind : Env → Holder → Bool → List Specifier → Option Declarator → Option Ty
+type_behind env holder may_be_absent ss None = type_in holder (specifiers_found ss env false)
+type_behind env holder may_be_absent ss (Some d) =
+    let told = specifiers_found ss env false in (declarator_found d).type (extend env told.additions) may_be_absent (type_in holder told)
 
-abbrev pub is_named : Tells → Option Declarator → Bool
-is_named tells None = false
-is_named tells (Some d) = has_name (tells.declarator d).name
+abbrev pub is_named : Option Declarator → Bool
+is_named None = false
+is_named (Some d) = has_name (declarator_found d).name
 
 -- the rules of a parameter: `(void)` breaks none (C99 6.7.5.3, 10)
 abbrev pub parameter_node_rules : Bool → Bool → Option Ty → List Breach
-parameter_node_rules is_named true t = []
-parameter_node_rules is_named false t = parameter_rules is_named t
+parameter_node_rules named true t = []
+parameter_node_rules named false t = parameter_rules named t
+
+-- an enumerator as a name, whatever its value
+abbrev pub item_meaning : Option ℤ → Meaning
+item_meaning value = AnEnumerator (with_optional (pos 0) (λ z. z) value)
+
+-- the codes of a node in its environment, where its parts have types
+abbrev pub rules_of : Env → Node → List Breach
+rules_of env (AnExternal d) = []
+rules_of env (ADeclaration scope node) = declaration_rules env node
+rules_of env (ADefinition node) =
+    all_specifier_rules InDefinition false env node.specifiers ++ definition_rules (type_behind env InDefinition false node.specifiers (Some node.declarator))
+rules_of env (AMember before m) = member_node_rules env m
+rules_of env (AnItem before i) =
+    item_rules env before (out-Item i).value ++
+    name_rules (extend env (added_by (out-Item i).value env)) (plain_name (out-Item i).name (item_meaning (item_found i env before).value))
+rules_of env (AParameter lone p) =
+    all_specifier_rules InType false env (out-Parameter p).specifiers ++
+    parameter_node_rules (is_named (out-Parameter p).declarator) (lone && (parameter_found p env).is_bare_void) (type_behind env InType true (out-Parameter p).specifiers (out-Parameter p).declarator)
+rules_of env (ATypeName n) = all_specifier_rules InType false env (out-TypeName n).specifiers
+rules_of env (ADeclarator left d) = form_rules env left (out-DeclaratorForm d.form) ++ whole_rules env left d
+rules_of env (AnInitialiser object init) = initialiser_rules object env init
+rules_of env (AStatement around s) = stmt_rules around env s.ordinal (out-StmtForm s.form)
+rules_of env (AnExpression e) = expr_breaches e env
+
+-- ---- types of parts: an expression, a type name and an initialiser that is an expression have one where no fault holds at them; all else counts as having one
+
+abbrev pub is_none_broken : List Breach → Bool
+is_none_broken [] = true
+is_none_broken (breach ∷ others) = false
+
+abbrev pub is_list : Init-F Init Entry InitList → Bool
+is_list (Init-F.Expr e) = false
+is_list (Init-F.List entries) = true
+
+abbrev pub has_initialiser_type : Option Object → Env → Init-F Init Entry InitList → Bool
+has_initialiser_type object env (Init-F.Expr e) = is_some (expr_word e env) || has_expr_type e (as_initialiser object env)
+has_initialiser_type object env (Init-F.List entries) = true
+
+abbrev pub has_type : Env → Node → Bool
+has_type env (AnExternal d) = true
+has_type env (ADeclaration scope node) = true
+has_type env (ADefinition node) = true
+has_type env (AMember before m) = true
+has_type env (AnItem before i) = true
+has_type env (AParameter lone p) = true
+has_type env (ATypeName n) = is_some (type_found n env).type
+has_type env (ADeclarator left d) = true
+has_type env (AnInitialiser object init) = has_initialiser_type object env (out-Init init) && (is_list (out-Init init) || is_none_broken (initialiser_rules object env init))
+has_type env (AStatement around s) = true
+has_type env (AnExpression e) = has_expr_type e env
+
+abbrev pub are_typed : List Placed → Bool
+are_typed [] = true
+are_typed (part ∷ others) = has_type part.env part.node && are_typed others
+
+-- of a declaration its initialisers are asked apart, for a fault that stands in one of them
+abbrev pub is_declaration : Node → Bool
+is_declaration (AnExternal d) = false
+is_declaration (ADeclaration scope node) = true
+is_declaration (ADefinition node) = false
+is_declaration (AMember before m) = false
+is_declaration (AnItem before i) = false
+is_declaration (AParameter lone p) = false
+is_declaration (ATypeName n) = false
+is_declaration (ADeclarator left d) = false
+is_declaration (AnInitialiser object init) = false
+is_declaration (AStatement around s) = false
+is_declaration (AnExpression e) = false
 
 -- the codes that hold at a node in its environment
-abbrev pub breaches : Tells → Env → Node → List Breach
-breaches tells env (AnExternal d) = []
-breaches tells env (ADeclaration scope node) = declaration_rules tells scope env node
-breaches tells env (ADefinition node) =
-    all_specifier_rules tells InDefinition false env node.specifiers ++ definition_rules (type_behind tells env false node.specifiers (Some node.declarator))
-breaches tells env (AMember before m) = member_node_rules tells env m
-breaches tells env (AnItem before i) =
-    item_rules tells env before (out-Item i).value ++
-    name_rules (extend env (added_by tells (out-Item i).value env)) (plain_name (out-Item i).name (enumerator (tells.item i env before).value))
-breaches tells env (AParameter lone p) =
-    all_specifier_rules tells InType false env (out-Parameter p).specifiers ++
-    parameter_node_rules (is_named tells (out-Parameter p).declarator) (lone && (tells.parameter p env).is_bare_void) (type_behind tells env true (out-Parameter p).specifiers (out-Parameter p).declarator)
-breaches tells env (ATypeName n) = all_specifier_rules tells InType false env (out-TypeName n).specifiers
-breaches tells env (ADeclarator left d) = form_rules tells env left (out-DeclaratorForm d.form) ++ whole_rules tells env left d
-breaches tells env (AnInitialiser object init) = initialiser_rules tells object env init
-breaches tells env (AStatement around s) = stmt_rules tells around env s.ordinal (out-StmtForm s.form)
-breaches tells env (AnExpression e) = tells.breaches e env
+abbrev pub breaches : Env → Env → Node → List Breach
+breaches at_end env node = if is_declaration node || are_typed (parts at_end env node) then rules_of env node else []
+
+-- ---- what hides the codes of a node: a fault in an initialiser that is an expression, of a declaration
+
+abbrev pub may_hide : Node → Bool
+may_hide (AnExternal d) = false
+may_hide (ADeclaration scope node) = false
+may_hide (ADefinition node) = false
+may_hide (AMember before m) = false
+may_hide (AnItem before i) = false
+may_hide (AParameter lone p) = false
+may_hide (ATypeName n) = false
+may_hide (ADeclarator left d) = false
+may_hide (AnInitialiser object init) = not (is_list (out-Init init))
+may_hide (AStatement around s) = false
+may_hide (AnExpression e) = false
+
+abbrev pub those_that_may_hide : List Placed → List Placed
+those_that_may_hide [] = []
+those_that_may_hide (part ∷ others) = if may_hide part.node then part ∷ those_that_may_hide others else those_that_may_hide others
+
+abbrev pub hiding : Env → Env → Node → List Placed
+hiding at_end env node = if is_declaration node then those_that_may_hide (parts at_end env node) else []
 
 -- ---- where a node stands
 

@@ -6,21 +6,16 @@ use Rattle.lk_tree.specs.declared.expression.Declarator.{Declarator}
 use Rattle.lk_tree.specs.declared.expression.Expr.{Expr}
 use Rattle.lk_tree.specs.declared.expression.Item.{Item}
 use Rattle.lk_tree.specs.declared.expression.Member.{Member}
-use Rattle.lk_tree.specs.declared.expression.MemberDeclarator.{MemberDeclarator}
 use Rattle.lk_tree.specs.declared.expression.Parameter.{Parameter}
-use Rattle.lk_tree.specs.declared.expression.Specifier.{Specifier}
 use Rattle.lk_tree.specs.declared.expression.TypeName.{TypeName}
 use Rattle.lk_tree.specs.declared.specifiers.Storage.{Storage}
 use Rattle.lk_tree.specs.declared.statement.Decl.{Decl}
 use Rattle.lk_tree.specs.declared.statement.Function.{Function}
 use Rattle.lk_tree.specs.declared.statement.Stmt.{Stmt}
 use Rattle.lk_typed.specs.DeclarationRules.{Scope, Given}
-use Rattle.lk_typed.specs.DeclaratorRules.{Value}
-use Rattle.lk_typed.specs.Env.{Env, Additions, Field}
-use Rattle.lk_typed.specs.Faults.{Breach}
-use Rattle.lk_typed.specs.InitialiserRules.{Object, Seen}
-use Rattle.lk_typed.specs.StatementRules.{Around, Switch}
-use Rattle.lk_typed.specs.Told.{SpecifierTold, DeclaratorTold, TypeTold, MemberTold, ItemTold}
+use Rattle.lk_typed.specs.Env.{Env, Field}
+use Rattle.lk_typed.specs.InitialiserRules.{Object}
+use Rattle.lk_typed.specs.StatementRules.{Around}
 use Rattle.lk_typed.specs.Ty.{Ty}
 
 -- what the name in a declarator becomes
@@ -67,28 +62,3 @@ pub record Placed : Type 0 where
 
 abbrev pub at : Env → Node → Placed
 at env node = record { env = env; node = node }
-
--- what the folds over the tree tell
-pub record Tells : Type 0 where
-  pub specifiers : List Specifier → Env → Bool → SpecifierTold
-  pub declarator : Declarator → DeclaratorTold
-  pub member : Member → Env → List Field → MemberTold
-  pub item : Item → Env → Option ℤ → ItemTold
-  pub parameter : Parameter → Env → TypeTold
-  pub member_declarator : MemberDeclarator → Env → Option Ty → List Field → MemberTold
-  pub initialiser : Init → Env → Additions
-  pub statement : Stmt → Env → Additions
-  -- the cases and defaults of a switch, by its value and its body in the body's environment
-  pub switch_of : Expr → Stmt → Env → Switch
-  -- of an expression: what it adds, its value as an integer constant, the type of its value, and its parts
-  pub added : Expr → Env → Additions
-  pub constant : Expr → Env → Value
-  pub value_type : Expr → Env → Option Ty
-  pub inside : Expr → Env → List Placed
-  -- whether no fault stands in it; the codes that hold at it; and those of its conversion to a type
-  pub is_sound : Expr → Env → Bool
-  pub breaches : Expr → Env → List Breach
-  pub conversion : Expr → Env → Ty → List Breach
-  -- the bytes of the text that an expression is, and what it is as the initialiser of an object of a type
-  pub text : Expr → Option ℕ
-  pub seen : Expr → Ty → Env → Option Seen

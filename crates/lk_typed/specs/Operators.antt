@@ -13,7 +13,7 @@ use Rattle.lk_tree.specs.declared.operators.BinaryOperator.TheVariants as binary
 use Rattle.lk_typed.specs.Ty.{Ty, Void, kind_of, target_of, holds_of, is_void, is_integer, is_pointer, is_lock, is_thread_id, long, void_pointer}
 use Rattle.lk_typed.specs.Env.{Env}
 use Rattle.lk_typed.specs.Typing.{Typing, Address, NotConstant, Verdict, Typed, Broken, value_of_type, integer, if_so, unless}
-use Rattle.lk_typed.specs.Sizes.{is_complete, is_broken}
+use Rattle.lk_typed.specs.Sizes.{is_complete}
 use Rattle.lk_typed.specs.Addresses.{moved, moved_back}
 use Rattle.lk_typed.specs.Constants.{binary_constant, shift_constant, logical_constant, choice_constant}
 use Rattle.lk_typed.specs.Conversions.{are_same_pointers, are_void_and_object}
@@ -34,7 +34,7 @@ must_be test e = if is_lock e.type then MutexValue ∷ [] else if_so (not (test 
 
 -- a pointer to a complete object type, which arithmetic asks for (C99 6.5.6, 2)
 abbrev pub is_steppable : Env → Ty → Bool
-is_steppable env t = holds_of (target_of t) (λ target. is_complete env target || is_broken env target)
+is_steppable env t = holds_of (target_of t) (λ target. is_complete env target)
 
 -- what holds of the codes found so far, and of a row of a table, which has no result for operands that it doesn't take
 abbrev pub by_row : List Code → Option Typing → Verdict

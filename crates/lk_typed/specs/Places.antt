@@ -11,10 +11,10 @@ use Rattle.lk_arith.specs.Operators.{unary_kind}
 use Rattle.lk_tree.specs.declared.operators.PrefixOperator.{PrefixOperator}
 use Rattle.lk_tree.specs.declared.operators.PrefixOperator.TheVariants as prefix
 use Rattle.lk_typed.specs.Ty.{Ty, Pointer, kind_of, target_of, struct_of, is_void, is_integer, is_pointer, is_function}
-use Rattle.lk_typed.specs.Env.{Env, Name, Field, Members, NotYet, Known as KnownMembers, Faulty, members_of, field_of}
+use Rattle.lk_typed.specs.Env.{Env, Name, Field, Members, NotYet, Begun, Known as KnownMembers, Faulty, members_of, field_of, number_of_field}
 use Rattle.lk_typed.specs.Typing.{Typing, NotConstant, Address, Verdict, Typed, Broken, Silent, value_of_type, place_of_type, integer, if_so, unless}
 use Rattle.lk_typed.specs.Sizes.{is_complete, is_broken, holds_struct_or_lock, bytes_in, constant_of_bytes}
-use Rattle.lk_typed.specs.Addresses.{first_inside, moved, value}
+use Rattle.lk_typed.specs.Addresses.{inside, member_at, moved, value}
 use Rattle.lk_typed.specs.Constants.{unary_constant}
 use Rattle.lk_typed.specs.Operators.{is_condition, is_steppable, must_be, by_row}
 
@@ -78,14 +78,15 @@ index_rule env e i = by_row (must_be (is_steppable env) e ++ must_be is_integer 
 
 -- ---- . and -> (C99 6.5.2.3)
 
-abbrev pub member_in : Address → Option Field → Verdict
-member_in address None = Broken (Mismatch ∷ [])
-member_in address (Some field) = Typed (place_of_type field.type (first_inside (Some 1) address))
+abbrev pub member_in : Address → ℕ → Option Field → Verdict
+member_in address k None = Broken (Mismatch ∷ [])
+member_in address k (Some field) = Typed (place_of_type field.type (inside (member_at k) address))
 
 -- a member of a struct; what it says of an incomplete one differs between . and ->
 abbrev pub member_of : Code → Address → Name → Members → Verdict
 member_of when_incomplete address name NotYet = Broken (when_incomplete ∷ [])
-member_of when_incomplete address name (KnownMembers fields) = member_in address (field_of fields name)
+member_of when_incomplete address name Begun = Broken (when_incomplete ∷ [])
+member_of when_incomplete address name (KnownMembers fields) = member_in address (number_of_field fields name) (field_of fields name)
 member_of when_incomplete address name Faulty = Silent
 
 abbrev pub dot_of : Env → Typing → Name → Option ℕ → Verdict

@@ -5,7 +5,7 @@ use Rattle.lk_typed.specs.declared.entity.Linkage.{Linkage}
 use Rattle.lk_typed.specs.declared.entity.Linkage.TheVariants as linkage
 use Rattle.lk_typed.specs.declared.entity.Defines.{Defines}
 use Rattle.lk_typed.specs.declared.entity.Defines.TheVariants as defines
-use Rattle.lk_typed.specs.Env.{Env, Name, Declared, Meaning, AnObject, AFunction, ATypedef, AnEnumerator, AnInitialiserWord, AFaultyName, Tag, TagMeaning, AStructTag, AnEnumTag, AFaultyTag, Members, NotYet, Known, Faulty, is_one_of, look_up_here, look_up_tag, look_up_tag_here, members_of}
+use Rattle.lk_typed.specs.Env.{Env, Name, Declared, Meaning, AnObject, AFunction, ATypedef, AnEnumerator, AnInitialiserWord, AFaultyName, Tag, TagMeaning, AStructTag, AnEnumTag, AFaultyTag, Members, NotYet, Begun, Known, Faulty, is_one_of, look_up_here, look_up_tag, look_up_tag_here, members_of}
 use Rattle.lk_typed.specs.Faults.{Breach, breach_of}
 use Rattle.lk_typed.specs.Ty.{Ty, is_same, is_redeclarable}
 
@@ -93,7 +93,7 @@ may_stand (Some old) new = may_follow old new
 abbrev pub name_rules : Env → Declared → List Breach
 name_rules env new = if may_stand (look_up_here env new.name) new then [] else breach_of Redeclared new.name ∷ []
 
--- ---- tags (C99 6.7.2.3): a struct whose definition has begun, with no member known yet, is no longer open
+-- ---- tags (C99 6.7.2.3): a struct whose definition has begun may not be defined again, inside its own definition neither
 
 -- what specifiers do with a tag
 pub data TagUse : Type 0 where
@@ -108,6 +108,7 @@ pub data TagUse : Type 0 where
 
 abbrev pub is_open : Members → Bool
 is_open NotYet = true
+is_open Begun = false
 is_open (Known fields) = false
 is_open Faulty = false
 

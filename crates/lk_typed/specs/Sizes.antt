@@ -2,17 +2,19 @@
 use Rattle.std.specs.Prelude.{ℕ, ◌*◌, Bool, true, false, not, ◌&&◌, Option, Some, None, pos, nat_eq, option_map}
 use Rattle.lk_arith.specs.Kinds.{bytes_of}
 use Rattle.lk_typed.specs.Ty.{Ty, Void, Int, ThreadId, Mutex, Cond, Pointer, Array, Struct, Function, Opaque}
-use Rattle.lk_typed.specs.Env.{Env, Members, NotYet, Known as KnownMembers, Faulty, members_of}
+use Rattle.lk_typed.specs.Env.{Env, Members, NotYet, Begun, Known as KnownMembers, Faulty, members_of}
 use Rattle.lk_typed.specs.Typing.{Constant, NotConstant, Known}
 
--- a struct is complete from the end of its members on (C99 6.7.2.3, 4)
-abbrev pub has_members : Members → Bool
-has_members NotYet = false
-has_members (KnownMembers fields) = true
-has_members Faulty = false
+-- a struct is complete from the closing brace of its members on (C99 6.7.2.3, 4); of a faulty one nothing is asked
+abbrev pub are_known : Members → Bool
+are_known NotYet = false
+are_known Begun = false
+are_known (KnownMembers fields) = true
+are_known Faulty = true
 
 abbrev pub is_faulty : Members → Bool
 is_faulty NotYet = false
+is_faulty Begun = false
 is_faulty (KnownMembers fields) = false
 is_faulty Faulty = true
 
@@ -25,7 +27,7 @@ is_complete env Mutex = true
 is_complete env Cond = true
 is_complete env (Pointer t) = true
 is_complete env (Array t n) = not (nat_eq n 0) && is_complete env t
-is_complete env (Struct s) = has_members (members_of env s)
+is_complete env (Struct s) = are_known (members_of env s)
 is_complete env (Function result params dots) = false
 is_complete env (Opaque n) = false
 

@@ -3,11 +3,13 @@ use Rattle.std.specs.Prelude.{ℕ, ◌&&◌, ◌||◌, ◌++◌, Bool, true, fal
 use Rattle.std.specs.List.{list_any}
 use Rattle.std.specs.Ordering.{int_eq}
 use Rattle.lk_base.specs.declared.code.Code.TheVariants.{Mismatch, NotConstant, BadLabel, MutexValue}
-use Rattle.lk_typed.specs.DeclaratorRules.{Value, Constant, Varying, Untyped, of_type, unless}
+use Rattle.lk_typed.specs.DeclaratorRules.{of_type, unless}
 use Rattle.lk_typed.specs.Env.{Name}
 use Rattle.lk_typed.specs.Faults.{Breach, breach, breach_of}
 use Rattle.lk_typed.specs.Labels.{Label, has_label, has_label_before}
+use Rattle.lk_typed.specs.Statics.{is_known}
 use Rattle.lk_typed.specs.Ty.{Ty, is_integer, is_lock, is_pointer, is_void}
+use Rattle.lk_typed.specs.Typing.{Constant}
 
 -- ---- expressions in statements; the types are those of values, an array or function turned into a pointer (C99 6.3.2.1)
 
@@ -86,24 +88,17 @@ abbrev pub is_case_again : List CaseFound → ℕ → Bool
 is_case_again cases n = list_any (λ c. nat_lt c.ordinal n && are_equal c.value (value_at cases n)) cases
 
 -- the value of a case is constant: 24 (C99 6.8.4.2, 3)
-abbrev pub constant_rules : Value → List Breach
-constant_rules (Constant z) = []
-constant_rules Varying = breach NotConstant ∷ []
-constant_rules Untyped = []
-
--- a child without a type leaves the node without a fault
-abbrev pub if_typed : Value → List Breach → List Breach
-if_typed (Constant z) rules = rules
-if_typed Varying rules = rules
-if_typed Untyped rules = []
+abbrev pub constant_rules : Option Constant → List Breach
+constant_rules None = []
+constant_rules (Some c) = unless (is_known c) NotConstant
 
 -- `case value:` stands in a switch, and no second time with one value (C99 6.8.1, 2; 6.8.4.2, 3)
 abbrev pub place_rules : Option Switch → ℕ → List Breach
 place_rules None n = breach BadLabel ∷ []
 place_rules (Some s) n = unless (not (is_case_again s.cases n)) BadLabel
 
-abbrev pub case_rules : Around → ℕ → Value → List Breach
-case_rules around n value = if_typed value (constant_rules value ++ place_rules around.switch n)
+abbrev pub case_rules : Around → ℕ → Option Constant → List Breach
+case_rules around n value = constant_rules value ++ place_rules around.switch n
 
 abbrev pub is_earlier : List ℕ → ℕ → Bool
 is_earlier numbers n = list_any (λ m. nat_lt m n) numbers

@@ -1,6 +1,6 @@
 -- What the parts of a declaration tell to those around them, layer by layer (C99 6.7.2 to 6.7.6): what specifiers name, which type a declarator makes, and what each
--- adds to the environment. What an expression tells is given: its additions, and its value where it is an integer constant expression.
-use Rattle.std.specs.Prelude.{ℕ, ◌&&◌, Bool, true, Option, Some, None, List, [], ◌∷◌, ◌++◌, length, if◌then◌else◌, ℤ, pos, neg_ℤ, ◌+ℤ◌}
+-- adds to the environment. What an expression tells is given: its additions, what constant it is, and whether a sizeof stands in it.
+use Rattle.std.specs.Prelude.{ℕ, ◌&&◌, ◌||◌, Bool, true, false, Option, Some, None, List, [], ◌∷◌, ◌++◌, length, if◌then◌else◌, ℤ, pos, neg_ℤ, ◌+ℤ◌}
 use Rattle.lk_arith.specs.Kinds.{is_value}
 use Rattle.lk_base.specs.declared.kind.Kind.TheVariants as kind
 use Rattle.lk_base.specs.declared.spot.Spot.{Spot}
@@ -8,12 +8,12 @@ use Rattle.lk_tree.specs.declared.specifiers.Storage.{Storage}
 use Rattle.lk_tree.specs.declared.specifiers.TypeWord.{TypeWord}
 use Rattle.lk_typed.specs.declared.entity.Linkage.TheVariants as linkage
 use Rattle.lk_typed.specs.declared.entity.Defines.TheVariants as defines
-use Rattle.lk_typed.specs.DeclaratorRules.{Value, Constant, Varying, Untyped, begun}
-use Rattle.lk_typed.specs.Env.{Env, Additions, Name, Declared, Meaning, AnEnumerator, AFaultyName, Tag, TagMeaning, AStructTag, AnEnumTag, AFaultyTag, Members, Known, Faulty, Field, StructStep, Begins, Completes, nothing, both, extend, look_up_tag}
+use Rattle.lk_typed.specs.Env.{Env, Additions, Name, Declared, Meaning, AnEnumerator, AFaultyName, Tag, TagMeaning, AStructTag, AnEnumTag, AFaultyTag, Members, Begun, Known, Faulty, Field, StructStep, Begins, Completes, nothing, both, extend, look_up_tag}
 use Rattle.lk_typed.specs.Faults.{Breach}
 use Rattle.lk_typed.specs.Redeclared.{TagUse, DefinesStruct, DefinesEnum, NamesStruct, NamesEnum, DeclaresStruct, may_use, tag_meant, typedef_type}
 use Rattle.lk_typed.specs.Ty.{Ty, Void, Int, Struct, int}
 use Rattle.lk_typed.specs.TypeWords.{WordType, void, integer, type_of_words}
+use Rattle.lk_typed.specs.Typing.{Constant, known_value}
 
 -- ---- what is told
 
@@ -23,6 +23,7 @@ pub record SpecifierTold : Type 0 where
   pub storages : List Storage
   pub words : List TypeWord
   pub types : List (Option Ty)
+  pub holds_sizeof : Bool
 
 -- a specifier, given the environment and whether it is all of a declaration without declarators
 abbrev pub SpecifierTeller : Type 0
@@ -41,6 +42,8 @@ pub record DeclaratorTold : Type 0 where
   pub type : Env → Bool → Option Ty → Option Ty
   -- the parameters of the function declarator that stands directly beside the name
   pub parameters : Env → Additions
+  -- the same in each environment
+  pub holds_sizeof : Env → Bool
 
 -- of a type name or a parameter
 pub record TypeTold : Type 0 where
@@ -48,17 +51,20 @@ pub record TypeTold : Type 0 where
   pub type : Option Ty
   -- a parameter that is `void` alone
   pub is_bare_void : Bool
+  pub holds_sizeof : Bool
 
 -- of a member: its fields, and whether none of them is faulty
 pub record MemberTold : Type 0 where
   pub additions : Additions
   pub fields : List Field
   pub sound : Bool
+  pub holds_sizeof : Bool
 
 -- of an enumerator: its value, given that of the one before it
 pub record ItemTold : Type 0 where
   pub additions : Additions
   pub value : Option ℤ
+  pub holds_sizeof : Bool
 
 -- ---- helpers
 
@@ -82,10 +88,17 @@ some_type f (Some t) = Some (f t)
 -- ---- specifiers (C99 6.7.2)
 
 abbrev pub no_specifier : SpecifierTold
-no_specifier = record { additions = nothing; storages = []; words = []; types = [] }
+no_specifier = record { additions = nothing; storages = []; words = []; types = []; holds_sizeof = false }
 
 abbrev pub then_specifier : SpecifierTold → SpecifierTold → SpecifierTold
-then_specifier a b = record { additions = both a.additions b.additions; storages = a.storages ++ b.storages; words = a.words ++ b.words; types = a.types ++ b.types }
+then_specifier a b =
+    record {
+      additions = both a.additions b.additions;
+      storages = a.storages ++ b.storages;
+      words = a.words ++ b.words;
+      types = a.types ++ b.types;
+      holds_sizeof = a.holds_sizeof || b.holds_sizeof;
+    }
 
 -- the specifiers of one list, each in the environment behind those before it
 abbrev pub specifiers : List SpecifierTeller → SpecifierTeller
@@ -111,7 +124,7 @@ type_of told = with_optional None (λ t. t) (named_type told.words told.types)
 -- ---- tags
 
 abbrev pub of_type_alone : Additions → Option Ty → SpecifierTold
-of_type_alone additions t = record { additions = additions; storages = []; words = []; types = t ∷ [] }
+of_type_alone additions t = record no_specifier { additions = additions; types = t ∷ [] }
 
 abbrev pub tag_additions : Option Name → TagMeaning → Additions
 tag_additions None meaning = nothing
@@ -180,10 +193,11 @@ abbrev pub MemberTeller : Type 0
 MemberTeller = Env → List Field → MemberTold
 
 abbrev pub no_member : MemberTold
-no_member = record { additions = nothing; fields = []; sound = true }
+no_member = record { additions = nothing; fields = []; sound = true; holds_sizeof = false }
 
 abbrev pub then_member : MemberTold → MemberTold → MemberTold
-then_member a b = record { additions = both a.additions b.additions; fields = a.fields ++ b.fields; sound = a.sound && b.sound }
+then_member a b =
+    record { additions = both a.additions b.additions; fields = a.fields ++ b.fields; sound = a.sound && b.sound; holds_sizeof = a.holds_sizeof || b.holds_sizeof }
 
 abbrev pub members_in_turn : List MemberTeller → MemberTeller
 members_in_turn [] env before = no_member
@@ -196,7 +210,7 @@ members_made told = if told.sound then Known told.fields else Faulty
 abbrev pub struct_begins : Env → Option Name → Additions
 struct_begins env tag =
     let s = meant env (tag_found env DefinesStruct tag) tag in
-    both s.additions (steps (Completes s.number begun ∷ []))
+    both s.additions (steps (Completes s.number Begun ∷ []))
 
 -- `struct tag { members }`: the struct begins, its members stand in it, and it is complete behind them (C99 6.7.2.3, 4)
 abbrev pub struct_defined : Env → Option Name → List MemberTeller → SpecifierTold
@@ -205,7 +219,8 @@ struct_defined env tag ms =
     let s = meant env found tag in
     let start = struct_begins env tag in
     let inside = members_in_turn ms (extend env start) [] in
-    of_type_alone (both start (both inside.additions (steps (Completes s.number (members_made inside) ∷ [])))) (type_if_admitted env DefinesStruct found (Struct s.number))
+    let whole = both start (both inside.additions (steps (Completes s.number (members_made inside) ∷ []))) in
+    record (of_type_alone whole (type_if_admitted env DefinesStruct found (Struct s.number))) { holds_sizeof = inside.holds_sizeof }
 
 -- ---- enumerations (C99 6.7.2.2)
 
@@ -217,13 +232,19 @@ abbrev pub items_in_turn : List ItemTeller → Env → Option ℤ → Additions
 items_in_turn [] env before = nothing
 items_in_turn (i ∷ is) env before = let first = i env before in both first.additions (items_in_turn is (extend env first.additions) first.value)
 
+-- whether a sizeof stands in one of them
+abbrev pub items_hold_sizeof : List ItemTeller → Env → Option ℤ → Bool
+items_hold_sizeof [] env before = false
+items_hold_sizeof (i ∷ is) env before = let first = i env before in first.holds_sizeof || items_hold_sizeof is (extend env first.additions) first.value
+
 -- what comes before the first enumerator, which is 0
 abbrev pub before_first : Option ℤ
 before_first = Some (neg_ℤ (pos 1))
 
 abbrev pub enum_defined : Env → Option Name → List ItemTeller → SpecifierTold
 enum_defined env tag is =
-    of_type_alone (both (items_in_turn is env before_first) (tag_additions tag AnEnumTag)) (type_if_admitted env DefinesEnum (tag_found env DefinesEnum tag) int)
+    let told = of_type_alone (both (items_in_turn is env before_first) (tag_additions tag AnEnumTag)) (type_if_admitted env DefinesEnum (tag_found env DefinesEnum tag) int) in
+    record told { holds_sizeof = items_hold_sizeof is env before_first }
 
 -- the value, where int holds it
 abbrev pub in_int : ℤ → Option ℤ
@@ -233,14 +254,13 @@ abbrev pub next_value : Option ℤ → Option ℤ
 next_value None = None
 next_value (Some z) = in_int (z +ℤ pos 1)
 
-abbrev pub written_value : Value → Option ℤ
-written_value (Constant z) = in_int z
-written_value Varying = None
-written_value Untyped = None
+abbrev pub written_value : Option Constant → Option ℤ
+written_value None = None
+written_value (Some c) = with_optional None in_int (known_value c)
 
 abbrev pub enumerator : Option ℤ → Meaning
 enumerator None = AFaultyName
 enumerator (Some z) = AnEnumerator z
 
-abbrev pub declares : Name → Meaning → Additions
-declares name meaning = record { declared = record { name = name; meaning = meaning; linkage = linkage.None; defines = defines.Nothing } ∷ []; tags = []; structs = [] }
+abbrev pub declares : Name → ℕ → Meaning → Additions
+declares name n meaning = record { declared = record { name = name; meaning = meaning; linkage = linkage.None; defines = defines.Nothing; ordinal = n } ∷ []; tags = []; structs = [] }

@@ -1,5 +1,6 @@
 -- What is known of an expression that has a type, and what a rule says of a node.
 use Rattle.std.specs.Prelude.{ℕ, Bool, true, false, Option, Some, None, List, [], ◌∷◌, ℤ, if◌then◌else◌}
+use Rattle.lk_base.specs.declared.cell.CellStep.{CellStep}
 use Rattle.lk_base.specs.declared.kind.Kind.{Kind}
 use Rattle.lk_base.specs.declared.code.Code.{Code}
 use Rattle.lk_arith.specs.Conversions.{is_zero}
@@ -13,13 +14,34 @@ pub data Constant : Type 0 where
   Undefined : Constant
   Known : ℤ → Constant
 
+-- the value of a constant, where it is known
+abbrev pub known_value : Constant → Option ℤ
+known_value NotConstant = None
+known_value Undefined = None
+known_value (Known z) = Some z
+
+-- what has static storage: the object that the declaration at a node declares, or the text at a node (C99 6.2.4, 3; 6.4.5, 5)
+pub data Anchor : Type 0 where
+  AtObject : ℕ → Anchor
+  AtText : ℕ → Anchor
+
+-- a place in it: an element of an array, or one past the last; what is no element counts as an array of one (C99 6.5.6, 7)
+pub record Position : Type 0 where
+  pub anchor : Anchor
+  -- the steps to the array, or to what is no element
+  pub steps : List CellStep
+  pub is_element : Bool
+  pub index : ℕ
+  -- how many elements the array has; None: no size is known
+  pub count : Option ℕ
+
 -- what an address constant points to, or where a place of static storage is (C99 6.6, 9)
 pub data Address : Type 0 where
   NotAddress : Address
   NullAddress : Address
-  FunctionAddress : Address
-  -- the element with this index of an array with so many elements, or one past the last; what is no element counts as an array of one (C99 6.5.6, 7); None: no size is known
-  Element : ℕ → Option ℕ → Address
+  -- the function that the declaration at this node declares
+  FunctionAddress : ℕ → Address
+  Inside : Position → Address
   -- arithmetic on an address that leaves its array and its end, or a part of what isn't there
   Nowhere : Address
 
@@ -122,6 +144,11 @@ abbrev pub typing_of : Verdict → Option Typing
 typing_of (Typed typing) = Some typing
 typing_of (Broken codes) = None
 typing_of Silent = None
+
+-- what constant an expression is, missing where it has no typing; a place is none (C99 6.6, 6)
+abbrev pub constant_in : Option Typing → Option Constant
+constant_in None = None
+constant_in (Some typing) = Some typing.constant
 
 abbrev pub codes_of : Verdict → List Code
 codes_of (Typed typing) = []

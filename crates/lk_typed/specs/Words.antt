@@ -7,7 +7,7 @@ use Rattle.lk_base.specs.declared.code.Code.TheVariants.{Undeclared, Mismatch, T
 use Rattle.lk_base.specs.Code.{number_of}
 use Rattle.lk_typed.specs.Ty.{Ty, Signature, Array, function_of, holds_of, char, is_void, is_integer}
 use Rattle.lk_typed.specs.Env.{Env, Name, Role, AsOperand, ConvertedTo, AsFunction, AsRoutine, Declared, Meaning, AnObject, AFunction, ATypedef, AnEnumerator, AnInitialiserWord, AFaultyName, is_name, is_one_of, look_up}
-use Rattle.lk_typed.specs.Typing.{Typing, Verdict, Typed, Broken, Silent, Known, Address, NotAddress, FunctionAddress, Element, NotConstant, place_of_type, integer, if_so, unless, or_at_least}
+use Rattle.lk_typed.specs.Typing.{Typing, Verdict, Typed, Broken, Silent, Known, Address, Anchor, AtObject, AtText, NotAddress, FunctionAddress, Inside, NotConstant, place_of_type, integer, if_so, unless, or_at_least}
 use Rattle.lk_typed.specs.Library.{library_function}
 
 -- ---- names whose use as an expression is refused
@@ -101,12 +101,15 @@ function_codes env name t =
 
 -- ---- names as expressions
 
-abbrev pub function_named : Ty → Typing
-function_named t = record { type = t; is_place = false; constant = NotConstant; is_null = false; address = FunctionAddress }
+abbrev pub function_named : Ty → ℕ → Typing
+function_named t n = record { type = t; is_place = false; constant = NotConstant; is_null = false; address = FunctionAddress n }
 
--- a place of static storage stands alone in its array (C99 6.5.6, 7)
-abbrev pub address_of_storage : Bool → Address
-address_of_storage is_static = if is_static then Element 0 (Some 1) else NotAddress
+-- what has static storage is alone in its array (C99 6.5.6, 7)
+abbrev pub whole_of : Anchor → Address
+whole_of anchor = Inside (record { anchor = anchor; steps = []; is_element = false; index = 0; count = Some 1 })
+
+abbrev pub address_of_storage : Bool → ℕ → Address
+address_of_storage is_static n = if is_static then whole_of (AtObject n) else NotAddress
 
 -- a use whose declaration is faulty is a fault only where its name is refused
 abbrev pub silent_unless : List Code → Verdict
@@ -114,17 +117,17 @@ silent_unless [] = Silent
 silent_unless (code ∷ others) = Broken (code ∷ others)
 
 -- an object is a place, a function isn't, an enumerator is a constant; a typedef name and an initialiser word are no expressions
-abbrev pub use_of : Env → Name → Meaning → Verdict
-use_of env name (AnObject t is_static) = unless (refused_codes env name) (place_of_type t (address_of_storage is_static))
-use_of env name (AFunction t) = unless (refused_codes env name ++ function_codes env name t) (function_named t)
-use_of env name (ATypedef t) = Broken (Mismatch ∷ refused_codes env name)
-use_of env name (AnEnumerator n) = unless (refused_codes env name) (integer kind.Int (Known n))
-use_of env name (AnInitialiserWord t) = Broken (Mismatch ∷ refused_codes env name)
-use_of env name AFaultyName = silent_unless (refused_codes env name)
+abbrev pub use_of : Env → Name → ℕ → Meaning → Verdict
+use_of env name n (AnObject t is_static) = unless (refused_codes env name) (place_of_type t (address_of_storage is_static n))
+use_of env name n (AFunction t) = unless (refused_codes env name ++ function_codes env name t) (function_named t n)
+use_of env name n (ATypedef t) = Broken (Mismatch ∷ refused_codes env name)
+use_of env name n (AnEnumerator z) = unless (refused_codes env name) (integer kind.Int (Known z))
+use_of env name n (AnInitialiserWord t) = Broken (Mismatch ∷ refused_codes env name)
+use_of env name n AFaultyName = silent_unless (refused_codes env name)
 
 abbrev pub use_of_declared : Env → Name → Option Declared → Verdict
 use_of_declared env name None = Broken (or_at_least (refused_codes env name) Undeclared)
-use_of_declared env name (Some d) = use_of env name d.meaning
+use_of_declared env name (Some d) = use_of env name d.ordinal d.meaning
 
 abbrev pub word_rule : Env → Name → Verdict
 word_rule env name = use_of_declared env name (look_up env name)
@@ -147,5 +150,5 @@ abbrev pub char_rule : ℤ → Verdict
 char_rule n = Typed (integer kind.Int (Known n))
 
 -- a text is a place of static storage: an array of char with a zero at its end (C99 6.4.5, 5)
-abbrev pub text_rule : List ℕ → Verdict
-text_rule bytes = Typed (place_of_type (Array char (length bytes + 1)) (Element 0 (Some 1)))
+abbrev pub text_rule : ℕ → List ℕ → Verdict
+text_rule n bytes = Typed (place_of_type (Array char (length bytes + 1)) (whole_of (AtText n)))
