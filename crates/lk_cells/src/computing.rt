@@ -317,7 +317,8 @@ fn to_pointer(
     ty: TypeId,
     value: &Value,
 ) -> Result<Computed, NoMemory>
-    ensures { IfOk result (λ computed. computed ≡ spec.to_pointer types.now state.now from_void ty value.now) }
+    ensures { IfOk result (λ computed. computed ≡
+        spec.to_pointer types.now state.now from_void ty value.now) }
 {
     match value {
         Value::Pointer(p) => {

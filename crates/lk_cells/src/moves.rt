@@ -109,7 +109,8 @@ fn next_step(types: &TypeTable, own: u64, form: &CType, step: CellStep) -> Optio
 
 /// The same from the type's number.
 fn next_at(types: &TypeTable, own: u64, ty: TypeId, step: CellStep) -> Option<CellStep>
-    ensures { result ≡ option_and_then (λ form. spec.next_step types.now own form step) (form_of types.now ty) }
+    ensures { result ≡
+        option_and_then (λ form. spec.next_step types.now own form step) (form_of types.now ty) }
 {
     let form = form_of(types, ty)?;
     next_step(types, own, form, step)
@@ -132,7 +133,8 @@ fn newer(
 /// The last step of a path that leads to a part after which another one stands in the same whole: its place, and the step to that
 /// other part.
 fn last_turn(types: &TypeTable, object: &Object, steps: &[CellStep]) -> Option<(usize, CellStep)>
-    ensures value { spec.path_after types.now object.now.length steps.now object.now.ty ≡ spec.path_turned steps.now result }
+    ensures value { spec.path_after types.now object.now.length steps.now object.now.ty ≡
+        spec.path_turned steps.now result }
     ensures in_range { IfSome result (λ turn. turn.0 ≤ length steps.now) }
 {
     let mut reached = object.ty;
@@ -151,7 +153,8 @@ fn last_turn(types: &TypeTable, object: &Object, steps: &[CellStep]) -> Option<(
 
 /// The path to the part of an object that stands directly after the part at a path, where there is one (C99 6.5.9, 6).
 fn path_after(types: &TypeTable, object: &Object, path: &Path) -> Result<Option<Path>, NoMemory>
-    ensures { IfOk result (λ after. after ≡ spec.path_after types.now object.now.length path.now object.now.ty) }
+    ensures { IfOk result (λ after. after ≡
+        spec.path_after types.now object.now.length path.now object.now.ty) }
 {
     match last_turn(types, object, path.list()) {
         Some((place, next)) => {

@@ -73,7 +73,8 @@ pub fn value_through(
     state: &State,
     value: Option<&Value>,
 ) -> Result<Option<Value>, NoMemory>
-    ensures { IfOk result (λ read. read ≡ spec.value_through types.now state.now (option_copied value.entry)) }
+    ensures { IfOk result (λ read. read ≡
+        spec.value_through types.now state.now (option_copied value.entry)) }
 {
     let Some(part) = part_of(state, value) else {
         return Ok(None);

@@ -1,6 +1,6 @@
 -- Why the step of an action is undefined: for each action the causes that may hold, of which the first in the order of `Why` is
 -- answered (C99 3.4.3, J.2; the POSIX pages of the functions).
-use Rattle.std.specs.Prelude.{ℕ, Bool, true, false, not, ◌||◌, List, [], ◌∷◌, map, Option, None, Some, slice_get, option_and_then, ℤ, if◌then◌else◌, nat_eq, is_none, ◌&&◌}
+use Rattle.std.specs.Prelude.{ℕ, Bool, true, false, not, ◌||◌, List, map, Option, None, Some, slice_get, option_and_then, ℤ, if◌then◌else◌, nat_eq, is_none, ◌&&◌}
 use Rattle.std.specs.List.{list_any}
 use Rattle.std.specs.Option.{option_map_or, option_eq}
 use Rattle.std.specs.Result.{result_err}
@@ -11,12 +11,10 @@ use Rattle.lk_facts.specs.declared.action.Action.TheVariants as does
 use Rattle.lk_facts.specs.Program.{value_type_at}
 use Rattle.lk_facts.specs.declared.program.Program.{Program}
 use Rattle.lk_cells.specs.Cells.{has_owned}
-use Rattle.lk_cells.specs.Frames.{given_by}
 use Rattle.lk_values.specs.Paths.{is_path}
 use Rattle.lk_values.specs.Pointers as pointers
 use Rattle.lk_decide.specs.Roots as roots
 use Rattle.lk_values.specs.declared.cell.Pointer.{Pointer as PointerTo}
-use Rattle.lk_base.specs.declared.cell.CellStep.{CellStep}
 use Rattle.lk_cells.specs.declared.state.Frame.{Frame}
 use Rattle.lk_cells.specs.declared.state.State.{State}
 use Rattle.lk_cells.specs.declared.state.Thread.{Thread}
@@ -56,10 +54,6 @@ module _ (s : State) where
   abbrev pub may_be_joined : ℕ → Bool
   may_be_joined u = option_map_or (λ other. not (other.joined || other.detached)) (slice_get s.threads u) false
 
--- the objects of the locals of a frame (C99 6.2.4, 5)
-abbrev pub locals_in : Frame → List ℕ
-locals_in frame = map (λ local. local.object) frame.locals
-
 -- a slot's value is used (C99 6.2.4, 5)
 abbrev pub slot_cause : Frame → ℕ → Option Why
 slot_cause frame slot = why.Indeterminate when is_indeterminate (slice_get frame.slots slot)
@@ -84,6 +78,13 @@ id_cause may (Some Null) = Some why.WrongType
 id_cause may (Some (Id None)) = Some why.BadJoin
 id_cause may (Some (Id (Some u))) = why.BadJoin when not (may u)
 id_cause may (Some Indeterminate) = never
+
+-- a thread is joined by the thread of this number, and not by itself; or detached
+abbrev pub join_row : State → ℕ → Option Value → Option Why
+join_row s t v = used v or id_cause (λ u. may_be_joined s u && not (nat_eq u t)) v
+
+abbrev pub detach_row : State → Option Value → Option Why
+detach_row s v = used v or id_cause (may_be_joined s) v
 
 module _ (program : Program) (s : State) where
   -- a pointer is moved within its array and its end (C99 6.5.6, 8)
@@ -128,7 +129,18 @@ module _ (program : Program) (s : State) where
   free_cause (Some (Id u)) = Some why.WrongType
   free_cause (Some Indeterminate) = never
 
+  -- an object is freed by a pointer, which is used
+  abbrev pub free_row : Option Value → Option Why
+  free_row v = used v or free_cause v
+
+  -- a place is written with a thread's id (POSIX pthread_create)
+  abbrev pub place_row : Option Value → Option Why
+  place_row v = places.followed s v or roots.constant program s v
+
   -- the rows of some actions
+  abbrev pub read_row : Thread → ℕ → Bool → Option Why
+  read_row thread a raw = if raw then places.followed s (operand thread a) else read_cause (operand thread a)
+
   abbrev pub index_row : Thread → ℕ → ℕ → Bool → Option Why
   index_row thread a b into = used (operand thread a) or used (operand thread b) or index_cause into (operand thread a) (operands.number_in (operand thread b))
 
@@ -155,11 +167,23 @@ module _ (program : Program) (s : State) where
   abbrev pub init_row : Option Value → Option Why
   init_row v = places.followed s v or why.OwnedLock when is_taken (places.mutex_through program.types s v)
 
+  abbrev pub destroy_row : Option Value → Option Why
+  destroy_row v = init_row v or lock_row v or signal_row v
+
+  -- a thread frees a mutex to wait on a condition variable (POSIX pthread_cond_wait)
+  abbrev pub release_row : ℕ → Option Value → Option Value → Option Why
+  release_row t condition mutex = unlock_row t mutex or signal_row condition
+
 abbrev pub call_row : Thread → ℕ → List ℕ → Option Why
 call_row thread a args = callee_cause (operand thread a) or all_used (map (operand thread) args)
 
 abbrev pub unary_row : Thread → UnaryOp → ℕ → Option Why
 unary_row thread op a = used (operand thread a) or cause_of (option_and_then (computing.unary_of op) (operand thread a))
+
+-- a function returns, with the value of an operand where there is one (C99 6.8.6.4)
+abbrev pub return_row : State → Thread → Option ℕ → Option Why
+return_row s thread None = own_end s thread
+return_row s thread (Some a) = given (operand thread a) or own_end s thread
 
 -- The thread t of the state s performs an action in its frame.
 module _ (program : Program) (s : State) (t : ℕ) (thread : Thread) where
@@ -177,7 +201,7 @@ module _ (program : Program) (s : State) (t : ℕ) (thread : Thread) where
   cause (does.Text r) = never
   cause (does.Field a k) = followed a
   cause (does.Index a b into) = index_row program s thread a b into
-  cause (does.Read a raw) = if raw then followed a else read_cause program s (operand thread a)
+  cause (does.Read a raw) = read_row program s thread a raw
   cause (does.Write a b raw) = write_row program s thread a b raw
   cause (does.SlotRead slot) = slot_cause thread.frame slot
   cause (does.SlotWrite slot a) = given (operand thread a)
@@ -190,23 +214,22 @@ module _ (program : Program) (s : State) (t : ℕ) (thread : Thread) where
   cause does.Skip = never
   cause (does.Call f args) = all_used (map (operand thread) args)
   cause (does.PointerCall a args) = call_row thread a args
-  cause (does.Return None) = own_end s thread
-  cause (does.Return (Some a)) = given (operand thread a) or own_end s thread
+  cause (does.Return a) = return_row s thread a
   cause (does.Create f a) = used (operand thread a)
-  cause (does.StoreId a) = followed a or roots.constant program s (operand thread a)
-  cause (does.Join a) = used (operand thread a) or id_cause (λ u. may_be_joined s u && not (nat_eq u t)) (operand thread a)
-  cause (does.Detach a) = used (operand thread a) or id_cause (may_be_joined s) (operand thread a)
+  cause (does.StoreId a) = place_row program s (operand thread a)
+  cause (does.Join a) = join_row s t (operand thread a)
+  cause (does.Detach a) = detach_row s (operand thread a)
   cause does.ExitThread = all_end s thread
   cause does.ExitProcess = all_end s thread
   cause (does.Lock a) = lock_row program s (operand thread a)
   cause (does.Unlock a) = unlock_row program s t (operand thread a)
-  cause (does.Release c a) = unlock_row program s t (operand thread a) or signal_row program s (operand thread c)
+  cause (does.Release c a) = release_row program s t (operand thread c) (operand thread a)
   cause (does.Retake a) = lock_row program s (operand thread a)
   cause (does.Init a) = init_row program s (operand thread a)
-  cause (does.Destroy a) = init_row program s (operand thread a) or lock_row program s (operand thread a) or signal_row program s (operand thread a)
+  cause (does.Destroy a) = destroy_row program s (operand thread a)
   cause (does.Signal a) = signal_row program s (operand thread a)
   cause (does.Allocate ty None zero r) = never
   cause (does.Allocate ty (Some n) zero r) = used (operand thread n)
-  cause (does.Free a) = used (operand thread a) or free_cause program s (operand thread a)
+  cause (does.Free a) = free_row program s (operand thread a)
   cause (does.Scan a) = read_cause program s (current thread a)
   cause (does.Fill a place named) = init_row program s (current thread a)

@@ -1,5 +1,5 @@
 -- Where a thread waits (POSIX pthread_mutex_lock, pthread_cond_wait, pthread_join).
-use Rattle.std.specs.Prelude.{ℕ, Bool, false, not, Option, None, Some, slice_get, option_and_then}
+use Rattle.std.specs.Prelude.{ℕ, Bool, false, not, slice_get, option_and_then}
 use Rattle.std.specs.Option.{option_map_or}
 use Rattle.lk_facts.specs.declared.action.Action.{Action}
 use Rattle.lk_facts.specs.declared.action.Action.TheVariants as does

@@ -1,6 +1,5 @@
 //! Where a thread waits.
 ghost use Rattle.std.specs.Prelude.{◌≡◌};
-ghost use Rattle.std.specs.Option.{option_copied};
 ghost use Rattle.lk_decide.specs.Waiting as spec;
 
 use lk_cells::{State, Thread, id_in, is_taken, mutex_through, operand};

@@ -1,0 +1,10 @@
+//! Tests of the meaning of programs: each call once, over objects of one type and points of one function. What is wanted was
+//! worked out by hand from C99 and POSIX.
+#![tactic(auto)]
+
+#[cfg(test)]
+mod cells;
+#[cfg(test)]
+mod scenes;
+#[cfg(test)]
+mod values;
