@@ -56,8 +56,7 @@ impl Grounds<'_> {
         if child {
             return Ok(risen);
         }
-        let kept = self.held.keep(point).copy()?;
-        let all = risen.union(&kept)?;
+        let all = risen.union(self.held.keep(point))?;
         Ok(all)
     }
 

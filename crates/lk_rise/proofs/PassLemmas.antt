@@ -221,14 +221,14 @@ module _ (s : Setting) (link : Link) (child : Bool) (locks risen : List ℕ) (li
     λ either. ⊎_elim (λ from. (lists.members y).1 from) (λ kept. absurd (both_ways (child || link.starts) kept.0 is)) either,
   )
 
-  pub with_kept : (kept all : List ℕ) → (child || link.starts) ≡ false → IsSetOf (has_id (keep_of s.held link.point)) kept → IsSetOf (λ x. has_id risen x || has_id kept x) all →
+  pub with_kept : (kept all : List ℕ) → (child || link.starts) ≡ false → kept ≡ keep_of s.held link.point → IsSetOf (λ x. has_id risen x || has_id kept x) all →
       (y : ℕ) → (has_id all y ≡ true) ↔ HasLockAbove s link child locks y
-  with_kept kept all is copy both y = (
+  with_kept kept all is same both y = (
     λ there.
-        ⊎_elim (λ here. inl ((lists.members y).0 here)) (λ here. inr (is, sym (copy.members y) ∙ here))
+        ⊎_elim (λ here. inl ((lists.members y).0 here)) (λ here. inr (is, subst (λ ids. has_id ids y ≡ true) same here))
         (or_cases (has_id risen y) (has_id kept y) (sym (both.members y) ∙ there)),
     λ either.
-        both.members y ∙ ⊎_elim (λ from. or_left _ _ ((lists.members y).1 from)) (λ keeps. or_right (has_id risen y) _ (copy.members y ∙ keeps.1)) either,
+        both.members y ∙ ⊎_elim (λ from. or_left _ _ ((lists.members y).1 from)) (λ keeps. or_right (has_id risen y) _ (subst (λ ids. has_id ids y ≡ true) (sym same) keeps.1)) either,
   )
 
 -- the first n items

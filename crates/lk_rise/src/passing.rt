@@ -68,8 +68,7 @@ impl Rising<'_> {
         if child || link.starts {
             return Ok(risen);
         }
-        let kept = self.held.keep(link.point).copy()?;
-        let all = risen.union(&kept)?;
+        let all = risen.union(self.held.keep(link.point))?;
         Ok(all)
     }
 

@@ -1,16 +1,16 @@
-use Rattle.std.proofs.Common.{◌≡◌, ◌<◌, ◌↔◌, true, length, All, sym, subst}
+use Rattle.std.proofs.Common.{◌≡◌, ◌↔◌, true, length, sym, subst}
 use Rattle.lk_facts.specs.Facts.{basis_of}
 use Rattle.lk_facts.specs.Items.{HasLock}
+use Rattle.lk_facts.specs.Origins.{IsSetBelow}
 use Rattle.lk_sets.specs.Ids.{has_id}
-use Rattle.lk_rise.proofs.ListLemmas.{set_in_range}
 use Rattle.lk_conflict.specs.Settings.{setting}
 use Rattle.lk_conflict.proofs.grounds.Grounds.locks.Goals as goal
 
 pub returns-in_ok-set-in-OwnAccess-clause-in_range : goal.returns-in_ok-set-in-OwnAccess-clause-in_range
 returns-in_ok-set-in-OwnAccess-clause-in_range c =
     let self = c.args.self.now in
-    set_in_range (length self.facts.now.labels.entries) c.at.result.now c.in_ok-set-in-OwnAccess.set
-    (subst (λ n. All (λ x. x < n) c.at.result.now) self.of_one_program.held_labels c.at.ensures.in_range.below) c.in_ok-set-in-OwnAccess.ensures
+    subst (IsSetBelow (length self.facts.now.labels.entries)) (sym c.in_ok-set-in-OwnAccess.ensures)
+    (subst (λ n. IsSetBelow n c.at.result.now) self.of_one_program.held_labels c.at.ensures.in_range)
 
 pub returns-in_ok-set-in-ItemBelow-clause-members : goal.returns-in_ok-set-in-ItemBelow-clause-members
 returns-in_ok-set-in-ItemBelow-clause-members c = λ x.

@@ -19,12 +19,12 @@ returns-clause-members c = λ x. (
   λ there.
       ⊎_elim
       (λ here. let found = (c.in_ok-risen.ensures.exact.members x).0 here in inl (found.0, sym (c.locks_below.ensures.members found.0) ∙ found.1, found.2))
-      (λ here. inr (c.if-child.false, subst (λ ids. has_id ids x ≡ true) c.keep.ensures.value (sym (c.in_ok-kept.ensures.members x) ∙ here)))
-      (or_cases (has_id c.in_ok-risen.risen x) (has_id c.in_ok-kept.kept x) (sym (c.in_ok-all.ensures.members x) ∙ there)),
+      (λ here. inr (c.if-child.false, subst (λ ids. has_id ids x ≡ true) c.keep.ensures.value here))
+      (or_cases (has_id c.in_ok-risen.risen x) (has_id c.keep.result.now x) (sym (c.in_ok-all.ensures.members x) ∙ there)),
   λ either.
       c.in_ok-all.ensures.members x ∙ ⊎_elim
       (λ found. or_left _ _ ((c.in_ok-risen.ensures.exact.members x).1 (found.0, c.locks_below.ensures.members found.0 ∙ found.1, found.2)))
-      (λ kept. or_right (has_id c.in_ok-risen.risen x) _ (c.in_ok-kept.ensures.members x ∙ subst (λ ids. has_id ids x ≡ true) (sym c.keep.ensures.value) kept.1))
+      (λ kept. or_right (has_id c.in_ok-risen.risen x) _ (subst (λ ids. has_id ids x ≡ true) (sym c.keep.ensures.value) kept.1))
       either,
 )
 
@@ -38,6 +38,6 @@ returns-clause-in_range c =
       below = All-from_has_id (λ y. y < n) c.in_ok-all.all
           (λ y there.
           ⊎_elim (All-has_id (λ z. z < n) c.in_ok-risen.risen y c.in_ok-risen.ensures.in_range)
-          (λ here. kept_below y (sym (c.in_ok-kept.ensures.members y) ∙ here))
-          (or_cases (has_id c.in_ok-risen.risen y) (has_id c.in_ok-kept.kept y) (sym (c.in_ok-all.ensures.members y) ∙ there)));
+          (λ here. kept_below y here)
+          (or_cases (has_id c.in_ok-risen.risen y) (has_id c.keep.result.now y) (sym (c.in_ok-all.ensures.members y) ∙ there)));
     }

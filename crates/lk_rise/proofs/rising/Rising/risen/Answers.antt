@@ -14,6 +14,6 @@ returns-clause-in_range c =
       below = All-from_has_id (λ y. y < n) c.in_ok-all.all
           (λ y there.
           ⊎_elim (All-has_id (λ z. z < n) c.in_ok-risen.risen y c.in_ok-risen.ensures.in_range)
-          (λ here. kept_below y (sym (c.in_ok-kept.ensures.members y) ∙ here))
-          (or_cases (has_id c.in_ok-risen.risen y) (has_id c.in_ok-kept.kept y) (sym (c.in_ok-all.ensures.members y) ∙ there)));
+          (λ here. kept_below y here)
+          (or_cases (has_id c.in_ok-risen.risen y) (has_id c.keep.result.now y) (sym (c.in_ok-all.ensures.members y) ∙ there)));
     }
