@@ -1,6 +1,8 @@
 pub mod Steps
 pub mod Taking
 pub mod Turns
+pub mod Growing
+pub mod Levels
 pub mod Tables
 pub mod Left
 pub mod Loops
@@ -19,3 +21,4 @@ pub mod Inverse
 pub mod SoundExpr
 pub mod SoundParts
 pub mod Sounds
+pub mod Exactly

@@ -8,6 +8,7 @@
 use Rattle.std.specs.Prelude.{◌≡◌, ℕ, ◌+◌, max, Bool, false, List, [], ◌∷◌, Some, None}
 use Rattle.lk_lex.specs.declared.token.TokenKind.TheVariants as k
 use Rattle.lk_lex.specs.declared.punct.Punct.TheVariants as p
+use Rattle.lk_base.specs.declared.spot.Spot.{Spot}
 use Rattle.lk_tree.specs.declared.expression.Expr.{Expr}
 use Rattle.lk_tree.specs.declared.expression.Specifier.{Specifier}
 use Rattle.lk_tree.specs.declared.expression.Declarator.{Declarator}
@@ -25,11 +26,17 @@ use Rattle.lk_parse_expr.specs.Input.{Input, peek, here, text, next}
 use Rattle.lk_parse_expr.specs.Heads.{declare_head}
 use Rattle.lk_parse_expr.specs.Grammar.{ReadsExpr, ReadsSpecifiers, ReadsDeclarator}
 
+abbrev pub declare_on : Spot → List Specifier → List InitDeclarator → Declare
+declare_on spot specifiers declarators = record { spot = spot; ordinal = 0; specifiers = specifiers; declarators = declarators }
+
 abbrev pub declare_at : Input → List Specifier → List InitDeclarator → Declare
-declare_at from specifiers declarators = record { spot = here from; ordinal = 0; specifiers = specifiers; declarators = declarators }
+declare_at from specifiers declarators = declare_on (here from) specifiers declarators
+
+abbrev pub list_on : Spot → List Entry → InitList
+list_on spot entries = roll-InitList (record { spot = spot; ordinal = 0; entries = entries })
 
 abbrev pub list_at : Input → List Entry → InitList
-list_at from entries = roll-InitList (record { spot = here from; ordinal = 0; entries = entries })
+list_at from entries = list_on (here from) entries
 
 pub data ReadsDesignator : ℕ → Designator → Input → Input → Type 0 where
   designator_member : {from : Input} → peek from ≡ k.Punct p.Dot → peek (next from) ≡ k.Word

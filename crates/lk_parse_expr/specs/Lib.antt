@@ -9,3 +9,6 @@ pub mod Declarations
 pub mod Statements
 pub mod Tree
 pub mod Nests
+pub mod NestsTypes
+pub mod Parts
+pub mod Exact

@@ -15,6 +15,7 @@ use Rattle.lk_lex.specs.declared.token.TokenKind.{TokenKind}
 use Rattle.lk_lex.specs.declared.token.TokenKind.TheVariants as k
 use Rattle.lk_lex.specs.declared.punct.Punct.TheVariants as p
 use Rattle.lk_lex.specs.declared.keyword.Keyword.TheVariants as w
+use Rattle.lk_base.specs.declared.spot.Spot.{Spot}
 use Rattle.lk_tree.specs.declared.expression.Expr.{Expr}
 use Rattle.lk_tree.specs.declared.expression.Specifier.{Specifier}
 use Rattle.lk_tree.specs.declared.expression.Declarator.{Declarator}
@@ -47,8 +48,11 @@ is_colon _ = false
 abbrev pub begins_declaration : Input → Bool
 begins_declaration i = begins_specifiers i && not (is_word (peek i) && is_colon (peek (next i)))
 
+abbrev pub stmt_on : Spot → StmtForm → Stmt
+stmt_on spot form = record { spot = spot; ordinal = 0; form = form }
+
 abbrev pub stmt_at : Input → StmtForm → Stmt
-stmt_at from form = record { spot = here from; ordinal = 0; form = form }
+stmt_at from form = stmt_on (here from) form
 
 -- an expression before this token, where there is one
 pub data ReadsOptional (end : TokenKind) : ℕ → Option Expr → Input → Input → Type 0 where

@@ -10,6 +10,7 @@ ghost use Rattle.lk_parse_expr.specs.Reading as reading;
 ghost use Rattle.lk_parse_expr.specs.Words as words;
 ghost use Rattle.lk_parse_expr.specs.Heads as heads;
 ghost use Rattle.lk_lex.specs.declared.token.TokenKind.TheVariants as word;
+ghost use Rattle.lk_parse_expr.specs.Parts.{close_parameters};
 
 use crate::naming::{Head, Naming};
 use crate::words::{is_close_brace, is_ellipsis, is_specifier_word, qualifier_of};
@@ -165,7 +166,8 @@ impl<'t> Cursor<'t> {
 
     /// Why nothing is read where no level is left: too deep where something begins here.
     pub fn exhausted(&self, begins: bool) -> Fault
-        ensures { result ≢ fault.NoMemory → result ≡ (if begins then reader.too_deep_at self.now else reader.syntax_at self.now) }
+        ensures { result ≢ fault.NoMemory → result
+            ≡ (if begins then reader.too_deep_at self.now else reader.syntax_at self.now) }
     {
         if begins {
             self.exhaust()
@@ -470,12 +472,26 @@ impl<'t> Cursor<'t> {
     }
 
     /// Ends the scopes of the names that were declared since there were so many, and hands them out.
-    #[tactic(auto, unfolding(crate::specs::Input::declared_since))]
+    #[tactic(auto, using(crate::proofs::Taking::drop_all_since, crate::proofs::Taking::take_all_since))]
     pub fn leave_with_names(&mut self, mark: usize) -> Result<Seq<(Name, bool)>, NoMemory>
-        requires { mark ≤ length self.old.names }
         ensures names { IfOk result (λ names. names ≡ drop mark self.old.names) }
         ensures rest { OnOk result (self.new ≡ record self.old { names = take mark self.old.names }) }
     {
+        let mark = mark.min(self.names.len());
         Ok(Seq::new(self.names.split_off(mark)?))
+    }
+
+    /// Takes the `)` behind parameters, where the scopes end of the names that were declared since there were
+    /// `mark` of them, and
+    /// hands those out.
+    #[tactic(auto, unfolding(crate::specs::Readers::expect, crate::specs::Input::next))]
+    pub fn close_parameters(&mut self, mark: usize) -> Result<Seq<(Name, bool)>, Fault>
+        ensures { Gives (close_parameters mark self.old) result self.new }
+    {
+        if !self.sees(Punct::CloseParen) {
+            return Err(self.refuse());
+        }
+        self.take();
+        Ok(self.leave_with_names(mark)?)
     }
 }

@@ -152,6 +152,21 @@ pub fn is_specifier_word(kind: TokenKind) -> bool
     }
 }
 
+/// Whether a token is a word.
+pub fn is_word(kind: TokenKind) -> bool
+    ensures { result ≡ spec.is_word kind }
+{
+    match kind {
+        TokenKind::Word => true,
+        TokenKind::Key(_)
+        | TokenKind::Number(_, _)
+        | TokenKind::Char(_)
+        | TokenKind::Text
+        | TokenKind::Punct(_)
+        | TokenKind::End => false,
+    }
+}
+
 /// Whether a token is a `}`.
 pub fn is_close_brace(kind: TokenKind) -> bool
     ensures { result ≡ spec.is_close_brace kind }
