@@ -15,7 +15,7 @@ use Rattle.lk_facts.specs.declared.root.Holder.TheVariants.{Root, Slot, Result, 
 use Rattle.lk_label.specs.Holding.{AreBelow}
 use Rattle.lk_label.proofs.Walks.{Contains-cons_cases, Contains-none, Contains-first}
 
-at : {X : Type 0} (xs : List X) (k : ℕ) → k < length xs → (x : X) × (slice_get xs k ≡ Some x)
+pub at : {X : Type 0} (xs : List X) (k : ℕ) → k < length xs → (x : X) × (slice_get xs k ≡ Some x)
 at [] k within = absurd (omega (arith, within))
 at (x ∷ xs) zero within = (x, refl)
 at (x ∷ xs) (suc k) within = at xs k (omega (arith, within))

@@ -1,4 +1,10 @@
+pub mod EntryLists
 pub mod HolderLists
+pub mod HolderNumbers
+pub mod Inside
+pub mod NameLists
+pub mod NodeLists
 pub mod PartLists
+pub mod PartSteps
 pub mod WalkSteps
 pub mod Walks

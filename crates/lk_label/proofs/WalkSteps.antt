@@ -61,7 +61,7 @@ pub none_left : (xs : List NodeId) → None ≡ slice_get xs (length xs - 1) →
 none_left [] lacks = refl
 none_left (x ∷ xs) lacks = absurd (none-some _ (lacks ∙ slice_get-get_or (x ∷ xs) (length (x ∷ xs) - 1) x (omega arith)))
 
-pub missing_from : (xs : List NodeId) (n : NodeId) (b : Bool) → (b ≡ true) ↔ Contains xs n → b ≡ false → IsMissing xs n
+pub missing_from : {X : Type 0} (xs : List X) (n : X) (b : Bool) → (b ≡ true) ↔ Contains xs n → b ≡ false → IsMissing xs n
 missing_from xs n b iff isnt i at = both_ways b isnt (iff.1 (contains_got xs i n at))
 
 pub next_here : (listed old new : List NodeId) (result : Option NodeId) (n : NodeId) → (result ≡ Some n) × (reverse old ≡ n ∷ reverse new) → IsMissing listed n → IsNext listed (reverse old) result (reverse new)

@@ -1,7 +1,8 @@
 //! What holders are: their types, and which of them are there but once.
-ghost use Rattle.std.specs.Prelude.{◌≡◌, ◌↔◌, ℕ, Some};
+ghost use Rattle.std.specs.Prelude.{◌≡◌, ◌↔◌, ℕ, Some, IfSome};
 ghost use Rattle.lk_facts.specs.LabelRules.{IsHolder, is_global_kind, is_global_holder};
 ghost use Rattle.lk_facts.specs.Typed.{IsHolderType};
+ghost use Rattle.lk_types.specs.Table.{IsKnown};
 
 use lk_facts::{Holder, Points, RootKind};
 use lk_types::TypeId;
@@ -9,7 +10,8 @@ use lk_types::TypeId;
 /// The type of a holder.
 pub fn holder_type(points: &Points, holder: Holder) -> Option<TypeId>
     requires { IsHolder points.now holder }
-    ensures { (t : ℕ) → IsHolderType points.now holder t ↔ (result ≡ Some t) }
+    ensures exact { (t : ℕ) → IsHolderType points.now holder t ↔ (result ≡ Some t) }
+    ensures known { IfSome result (IsKnown points.now.types) }
 {
     match holder {
         Holder::Root(r) => Some(points.root(r).ty),

@@ -1,5 +1,5 @@
 //! Names of labels, each once.
-ghost use Rattle.std.specs.Prelude.{◌≡◌, ◌<◌, ◌^◌, [], length, IfOk};
+ghost use Rattle.std.specs.Prelude.{◌≡◌, ◌<◌, ◌^◌, ◌↔◌, [], length, Contains, true, IfOk};
 ghost use Rattle.lk_facts.specs.Labels.{name_with};
 ghost use Rattle.lk_facts.specs.Places.{AreDifferent, IsNumberOf, IsPut};
 
@@ -43,12 +43,26 @@ impl Names {
         self.set.as_slice()
     }
 
+    /// All names are different.
+    pub fn are_different(&self)
+        ensures { AreDifferent self.now }
+    {
+        let _names = self.list();
+    }
+
     /// How many names there are.
     pub fn len(&self) -> usize
         ensures value { result ≡ length self.now }
         ensures few { length self.now < 2 ^ 63 }
     {
         self.set.len()
+    }
+
+    /// Whether a name is among them.
+    pub fn has(&self, name: &LabelName) -> bool
+        ensures { (result ≡ true) ↔ Contains self.now name.now }
+    {
+        self.set.contains(name)
     }
 
     /// The number of a name, or nothing where it isn't there.

@@ -1,5 +1,5 @@
 //! Lists of different nodes.
-ghost use Rattle.std.specs.Prelude.{◌≡◌, ◌<◌, ◌^◌, ◌↔◌, [], length, Contains, true, IfOk};
+ghost use Rattle.std.specs.Prelude.{◌≡◌, ◌<◌, ◌^◌, ◌↔◌, [], length, Contains, Some, slice_get, true, IfOk};
 ghost use Rattle.lk_facts.specs.Places.{AreDifferent, IsPut};
 
 use indexmap::IndexSet;
@@ -47,6 +47,14 @@ impl Nodes {
         ensures few { length self.now < 2 ^ 63 }
     {
         self.set.len()
+    }
+
+    /// The node with this number.
+    pub fn at(&self, number: usize) -> NodeId
+        requires { number < length self.now }
+        ensures { slice_get self.now number ≡ Some result }
+    {
+        self.set.as_slice()[number]
     }
 
     /// Whether a node is among them.

@@ -12,7 +12,7 @@ use lk_types::{CType, NodeId, Sel, TypeId, TypeTable};
 use std::alloc::Global;
 
 /// How many fields a type has: a struct its members, a function its result and its parameters.
-fn field_count(types: &TypeTable, t: TypeId) -> u32
+pub fn field_count(types: &TypeTable, t: TypeId) -> u32
     requires { IsKnown types.now t }
     ensures { result ≡ length (fields_of types.now (type_at types.now t)) }
 {
