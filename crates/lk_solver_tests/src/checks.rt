@@ -49,7 +49,9 @@ pub fn are_at(held: &Held, at: &[Pair], keep: &[Pair]) -> bool {
         return false;
     }
     for point in 0..held.points() as u32 {
-        if !is_row(held.at(point).ids(), point, at) || !is_row(held.keep(point).ids(), point, keep) {
+        if !is_row(held.at(point).ids(), point, at)
+            || !is_row(held.keep(point).ids(), point, keep)
+        {
             return false;
         }
     }
