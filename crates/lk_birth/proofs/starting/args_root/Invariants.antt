@@ -1,0 +1,7 @@
+use Rattle.std.proofs.Common.{◌≡◌, drop}
+use Rattle.std.specs.List.{position_from}
+use Rattle.lk_birth.specs.Starts.{is_args, root_of}
+use Rattle.lk_birth.proofs.starting.args_root.Given as goal
+
+abbrev pub invariant-loop-root : goal.invariant-loop-root
+invariant-loop-root l = position_from (λ root. is_args root.kind) l.root (drop l.root l.points.roots) ≡ root_of is_args l.points

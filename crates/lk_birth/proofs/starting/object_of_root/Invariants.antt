@@ -1,0 +1,7 @@
+use Rattle.std.proofs.Common.{◌≡◌, drop}
+use Rattle.std.specs.Prelude.{nat_eq}
+use Rattle.std.specs.List.{position_from}
+use Rattle.lk_birth.proofs.starting.object_of_root.Given as goal
+
+abbrev pub invariant-loop-place : goal.invariant-loop-place
+invariant-loop-place l = position_from (λ object. nat_eq object.root l.root) l.place (drop l.place l.objects) ≡ position_from (λ object. nat_eq object.root l.root) 0 l.objects
