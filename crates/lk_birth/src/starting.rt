@@ -381,7 +381,14 @@ fn call_main(
     }
     let values = main_args(alloc, points, objects.as_slice(), args)?;
     let first = objects.len() as u32;
-    let made = made_for(alloc, points, first, main, points.entry(main), values.as_slice())?;
+    let made = made_for(
+        alloc,
+        points,
+        first,
+        main,
+        points.entry(main),
+        values.as_slice(),
+    )?;
     let state = with_main(alloc, objects, made)?;
     Ok(state)
 }
