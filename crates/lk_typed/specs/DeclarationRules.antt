@@ -139,22 +139,27 @@ abbrev pub may_be_static : Scope → List Storage → Ty → Bool
 may_be_static AtFile ss t = true
 may_be_static InBlock ss t = not (has is_static ss && is_function t)
 
--- an object whose storage is here wants a complete type (C99 6.7, 7). One of external linkage at file scope may have a struct that is completed later: `at_end` is the
--- environment behind the source (C99 6.9.2, 2 and 3). The size of an array may come from an initialiser.
-abbrev pub wants_type : List Storage → Ty → Bool
-wants_type ss t = not (has is_typedef ss || has is_extern ss || is_function t)
+-- an object whose storage is here wants a complete type (C99 6.7, 7): with an initialiser behind extern too (6.9.2, 1)
+abbrev pub wants_type : List Storage → Ty → Given → Bool
+wants_type ss t Bare = not (has is_typedef ss || has is_extern ss || is_function t)
+wants_type ss t Initialised = not (has is_typedef ss || is_function t)
+wants_type ss t Defined = not (has is_typedef ss || is_function t)
 
-abbrev pub env_for : Env → Env → Scope → List Storage → Env
-env_for env at_end AtFile ss = if has is_static ss then env else at_end
-env_for env at_end InBlock ss = env
+-- where the type is to be complete: a tentative definition of external linkage may have a struct that is completed later, `at_end` is the environment behind the source (C99 6.9.2, 2 and 3)
+abbrev pub env_for : Env → Env → Scope → List Storage → Given → Env
+env_for env at_end AtFile ss Bare = if has is_static ss then env else at_end
+env_for env at_end AtFile ss Initialised = env
+env_for env at_end AtFile ss Defined = env
+env_for env at_end InBlock ss given = env
 
+-- the size of an array may come from an initialiser
 abbrev pub has_size_later : Ty → Given → Bool
 has_size_later t Bare = false
 has_size_later t Initialised = is_array t
 has_size_later t Defined = false
 
 abbrev pub is_complete_object : Env → Env → Scope → List Storage → Ty → Given → Bool
-is_complete_object env at_end scope ss t given = not (wants_type ss t) || has_size_later t given || is_complete (env_for env at_end scope ss) t
+is_complete_object env at_end scope ss t given = not (wants_type ss t given) || has_size_later t given || is_complete (env_for env at_end scope ss given) t
 
 -- `main` has one of its two types (C99 5.1.2.2.1, 1), where it has external linkage
 abbrev pub arguments : Tys

@@ -1,5 +1,5 @@
 -- The codes that hold at each node of a source, by the rules of its kind: where its parts have types; and where a node stands.
-use Rattle.std.specs.Prelude.{ℕ, ◌&&◌, ◌||◌, ◌++◌, not, Bool, true, false, Option, Some, None, List, [], ◌∷◌, is_some, if◌then◌else◌, ℤ, pos}
+use Rattle.std.specs.Prelude.{ℕ, ◌&&◌, ◌||◌, ◌++◌, Bool, true, false, Option, Some, None, List, [], ◌∷◌, is_some, if◌then◌else◌, ℤ, pos}
 use Rattle.lk_base.specs.declared.spot.Spot.{Spot}
 use Rattle.lk_tree.specs.declared.declaration.Init.{Init, out-Init}
 use Rattle.lk_tree.specs.declared.declaration.Init.TheOpen.{Init-F}
@@ -200,7 +200,7 @@ abbrev pub are_typed : List Placed → Bool
 are_typed [] = true
 are_typed (part ∷ others) = has_type part.env part.node && are_typed others
 
--- of a declaration its initialisers are asked apart, for a fault that stands in one of them
+-- of a declaration an initialiser without a type is asked for a fault that stands in it
 abbrev pub is_declaration : Node → Bool
 is_declaration (AnExternal d) = false
 is_declaration (ADeclaration scope node) = true
@@ -218,27 +218,14 @@ is_declaration (AnExpression e) = false
 abbrev pub breaches : Env → Env → Node → List Breach
 breaches at_end env node = if is_declaration node || are_typed (parts at_end env node) then rules_of env node else []
 
--- ---- what hides the codes of a node: a fault in an initialiser that is an expression, of a declaration
+-- ---- what hides the codes of a declaration: a fault in a part without a type
 
-abbrev pub may_hide : Node → Bool
-may_hide (AnExternal d) = false
-may_hide (ADeclaration scope node) = false
-may_hide (ADefinition node) = false
-may_hide (AMember before m) = false
-may_hide (AnItem before i) = false
-may_hide (AParameter lone p) = false
-may_hide (ATypeName n) = false
-may_hide (ADeclarator left d) = false
-may_hide (AnInitialiser object init) = not (is_list (out-Init init))
-may_hide (AStatement around s) = false
-may_hide (AnExpression e) = false
-
-abbrev pub those_that_may_hide : List Placed → List Placed
-those_that_may_hide [] = []
-those_that_may_hide (part ∷ others) = if may_hide part.node then part ∷ those_that_may_hide others else those_that_may_hide others
+abbrev pub those_without_type : List Placed → List Placed
+those_without_type [] = []
+those_without_type (part ∷ others) = if has_type part.env part.node then those_without_type others else part ∷ those_without_type others
 
 abbrev pub hiding : Env → Env → Node → List Placed
-hiding at_end env node = if is_declaration node then those_that_may_hide (parts at_end env node) else []
+hiding at_end env node = if is_declaration node then those_without_type (parts at_end env node) else []
 
 -- ---- where a node stands
 

@@ -1,4 +1,4 @@
--- The nodes of a source, with what each is given beside its environment; and what the folds over the tree tell, which the rules ask.
+-- The nodes of a source, with what each is given beside its environment.
 use Rattle.std.specs.Prelude.{ℕ, Bool, Option, List, ℤ}
 use Rattle.lk_tree.specs.declared.declaration.Declare.{Declare}
 use Rattle.lk_tree.specs.declared.declaration.Init.{Init}
