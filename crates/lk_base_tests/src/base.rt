@@ -1,4 +1,4 @@
-use lk_base::{Boxed, Code, Files, Name, NameFault, Seq, Status};
+use lk_base::{Boxed, CellStep, Code, Files, Name, NameFault, Seq, Status};
 use std::alloc::Global;
 use std::process::Abort;
 use std::test::Fail;
@@ -100,5 +100,12 @@ fn an_element_of_a_list_is_exchanged(rt: HostRuntime) -> Result<(), Fail> {
     assert!(rt; list.push_or_back(3).is_ok() && list.len() == 3);
     assert_eq!(rt; list.replace(1, 5), 2);
     assert_eq!(rt; list.list(), [1, 5, 3].as_slice());
+    Ok(())
+}
+
+#[test]
+fn a_step_leads_to_a_member_or_an_element(rt: HostRuntime) -> Result<(), Fail> {
+    assert!(rt; CellStep::Field(2).number() == 2 && CellStep::Index(7).number() == 7);
+    assert!(rt; CellStep::default() == CellStep::Field(0));
     Ok(())
 }
