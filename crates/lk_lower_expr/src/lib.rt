@@ -1,0 +1,2 @@
+//! The control points of expressions.
+#![tactic(auto)]
