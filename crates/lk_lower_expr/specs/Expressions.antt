@@ -3,9 +3,9 @@ use Rattle.std.specs.Prelude.{pos, []}
 use Rattle.lk_facts.specs.declared.action.Action.TheVariants as does
 use Rattle.lk_lower_expr.specs.Library as calls
 use Rattle.lk_lower_expr.specs.Library.{Called, by_name, by_pointer}
-use Rattle.lk_lower_expr.specs.Names.{Names}
+use Rattle.lk_lower_expr.specs.Names.{Names, Node}
 use Rattle.lk_lower_expr.specs.Parts as parts
-use Rattle.lk_lower_expr.specs.Parts.{Node, Part}
+use Rattle.lk_lower_expr.specs.Parts.{Part}
 use Rattle.lk_lower_expr.specs.Values as rules
 use Rattle.lk_typed.specs.declared.expression.Callee.TheFolds.{fold-TypedExpr}
 use Rattle.lk_typed.specs.declared.expression.Callee.TheOpen.{Callee-F, TypedForm-F, LibraryCall-F, TypedExpr-F}

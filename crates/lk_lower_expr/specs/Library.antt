@@ -1,11 +1,10 @@
 -- The steps of calls: of functions of the program, of the library (C99 7, POSIX pthread.h), and of functions that the sources don't define.
-use Rattle.std.specs.Prelude.{ℕ, Bool, true, false, List, [], ◌∷◌, ◌++◌, length, map, Option, None, Some, nat_eq, if◌then◌else◌, suc}
-use Rattle.lk_base.specs.declared.spot.Spot.{Spot}
+use Rattle.std.specs.Prelude.{ℕ, Bool, true, false, List, [], ◌∷◌, length, Option, None, Some, nat_eq, if◌then◌else◌, suc}
 use Rattle.lk_facts.specs.declared.action.Action.{Action}
 use Rattle.lk_facts.specs.declared.action.Action.TheVariants as does
-use Rattle.lk_lower_expr.specs.Names.{Names}
+use Rattle.lk_lower_expr.specs.Names.{Names, Node}
 use Rattle.lk_lower_expr.specs.Parts as parts
-use Rattle.lk_lower_expr.specs.Parts.{Node, Part, goes, step, first_of, in_turn, values}
+use Rattle.lk_lower_expr.specs.Parts.{Part, goes, step, first_of, in_turn, values}
 use Rattle.lk_lower_expr.specs.Walk.{Step}
 use Rattle.lk_types.specs.Predeclared.{kind_id}
 use Rattle.lk_base.specs.declared.kind.Kind.TheVariants.{Char}

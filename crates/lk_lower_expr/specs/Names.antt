@@ -1,7 +1,16 @@
 -- What the numbers of a typed tree stand for in the program.
-use Rattle.std.specs.Prelude.{ℕ}
+use Rattle.std.specs.Prelude.{ℕ, List}
+use Rattle.lk_base.specs.declared.cell.CellStep.{CellStep}
+use Rattle.lk_base.specs.declared.spot.Spot.{Spot}
+use Rattle.lk_facts.specs.declared.place.Place.{Place}
 use Rattle.lk_typed.specs.declared.expression.Storage.{Storage}
 use Rattle.lk_types.specs.declared.c_type.CType.{CType}
+
+-- a node of the typed tree: its number, the place of its first token, and the source's number of its type
+pub record Node : Type 0 where
+  pub ordinal : ℕ
+  pub spot : Spot
+  pub type : ℕ
 
 pub record Names : Type 0 where
   -- the control point that is a step of a node: `at node step`. No other rule gives a number to a point.
@@ -14,6 +23,12 @@ pub record Names : Type 0 where
   pub object : Storage → ℕ
   pub text : ℕ → ℕ
   pub heap : ℕ → ℕ
+  -- the type of a member or an element of a type of the source
+  pub inside : ℕ → CellStep → ℕ
+  -- the declared name of a local: the number of its node, its place and its type
+  pub declared : ℕ → Node
+  -- the place of a cell of a local, by the steps to it
+  pub place : ℕ → List CellStep → Place
   -- the slot of a local, and the hidden one of a node whose value comes on several ways
   pub slot : ℕ → ℕ
   pub hidden : ℕ → ℕ

@@ -4,17 +4,11 @@ use Rattle.lk_base.specs.declared.kind.Kind.TheVariants.{Int as IntKind}
 use Rattle.lk_base.specs.declared.spot.Spot.{Spot}
 use Rattle.lk_facts.specs.declared.action.Action.{Action}
 use Rattle.lk_facts.specs.declared.action.Action.TheVariants as does
-use Rattle.lk_lower_expr.specs.Names.{Names}
+use Rattle.lk_lower_expr.specs.Names.{Names, Node}
 use Rattle.lk_lower_expr.specs.Walk.{Step, Walk, nothing, own, ◌then◌}
 use Rattle.lk_types.specs.Predeclared.{kind_id}
 use Rattle.lk_types.specs.declared.c_type.CType.{CType}
 use Rattle.lk_types.specs.declared.c_type.CType.TheVariants.{Void, Int, ThreadId, Mutex, Cond, Pointer, Array, Struct, Function, Opaque}
-
--- a node of the typed tree: its number, the place of its first token, and the source's number of its type
-pub record Node : Type 0 where
-  pub ordinal : ℕ
-  pub spot : Spot
-  pub type : ℕ
 
 -- an expression
 pub record Part : Type 0 where
@@ -82,10 +76,14 @@ module _ (names : Names) where
   -- a node that computes its operands in turn, and then has these steps, the first of which gives its value
   abbrev pub computes : Node → List Part → (count : ℕ) → (ℕ → List Step) → Part
   computes node operands count steps = record {
-      node = node; slot = None; count = count; steps = steps;
-      first = first_of operands (names.at node.ordinal 0);
-      value = names.at node.ordinal 0;
-      inside = λ on. in_turn operands (names.at node.ordinal 0) }
+    node = node;
+    slot = None;
+    count = count;
+    steps = steps;
+    first = first_of operands (names.at node.ordinal 0);
+    value = names.at node.ordinal 0;
+    inside = λ on. in_turn operands (names.at node.ordinal 0);
+  }
 
   -- the same with one step
   abbrev pub then_one : Node → List Part → Action → Option ℕ → Part
@@ -94,14 +92,26 @@ module _ (names : Names) where
   -- a node without steps of its own, which stands for its operand
   abbrev pub stands_for : Node → Part → Part
   stands_for node a = record {
-      node = node; slot = None; count = 0; steps = λ on. [];
-      first = a.first; value = a.value; inside = λ on. goes a on }
+    node = node;
+    slot = None;
+    count = 0;
+    steps = λ on. [];
+    first = a.first;
+    value = a.value;
+    inside = λ on. goes a on;
+  }
 
   -- a slot has no steps until it is read or written
   abbrev pub slot_part : Node → ℕ → Part
   slot_part node slot = record {
-      node = node; slot = Some slot; count = 0; steps = λ on. [];
-      first = names.at node.ordinal 0; value = names.at node.ordinal 0; inside = λ on. nothing }
+    node = node;
+    slot = Some slot;
+    count = 0;
+    steps = λ on. [];
+    first = names.at node.ordinal 0;
+    value = names.at node.ordinal 0;
+    inside = λ on. nothing;
+  }
 
   abbrev pub paren_of : Option ℕ → Node → Part → Part
   paren_of None node a = stands_for node a
@@ -110,10 +120,14 @@ module _ (names : Names) where
   -- one more step of the same node, which gives the value
   abbrev pub followed : Node → Part → Action → Option ℕ → Part
   followed node a does gives = record {
-      node = node; slot = None; count = a.count + 1;
-      first = a.first; value = names.at node.ordinal a.count;
-      steps = λ on. a.steps (names.at node.ordinal a.count) ++ (step does gives node.spot on ∷ []);
-      inside = λ on. a.inside (names.at node.ordinal a.count) }
+    node = node;
+    slot = None;
+    count = a.count + 1;
+    first = a.first;
+    value = names.at node.ordinal a.count;
+    steps = λ on. a.steps (names.at node.ordinal a.count) ++ (step does gives node.spot on ∷ []);
+    inside = λ on. a.inside (names.at node.ordinal a.count);
+  }
 
   -- what reads a place and what writes it: a cell by the pointer to it, or a slot
   abbrev pub reads : Option ℕ → (pointer : ℕ) → Action

@@ -1,15 +1,14 @@
 -- The steps of each form of expression (C99 6.5).
-use Rattle.std.specs.Prelude.{ℕ, ℤ, pos, ◌+◌, ◌++◌, Bool, true, false, List, [], ◌∷◌, Option, None, Some, ◌||◌, nat_eq, if◌then◌else◌}
+use Rattle.std.specs.Prelude.{ℕ, ℤ, pos, ◌++◌, Bool, true, false, List, [], ◌∷◌, None, ◌||◌, nat_eq, if◌then◌else◌}
 use Rattle.lk_arith.specs.declared.operators.Op.{Op}
 use Rattle.lk_arith.specs.declared.operators.Op.TheVariants as op
 use Rattle.lk_arith.specs.declared.operators.UnaryOp.{UnaryOp}
 use Rattle.lk_base.specs.declared.kind.Kind.TheVariants.{Int as IntKind}
-use Rattle.lk_facts.specs.declared.action.Action.{Action}
 use Rattle.lk_facts.specs.declared.action.Action.TheVariants as does
-use Rattle.lk_lower_expr.specs.Names.{Names}
+use Rattle.lk_lower_expr.specs.Names.{Names, Node}
 use Rattle.lk_lower_expr.specs.Parts as parts
-use Rattle.lk_lower_expr.specs.Parts.{Node, Part, goes, step, first_of, in_turn, values}
-use Rattle.lk_lower_expr.specs.Walk.{Step, Walk, own, ◌then◌}
+use Rattle.lk_lower_expr.specs.Parts.{Part, goes, step, first_of, in_turn, values}
+use Rattle.lk_lower_expr.specs.Walk.{Step, ◌then◌}
 use Rattle.lk_tree.specs.declared.operators.StepOperator.{StepOperator}
 use Rattle.lk_tree.specs.declared.operators.StepOperator.TheVariants.{Increment, Decrement}
 use Rattle.lk_typed.specs.declared.expression.Change.{Change}
@@ -56,9 +55,14 @@ module _ (names : Names) where
   -- `left, right`: the left value is dropped (C99 6.5.17)
   abbrev pub comma_part : Node → Part → Part → Part
   comma_part node a b = record {
-      node = node; slot = None; count = 0; steps = λ on. [];
-      first = a.first; value = b.value;
-      inside = λ on. goes a b.first then goes b on }
+    node = node;
+    slot = None;
+    count = 0;
+    steps = λ on. [];
+    first = a.first;
+    value = b.value;
+    inside = λ on. goes a b.first then goes b on;
+  }
 
   -- ---- the operators that decide on the way (C99 6.5.13 to 6.5.15)
 
@@ -77,9 +81,14 @@ module _ (names : Names) where
 
   abbrev decides : Node → Part → Part → (ℕ → List Step) → Part
   decides node a b steps = record {
-      node = node; slot = None; count = 7; steps = steps;
-      first = a.first; value = at node.ordinal 6;
-      inside = λ on. goes a (at node.ordinal 0) then goes b (at node.ordinal 1) }
+    node = node;
+    slot = None;
+    count = 7;
+    steps = steps;
+    first = a.first;
+    value = at node.ordinal 6;
+    inside = λ on. goes a (at node.ordinal 0) then goes b (at node.ordinal 1);
+  }
 
   abbrev pub and_part : Node → Part → Part → Part
   and_part node a b = decides node a b (λ on.
@@ -92,22 +101,30 @@ module _ (names : Names) where
   -- `condition ? taken : other`, of type void and of another type
   abbrev pub void_choice : Node → Part → Part → Part → Part
   void_choice node c a b = record {
-      node = node; slot = None; count = 1;
-      first = c.first; value = at node.ordinal 0;
-      steps = λ on. branch node c.value a.first b.first ∷ [];
-      inside = λ on. goes c (at node.ordinal 0) then goes a on then goes b on }
+    node = node;
+    slot = None;
+    count = 1;
+    first = c.first;
+    value = at node.ordinal 0;
+    steps = λ on. branch node c.value a.first b.first ∷ [];
+    inside = λ on. goes c (at node.ordinal 0) then goes a on then goes b on;
+  }
 
   abbrev pub value_choice : Node → Part → Part → Part → Part
   value_choice node c a b =
       let o = node.ordinal in record {
-      node = node; slot = None; count = 4;
-      first = c.first; value = at o 3;
-      steps = λ on.
-          branch node c.value a.first b.first ∷
-          step (does.SlotWrite (names.hidden o) a.value) None node.spot (at o 3) ∷
-          step (does.SlotWrite (names.hidden o) b.value) None node.spot (at o 3) ∷
-          step (does.SlotRead (names.hidden o)) (parts.value_of names node.type) node.spot on ∷ [];
-      inside = λ on. goes c (at o 0) then goes a (at o 1) then goes b (at o 2) }
+        node = node;
+        slot = None;
+        count = 4;
+        first = c.first;
+        value = at o 3;
+        steps = λ on.
+            branch node c.value a.first b.first ∷
+            step (does.SlotWrite (names.hidden o) a.value) None node.spot (at o 3) ∷
+            step (does.SlotWrite (names.hidden o) b.value) None node.spot (at o 3) ∷
+            step (does.SlotRead (names.hidden o)) (parts.value_of names node.type) node.spot on ∷ [];
+        inside = λ on. goes c (at o 0) then goes a (at o 1) then goes b (at o 2);
+      }
 
   abbrev pub choice_of : CType → Node → Part → Part → Part → Part
   choice_of Void = void_choice
@@ -146,20 +163,28 @@ module _ (names : Names) where
   abbrev pub compound_alike : Node → Op → Part → Part → ℕ → Part
   compound_alike node op a b t =
       let o = node.ordinal in record {
-      node = node; slot = None; count = 3;
-      first = first_of (parts.place_of names a.slot a) (at o 0); value = at o 1;
-      steps = λ on. reading a b.first ∷ computing node op (at o 0) b.value t (at o 2) ∷ writing a (at o 1) on ∷ [];
-      inside = λ on. in_turn (parts.place_of names a.slot a) (at o 0) then goes b (at o 1) }
+        node = node;
+        slot = None;
+        count = 3;
+        first = first_of (parts.place_of names a.slot a) (at o 0);
+        value = at o 1;
+        steps = λ on. reading a b.first ∷ computing node op (at o 0) b.value t (at o 2) ∷ writing a (at o 1) on ∷ [];
+        inside = λ on. in_turn (parts.place_of names a.slot a) (at o 0) then goes b (at o 1);
+      }
 
   abbrev pub compound_converted : Node → Op → Part → Part → ℕ → Part
   compound_converted node op a b t =
       let o = node.ordinal in record {
-      node = node; slot = None; count = 5;
-      first = first_of (parts.place_of names a.slot a) (at o 0); value = at o 3;
-      steps = λ on.
-          reading a b.first ∷ converting node (at o 0) t (at o 2) ∷ computing node op (at o 1) b.value t (at o 3) ∷
-          converting node (at o 2) a.node.type (at o 4) ∷ writing a (at o 3) on ∷ [];
-      inside = λ on. in_turn (parts.place_of names a.slot a) (at o 0) then goes b (at o 1) }
+        node = node;
+        slot = None;
+        count = 5;
+        first = first_of (parts.place_of names a.slot a) (at o 0);
+        value = at o 3;
+        steps = λ on.
+            reading a b.first ∷ converting node (at o 0) t (at o 2) ∷ computing node op (at o 1) b.value t (at o 3) ∷
+            converting node (at o 2) a.node.type (at o 4) ∷ writing a (at o 3) on ∷ [];
+        inside = λ on. in_turn (parts.place_of names a.slot a) (at o 0) then goes b (at o 1);
+      }
 
   abbrev pub compound_part : Node → Op → Part → Part → ℕ → Part
   compound_part node op a b t = if nat_eq a.node.type t then compound_alike node op a b t else compound_converted node op a b t
@@ -183,20 +208,20 @@ module _ (names : Names) where
   abbrev pub step_plain : Node → Op → Change → Part → ℕ → Part
   step_plain node op change a t =
       let o = node.ordinal in changes node a (changed change (at o 0) (at o 2)) 4 (λ on.
-          reading a (at o 1) ∷ one_of node (at o 2) ∷ computing node op (at o 0) (at o 1) t (at o 3) ∷ writing a (at o 2) on ∷ [])
+      reading a (at o 1) ∷ one_of node (at o 2) ∷ computing node op (at o 0) (at o 1) t (at o 3) ∷ writing a (at o 2) on ∷ [])
 
   -- a place of integers that rank above int: the 1 is converted
   abbrev pub step_wide : Node → Op → Change → Part → ℕ → Part
   step_wide node op change a t =
       let o = node.ordinal in changes node a (changed change (at o 0) (at o 3)) 5 (λ on.
-          reading a (at o 1) ∷ one_of node (at o 2) ∷ converting node (at o 1) t (at o 3) ∷ computing node op (at o 0) (at o 2) t (at o 4) ∷ writing a (at o 3) on ∷ [])
+      reading a (at o 1) ∷ one_of node (at o 2) ∷ converting node (at o 1) t (at o 3) ∷ computing node op (at o 0) (at o 2) t (at o 4) ∷ writing a (at o 3) on ∷ [])
 
   -- a place of integers that rank below int: it is converted to int and back
   abbrev pub step_narrow : Node → Op → Change → Part → ℕ → Part
   step_narrow node op change a t =
       let o = node.ordinal in changes node a (changed change (at o 0) (at o 4)) 6 (λ on.
-          reading a (at o 1) ∷ one_of node (at o 2) ∷ converting node (at o 0) t (at o 3) ∷ computing node op (at o 2) (at o 1) t (at o 4) ∷
-          converting node (at o 3) a.node.type (at o 5) ∷ writing a (at o 4) on ∷ [])
+      reading a (at o 1) ∷ one_of node (at o 2) ∷ converting node (at o 0) t (at o 3) ∷ computing node op (at o 2) (at o 1) t (at o 4) ∷
+      converting node (at o 3) a.node.type (at o 5) ∷ writing a (at o 4) on ∷ [])
 
   abbrev is_pointer : CType → Bool
   is_pointer Void = false
@@ -213,8 +238,8 @@ module _ (names : Names) where
   abbrev pub step_part : Node → StepOperator → Change → Part → ℕ → Part
   step_part node operator change a t =
       if nat_eq a.node.type t
-        then (if is_pointer (names.form t) || nat_eq t (kind_id IntKind) then step_plain node (operator_of operator) change a t else step_wide node (operator_of operator) change a t)
-        else step_narrow node (operator_of operator) change a t
+      then (if is_pointer (names.form t) || nat_eq t (kind_id IntKind) then step_plain node (operator_of operator) change a t else step_wide node (operator_of operator) change a t)
+      else step_narrow node (operator_of operator) change a t
 
   -- ---- conversions (C99 6.3): each is a step of the node that it converts
 
@@ -226,7 +251,7 @@ module _ (names : Names) where
   abbrev pub decay_part : Node → Part → Part
   decay_part node a =
       parts.followed names node (parts.followed names node a (does.Value (pos 0) (kind_id IntKind)) (parts.int names))
-          (does.Index a.value (at node.ordinal a.count) true) (parts.value_of names node.type)
+      (does.Index a.value (at node.ordinal a.count) true) (parts.value_of names node.type)
 
   abbrev pub convert_part : Node → Part → Part
   convert_part node a = parts.followed names node a (does.Convert a.value (names.type node.type)) (parts.value_of names node.type)

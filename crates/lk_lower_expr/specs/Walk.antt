@@ -16,8 +16,8 @@ pub data Walk : Type 0 where
   -- the steps of one node, in their order
   own : (node : ℕ) → List Step → Walk
   ◌then◌ : Walk → Walk → Walk
-infixr 5 ◌then◌
 
+infixr 5 ◌then◌
 -- the step of that number of that node is there
 pub data IsStep (node step : ℕ) (is : Step) : Walk → Type 0 where
   here : (before behind : List Step) → length before ≡ step → IsStep node step is (own node (before ++ (is ∷ behind)))

@@ -12,7 +12,7 @@ mod unit;
 
 pub use entity::{Declaration, Defines, Entity, EntityKind, Linkage, Use};
 pub use expression::{Callee, Change, Storage, TypedExpr, TypedForm};
-pub use initialiser::{LocalPart, LocalValue, StaticObject, StaticPart, StaticValue};
+pub use initialiser::{AbsentCells, LocalPart, LocalValue, StaticObject, StaticPart, StaticValue};
 pub use library::LibraryCall;
 pub use statement::{LocalInit, SwitchCase, TypedFirst, TypedItem, TypedStmt, TypedStmtForm};
 pub use unit::{Body, Local, StructTag, TypedUnit};
