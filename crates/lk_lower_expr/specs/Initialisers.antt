@@ -12,7 +12,8 @@ use Rattle.lk_lower_expr.specs.Expressions.{part}
 use Rattle.lk_lower_expr.specs.Names.{Names, Node}
 use Rattle.lk_lower_expr.specs.Parts as parts
 use Rattle.lk_lower_expr.specs.Parts.{Part, goes, step}
-use Rattle.lk_lower_expr.specs.Walk.{Step, Walk, nothing, own, ◌then◌}
+use Rattle.lk_lower_expr.specs.Walk.{Walk, nothing, own, ◌then◌}
+use Rattle.lk_lower_expr.specs.declared.step.Step.{Step}
 use Rattle.lk_typed.specs.declared.initialiser.AbsentCells.{AbsentCells}
 use Rattle.lk_typed.specs.declared.initialiser.LocalPart.{LocalPart}
 use Rattle.lk_typed.specs.declared.initialiser.LocalValue.{LocalValue}

@@ -2,6 +2,7 @@ pub mod Expressions
 pub mod Initialisers
 pub mod Library
 pub mod Names
+pub mod Naming
 pub mod Parts
 pub mod Statements
 pub mod Values

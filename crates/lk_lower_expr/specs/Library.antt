@@ -5,7 +5,7 @@ use Rattle.lk_facts.specs.declared.action.Action.TheVariants as does
 use Rattle.lk_lower_expr.specs.Names.{Names, Node}
 use Rattle.lk_lower_expr.specs.Parts as parts
 use Rattle.lk_lower_expr.specs.Parts.{Part, goes, step, first_of, in_turn, values}
-use Rattle.lk_lower_expr.specs.Walk.{Step}
+use Rattle.lk_lower_expr.specs.declared.step.Step.{Step}
 use Rattle.lk_types.specs.Predeclared.{kind_id}
 use Rattle.lk_base.specs.declared.kind.Kind.TheVariants.{Char}
 use Rattle.lk_types.specs.declared.c_type.CType.{CType}

@@ -1,8 +1,7 @@
 -- What the numbers of a typed tree stand for in the program.
-use Rattle.std.specs.Prelude.{ℕ, List}
+use Rattle.std.specs.Prelude.{ℕ}
 use Rattle.lk_base.specs.declared.cell.CellStep.{CellStep}
 use Rattle.lk_base.specs.declared.spot.Spot.{Spot}
-use Rattle.lk_facts.specs.declared.place.Place.{Place}
 use Rattle.lk_typed.specs.declared.expression.Storage.{Storage}
 use Rattle.lk_types.specs.declared.c_type.CType.{CType}
 
@@ -27,8 +26,6 @@ pub record Names : Type 0 where
   pub inside : ℕ → CellStep → ℕ
   -- the declared name of a local: the number of its node, its place and its type
   pub declared : ℕ → Node
-  -- the place of a cell of a local, by the steps to it
-  pub place : ℕ → List CellStep → Place
   -- the slot of a local, and the hidden one of a node whose value comes on several ways
   pub slot : ℕ → ℕ
   pub hidden : ℕ → ℕ

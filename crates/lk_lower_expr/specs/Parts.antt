@@ -5,7 +5,8 @@ use Rattle.lk_base.specs.declared.spot.Spot.{Spot}
 use Rattle.lk_facts.specs.declared.action.Action.{Action}
 use Rattle.lk_facts.specs.declared.action.Action.TheVariants as does
 use Rattle.lk_lower_expr.specs.Names.{Names, Node}
-use Rattle.lk_lower_expr.specs.Walk.{Step, Walk, nothing, own, ◌then◌}
+use Rattle.lk_lower_expr.specs.Walk.{Walk, nothing, own, ◌then◌}
+use Rattle.lk_lower_expr.specs.declared.step.Step.{Step}
 use Rattle.lk_types.specs.Predeclared.{kind_id}
 use Rattle.lk_types.specs.declared.c_type.CType.{CType}
 use Rattle.lk_types.specs.declared.c_type.CType.TheVariants.{Void, Int, ThreadId, Mutex, Cond, Pointer, Array, Struct, Function, Opaque}

@@ -1,13 +1,16 @@
 -- The steps of statements, and where control goes on after them (C99 6.8).
 use Rattle.std.specs.Prelude.{ℕ, ℤ, ◌++◌, List, [], ◌∷◌, map, Option, None, Some, nat_eq, if◌then◌else◌}
+use Rattle.lk_base.specs.declared.cell.CellStep.{CellStep}
 use Rattle.lk_base.specs.declared.spot.Spot.{Spot}
 use Rattle.lk_facts.specs.declared.action.Action.TheVariants as does
+use Rattle.lk_facts.specs.declared.place.Place.{Place}
 use Rattle.lk_lower_expr.specs.Expressions.{part}
 use Rattle.lk_lower_expr.specs.Initialisers as initialisers
 use Rattle.lk_lower_expr.specs.Initialisers.{Entry}
 use Rattle.lk_lower_expr.specs.Names.{Names, Node}
 use Rattle.lk_lower_expr.specs.Parts.{Part, goes, step}
-use Rattle.lk_lower_expr.specs.Walk.{Step, Walk, nothing, own, ◌then◌}
+use Rattle.lk_lower_expr.specs.Walk.{Walk, nothing, own, ◌then◌}
+use Rattle.lk_lower_expr.specs.declared.step.Step.{Step}
 use Rattle.lk_typed.specs.declared.expression.Storage.TheVariants as storage
 use Rattle.lk_typed.specs.declared.expression.TypedExpr.{TypedExpr}
 use Rattle.lk_typed.specs.declared.initialiser.AbsentCells.{AbsentCells}
@@ -66,7 +69,8 @@ abbrev pub begins_at : ℕ → List (ℕ × ℕ) → ℕ → ℕ
 begins_at node [] other = other
 begins_at node ((o, first) ∷ others) other = if nat_eq node o then first else begins_at node others other
 
-module _ (names : Names) where
+-- `place` is the place of a cell of a local, by the steps to it
+module _ (names : Names) (place : ℕ → List CellStep → Place) where
   abbrev at : ℕ → ℕ → ℕ
   at = names.at
 
@@ -92,7 +96,7 @@ module _ (names : Names) where
         labelled = λ go. [];
         all = λ go.
             own node.ordinal (initialisers.entries_steps names node root 0 entries (behind absent node end go.next) ++
-            initialisers.fills_steps names node (names.place local) root end absent go.next) then
+            initialisers.fills_steps names node (place local) root end absent go.next) then
             initialisers.values_walk names node root 0 named;
       }
     where

@@ -8,7 +8,8 @@ use Rattle.lk_facts.specs.declared.action.Action.TheVariants as does
 use Rattle.lk_lower_expr.specs.Names.{Names, Node}
 use Rattle.lk_lower_expr.specs.Parts as parts
 use Rattle.lk_lower_expr.specs.Parts.{Part, goes, step, first_of, in_turn, values}
-use Rattle.lk_lower_expr.specs.Walk.{Step, ◌then◌}
+use Rattle.lk_lower_expr.specs.Walk.{◌then◌}
+use Rattle.lk_lower_expr.specs.declared.step.Step.{Step}
 use Rattle.lk_tree.specs.declared.operators.StepOperator.{StepOperator}
 use Rattle.lk_tree.specs.declared.operators.StepOperator.TheVariants.{Increment, Decrement}
 use Rattle.lk_typed.specs.declared.expression.Change.{Change}

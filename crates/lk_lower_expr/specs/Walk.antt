@@ -1,14 +1,6 @@
 -- The control points of a construct before they have numbers: each is a step of a node of the typed tree.
-use Rattle.std.specs.Prelude.{◌≡◌, ℕ, List, ◌∷◌, ◌++◌, length, Option}
-use Rattle.lk_base.specs.declared.spot.Spot.{Spot}
-use Rattle.lk_facts.specs.declared.action.Action.{Action}
-
--- a step: what it does, the type of its value where it gives one, where control goes on, and the place at which it stands
-pub record Step : Type 0 where
-  pub does : Action
-  pub gives : Option ℕ
-  pub next : List ℕ
-  pub spot : Spot
+use Rattle.std.specs.Prelude.{◌≡◌, ℕ, List, ◌∷◌, ◌++◌, length}
+use Rattle.lk_lower_expr.specs.declared.step.Step.{Step}
 
 -- the steps of a construct, node by node: each node before the nodes inside it, and those in the order of the text
 pub data Walk : Type 0 where
