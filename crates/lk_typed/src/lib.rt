@@ -9,6 +9,7 @@ mod initialiser;
 mod library;
 mod statement;
 mod unit;
+mod whole;
 
 pub use entity::{Declaration, Defines, Entity, EntityKind, Linkage, Use};
 pub use expression::{Callee, Change, Storage, TypedExpr, TypedForm};
@@ -16,3 +17,4 @@ pub use initialiser::{AbsentCells, LocalPart, LocalValue, StaticObject, StaticPa
 pub use library::LibraryCall;
 pub use statement::{LocalInit, SwitchCase, TypedFirst, TypedItem, TypedStmt, TypedStmtForm};
 pub use unit::{Body, Local, StructTag, TypedUnit};
+pub use whole::{Linked, Whole, WholeEntity};
