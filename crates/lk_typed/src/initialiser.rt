@@ -10,14 +10,14 @@ use lk_types::TypeId;
 pub enum LocalValue {
     /// The value of an expression, converted to the part's type.
     Expr(TypedExpr),
-    /// A byte of a string literal that initialises an array, the zero at its end too: the literal's place and node,
-    /// and the byte.
-    Byte(Spot, u32, u8),
+    /// The bytes of a string literal that initialises an array from its first element on, the zero at its end too
+    /// where the array has room for it: the literal's place and node, and the bytes.
+    Text(Spot, u32, Seq<u8>),
     /// `PTHREAD_MUTEX_INITIALIZER` or `PTHREAD_COND_INITIALIZER`.
     Ready,
 }
 
-/// A scalar part of a local object that its initialiser names.
+/// A part of a local object that its initialiser names: a scalar part, or an array that a string literal initialises.
 #[derive(Drop)]
 pub struct LocalPart {
     /// The steps from the object to the part.
@@ -25,6 +25,16 @@ pub struct LocalPart {
     /// The part's type.
     pub ty: TypeId,
     pub value: LocalValue,
+}
+
+/// Cells of a local object that its initialiser doesn't name, though it names others (C99 6.7.8, 21): those that differ
+/// in indices alone.
+#[derive(Drop)]
+pub struct AbsentCells {
+    /// The steps from the object to the first of them.
+    pub first: Seq<CellStep>,
+    /// The steps to each cell that differs from them in indices alone and that the initialiser names, in its order.
+    pub named: Seq<Seq<CellStep>>,
 }
 
 /// What a part of an object of static storage begins with (C99 6.6, 6.7.8).

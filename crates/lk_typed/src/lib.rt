@@ -9,10 +9,12 @@ mod initialiser;
 mod library;
 mod statement;
 mod unit;
+mod whole;
 
 pub use entity::{Declaration, Defines, Entity, EntityKind, Linkage, Use};
 pub use expression::{Callee, Change, Storage, TypedExpr, TypedForm};
-pub use initialiser::{LocalPart, LocalValue, StaticObject, StaticPart, StaticValue};
+pub use initialiser::{AbsentCells, LocalPart, LocalValue, StaticObject, StaticPart, StaticValue};
 pub use library::LibraryCall;
 pub use statement::{LocalInit, SwitchCase, TypedFirst, TypedItem, TypedStmt, TypedStmtForm};
 pub use unit::{Body, Local, StructTag, TypedUnit};
+pub use whole::{Linked, Whole, WholeEntity};

@@ -1,7 +1,7 @@
 //! Statements of a checked source (C99 6.8).
 
 use crate::expression::TypedExpr;
-use crate::initialiser::LocalPart;
+use crate::initialiser::{AbsentCells, LocalPart};
 use lk_base::{Boxed, Seq, Spot};
 
 /// A statement.
@@ -61,8 +61,9 @@ pub enum TypedStmtForm {
 pub enum LocalInit {
     /// The slot with this number among the body's locals, and its value.
     Slot(u32, TypedExpr),
-    /// The object with this number among the body's locals, and the parts that its initialiser names.
-    Object(u32, Seq<LocalPart>),
+    /// The object with this number among the body's locals, the parts that its initialiser names, and the cells that it
+    /// doesn't name, in the order of their paths.
+    Object(u32, Seq<LocalPart>, Seq<AbsentCells>),
 }
 
 /// An item of a block.

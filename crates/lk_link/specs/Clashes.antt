@@ -1,0 +1,115 @@
+-- Why sources make no program together: the codes 60 to 63, and which of several is answered.
+use Rattle.std.specs.Prelude.{◌≡◌, ◌<◌, ◌⊎◌, ℕ, List, Some, None, codes}
+use Rattle.std.specs.List.{Contains}
+use Rattle.lk_base.specs.Code.{number_of}
+use Rattle.lk_base.specs.declared.code.Code.{Code}
+use Rattle.lk_base.specs.declared.code.Code.TheVariants.{DefinedTwice, TypesDiffer, NotDefined}
+use Rattle.lk_base.specs.declared.spot.Spot.{Spot}
+use Rattle.lk_link.specs.Sources.{Units, IsEntity, Declares, IsDefinedIn, IsFirstDefinition, IsUsed, IsDefining, ComesBefore}
+use Rattle.lk_link.specs.Structs.{TypeOf, AreDeclaredAlike}
+use Rattle.lk_typed.specs.Library.{library_function}
+use Rattle.lk_typed.specs.declared.entity.Declaration.{Declaration}
+use Rattle.lk_typed.specs.declared.entity.Entity.{Entity}
+use Rattle.lk_typed.specs.declared.entity.EntityKind.TheVariants.{Function}
+use Rattle.lk_typed.specs.declared.entity.Linkage.TheVariants as linkage
+use Rattle.lk_typed.specs.declared.entity.Use.{Use}
+
+-- a clash: where it stands (the source, the number of the node, and the place), its code, and the name that it tells
+pub record Clash : Type 0 where
+  pub source : ℕ
+  pub ordinal : ℕ
+  pub spot : Spot
+  pub code : Code
+  pub name : List ℕ
+
+module _ (units : Units) (externs : List (List ℕ)) where
+  -- 60: no source defines a function `main` of external linkage (C99 5.1.2.2.1)
+  pub record HasMain : Type 0 where
+    pub source : ℕ
+    pub number : ℕ
+    pub entity : Entity
+    pub of : IsEntity units source number entity
+    pub named : entity.name ≡ codes "main"
+    pub is_function : entity.kind ≡ Function
+    pub external : entity.linkage ≡ linkage.External
+    pub definition : Declaration
+    pub declared : Contains entity.declarations definition
+    pub defines : IsDefining definition.defines
+
+  -- 61: an earlier source defines the name too (C99 6.9, 5); it stands at the first definition of the later source
+  pub record IsDefinedTwice (clash : Clash) : Type 0 where
+    pub earlier : ℕ
+    pub before : earlier < clash.source
+    pub there : IsDefinedIn units earlier clash.name
+    pub again : Declaration
+    pub here : IsFirstDefinition units clash.source clash.name again
+    pub ordinal : clash.ordinal ≡ again.ordinal
+    pub spot : clash.spot ≡ again.spot
+    pub code : clash.code ≡ DefinedTwice
+
+  abbrev declared_type : ℕ → Declaration → TypeOf
+  declared_type s declaration = record { source = s; number = declaration.ty }
+
+  -- 62: an earlier declaration of the name has another type (C99 6.2.7, 2)
+  pub record DiffersFrom (clash : Clash) : Type 0 where
+    pub other_source : ℕ
+    pub other : Declaration
+    pub there : Declares units other_source clash.name other
+    pub later : Declaration
+    pub here : Declares units clash.source clash.name later
+    pub before : ComesBefore other_source other.ordinal clash.source later.ordinal
+    pub differ : AreDeclaredAlike units (declared_type other_source other) (declared_type clash.source later) → ⊥
+    pub ordinal : clash.ordinal ≡ later.ordinal
+    pub spot : clash.spot ≡ later.spot
+    pub code : clash.code ≡ TypesDiffer
+
+  -- the library has a function of this name (C99 7, POSIX pthread.h), or the list of extern functions names it
+  abbrev pub IsElsewhere : List ℕ → Entity → Type 0
+  IsElsewhere name entity = (library_function name ≡ None → ⊥) ⊎ ((entity.kind ≡ Function) × Contains externs name)
+
+  -- 63: a name of external linkage is used that no source defines, nor anything else; it stands at its first use, in the order of the sources
+  pub record IsMissing (clash : Clash) : Type 0 where
+    pub number : ℕ
+    pub entity : Entity
+    pub of : IsEntity units clash.source number entity
+    pub named : entity.name ≡ clash.name
+    pub external : entity.linkage ≡ linkage.External
+    pub use_ : Use
+    pub used : entity.first_use ≡ Some use_
+    pub first : (s : ℕ) (other : Use) → s < clash.source → IsUsed units s clash.name other → ⊥
+    pub nowhere : (s : ℕ) → IsDefinedIn units s clash.name → ⊥
+    pub elsewhere : IsElsewhere clash.name entity → ⊥
+    pub ordinal : clash.ordinal ≡ use_.ordinal
+    pub spot : clash.spot ≡ use_.spot
+    pub code : clash.code ≡ NotDefined
+
+  -- the same of a function of internal linkage that its source uses and doesn't define
+  pub record IsMissingInside (clash : Clash) : Type 0 where
+    pub number : ℕ
+    pub entity : Entity
+    pub of : IsEntity units clash.source number entity
+    pub named : entity.name ≡ clash.name
+    pub internal : entity.linkage ≡ linkage.Internal
+    pub is_function : entity.kind ≡ Function
+    pub use_ : Use
+    pub used : entity.first_use ≡ Some use_
+    pub undefined : (is : Declaration) → Contains entity.declarations is → IsDefining is.defines → ⊥
+    pub ordinal : clash.ordinal ≡ use_.ordinal
+    pub spot : clash.spot ≡ use_.spot
+    pub code : clash.code ≡ NotDefined
+
+  -- the codes 61 to 63
+  pub data IsClash (clash : Clash) : Type 0 where
+    defined_twice : IsDefinedTwice clash → IsClash clash
+    types_differ : DiffersFrom clash → IsClash clash
+    missing : IsMissing clash → IsClash clash
+    missing_inside : IsMissingInside clash → IsClash clash
+
+  -- one clash is told before another: by the place of the source, the number of the node, and that of the code
+  abbrev pub IsToldBefore : Clash → Clash → Type 0
+  IsToldBefore a b =
+      ComesBefore a.source a.ordinal b.source b.ordinal ⊎ ((a.source ≡ b.source) × (a.ordinal ≡ b.ordinal) × (number_of a.code < number_of b.code))
+
+  -- the clash that is told where there is a `main`: no other comes before it
+  abbrev pub IsFirstClash : Clash → Type 0
+  IsFirstClash clash = IsClash clash × ((other : Clash) → IsClash other → IsToldBefore other clash → ⊥)

@@ -1,0 +1,4 @@
+pub mod Clashes
+pub mod Joining
+pub mod Sources
+pub mod Structs

@@ -1,0 +1,2 @@
+//! The sources of a program put together.
+#![tactic(auto)]

@@ -1,0 +1,68 @@
+-- How the tables of a source say what its numbers stand for.
+use Rattle.std.specs.Prelude.{ℕ, ◌+◌, List, get_or, slice_get}
+use Rattle.std.specs.Option.{option_map_or}
+use Rattle.lk_base.specs.declared.cell.CellStep.{CellStep}
+use Rattle.lk_base.specs.declared.cell.CellStep.TheVariants.{Field, Index}
+use Rattle.lk_lower_expr.specs.Expressions.{part}
+use Rattle.lk_lower_expr.specs.Names.{Names, Node}
+use Rattle.lk_lower_expr.specs.Parts.{Part}
+use Rattle.lk_lower_expr.specs.declared.names.LocalNames.{LocalNames}
+use Rattle.lk_lower_expr.specs.declared.names.SourceNames.{SourceNames}
+use Rattle.lk_typed.specs.declared.expression.Storage.{Storage}
+use Rattle.lk_typed.specs.declared.expression.Storage.TheVariants.{Entity, Local}
+use Rattle.lk_typed.specs.declared.expression.TypedExpr.{TypedExpr}
+use Rattle.lk_types.specs.Table.{Table, type_at, fields_of}
+use Rattle.lk_types.specs.declared.c_type.CType.{CType}
+use Rattle.lk_types.specs.declared.c_type.CType.TheVariants.{Void, Int, ThreadId, Mutex, Cond, Pointer, Array, Struct, Function, Opaque}
+
+abbrev element_of : CType → ℕ → ℕ
+element_of Void t = t
+element_of (Int k) t = t
+element_of ThreadId t = t
+element_of Mutex t = t
+element_of Cond t = t
+element_of (Pointer u) t = t
+element_of (Array u n) t = u
+element_of (Struct s) t = t
+element_of (Function result params dots) t = t
+element_of (Opaque n) t = t
+
+-- the type of a part; a type has no other parts than its members or its elements
+abbrev pub part_type : Table → ℕ → CellStep → ℕ
+part_type table t (Field k) = get_or (fields_of table (type_at table t)) k t
+part_type table t (Index i) = element_of (type_at table t) t
+
+abbrev pub local_number : List LocalNames → ℕ → ℕ
+local_number locals n = option_map_or (λ local. local.number) (slice_get locals n) 0
+
+abbrev pub declared_node : List LocalNames → ℕ → Node
+declared_node locals n =
+    option_map_or (λ local. record { ordinal = local.ordinal; spot = local.spot; type = local.ty }) (slice_get locals n)
+    (record { ordinal = 0; spot = record { file = 0; line = 0; col = 0 }; type = 0 })
+
+abbrev pub object_of : SourceNames → Storage → ℕ
+object_of source (Entity n) = get_or source.entities n 0
+object_of source (Local n) = local_number source.locals n
+
+abbrev pub at_of : SourceNames → ℕ → ℕ → ℕ
+at_of source node step = get_or source.bases node 0 + step
+
+-- what the numbers of a source stand for
+abbrev pub names_of : Table → SourceNames → Names
+names_of table source = record {
+  at = at_of source;
+  form = type_at table;
+  type = λ t. get_or source.types t 0;
+  pointer = λ t. get_or source.pointers t 0;
+  object = object_of source;
+  text = λ node. get_or source.by_node node 0;
+  heap = λ node. get_or source.by_node node 0;
+  hidden = λ node. get_or source.by_node node 0;
+  inside = part_type table;
+  declared = declared_node source.locals;
+  slot = local_number source.locals;
+  function = λ n. get_or source.entities n 0;
+}
+
+abbrev pub part_in : Table → SourceNames → TypedExpr → Part
+part_in table source = part (names_of table source)

@@ -1,0 +1,8 @@
+//! The control points of expressions, as steps of nodes of the typed tree.
+#![tactic(auto)]
+
+mod names;
+mod step;
+
+pub use names::{LocalNames, SourceNames};
+pub use step::{NamedStep, Step};

@@ -1,0 +1,49 @@
+//! What the numbers of a typed tree stand for in the program.
+
+ghost use Rattle.std.specs.Prelude.{◌≡◌};
+ghost use Rattle.lk_lower_expr.specs.Naming.{local_number};
+
+use lk_base::{Seq, Spot};
+use lk_types::TypeId;
+
+/// A local of a body.
+#[derive(Clone, Copy)]
+pub struct LocalNames {
+    /// The number of the node of its declared name.
+    pub ordinal: u32,
+    /// The place of that name.
+    pub spot: Spot,
+    /// The source's number of its type.
+    pub ty: TypeId,
+    /// The number of its slot, or of its root.
+    pub number: u32,
+}
+
+/// What the numbers of a source and of one of its bodies stand for in the program.
+#[derive(Drop)]
+pub struct SourceNames {
+    /// The point that is the first step of each node.
+    pub bases: Seq<u32>,
+    /// Of a node with a root or a hidden slot of its own the number of that.
+    pub by_node: Seq<u32>,
+    /// The program's number of each type.
+    pub types: Seq<TypeId>,
+    /// That of the pointer to it.
+    pub pointers: Seq<TypeId>,
+    /// The root of each entity that is an object, and the function of each that is a function.
+    pub entities: Seq<u32>,
+    /// The locals of the body.
+    pub locals: Seq<LocalNames>,
+}
+
+impl SourceNames {
+    /// The slot or the root of a local; 0 past the last one.
+    pub fn local_number(&self, local: u32) -> u32
+        ensures { result ≡ local_number self.now.locals local }
+    {
+        match self.locals.list().get(local as usize) {
+            Some(names) => names.number,
+            None => 0,
+        }
+    }
+}
