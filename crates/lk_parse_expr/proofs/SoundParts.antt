@@ -210,7 +210,7 @@ module _ (m : ℕ) (below : Readers) (sound : Sound m below) where
   struct_has typed from is = and_yields _ _ (tag (next from)) _ (tag_has (next from)) by
     where
       by : (name : Option (List ℕ)) (mid : Input) → TagRead (next from) name mid → Yields (IsOne typed from) (struct_by m below name mid)
-      by None mid so = struct_body_has typed from mid None is (untagged (next from) mid so)
+      by None mid so = by_test _ (sees p.OpenBrace mid) _ _ (λ e. struct_body_has typed from mid None is (untagged (next from) mid so)) (λ e. tt)
       by (Some name) mid so = by_test _ (sees p.OpenBrace mid) _ _
           (λ e. struct_body_has typed from mid (Some name) is (λ _. tagged (next from) mid name so))
           (λ e. record {
@@ -224,7 +224,7 @@ module _ (m : ℕ) (below : Readers) (sound : Sound m below) where
   enum_has typed from is = and_yields _ _ (tag (next from)) _ (tag_has (next from)) by
     where
       by : (name : Option (List ℕ)) (mid : Input) → TagRead (next from) name mid → Yields (IsOne typed from) (enum_by m below name mid)
-      by None mid so = enum_body_has typed from mid None is (untagged (next from) mid so)
+      by None mid so = by_test _ (sees p.OpenBrace mid) _ _ (λ e. enum_body_has typed from mid None is (untagged (next from) mid so)) (λ e. tt)
       by (Some name) mid so = by_test _ (sees p.OpenBrace mid) _ _
           (λ e. enum_body_has typed from mid (Some name) is (λ _. tagged (next from) mid name so))
           (λ e. record {

@@ -217,7 +217,7 @@ module _ (m : ℕ) (below : Readers) (good : Good m below) where
     where
       by : {h : ℕ} {name : Option (List ℕ)} {list : List Member} {i brace_ close : Input} → ReadsTag name i brace_ → peek brace_ ≡ k.Punct p.OpenBrace
           → ReadsMembers h list (next brace_) close → peek close ≡ k.Punct p.CloseBrace → Answers m h (s.Struct name list) (next close) (struct_by m below name brace_)
-      by (g.tag_none {from = i} is) so list close = struct_read None i so list close
+      by (g.tag_none {from = i} is) so list close = rw (sees-same p.OpenBrace i so) (struct_read None i so list close)
       by (g.tag_some {from = i} is) so list close = rw (sees-same p.OpenBrace (next i) so) (struct_read (Some (text i)) (next i) so list close)
   specifier_read (g.spec_enum_tag {from = from} is so shut) =
       rw (is, tag_read (g.tag_some so), no_brace (next (next from)) shut) (typed_read (fits m (omega arith) refl))
@@ -225,7 +225,7 @@ module _ (m : ℕ) (below : Readers) (good : Good m below) where
     where
       by : {h : ℕ} {name : Option (List ℕ)} {list : List Item} {i brace_ close : Input} → ReadsTag name i brace_ → peek brace_ ≡ k.Punct p.OpenBrace
           → ReadsItems h list (next brace_) close → peek close ≡ k.Punct p.CloseBrace → Answers m h (s.Enum name list) (next close) (enum_by m below name brace_)
-      by (g.tag_none {from = i} is) so list close = enum_read None i so list close
+      by (g.tag_none {from = i} is) so list close = rw (sees-same p.OpenBrace i so) (enum_read None i so list close)
       by (g.tag_some {from = i} is) so list close = rw (sees-same p.OpenBrace (next i) so) (enum_read (Some (text i)) (next i) so list close)
 
   specifiers_on : (n d room : ℕ) (before : List Specifier) (t : Bool) {typed typedef : Bool} {h : ℕ} {list : List Specifier} {from rest : Input} → d + room ≡ m → left from ≤ n

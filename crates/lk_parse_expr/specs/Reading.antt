@@ -248,11 +248,11 @@ module _ (m : ℕ) (below : Readers) where
   enum_body tag = need 1 m >> expect p.OpenBrace >> (items >>= enum_end tag)
 
   abbrev pub struct_by : Option (List ℕ) → Parser (Found Specifier)
-  struct_by None = struct_body None
+  struct_by None = λ i. if sees p.OpenBrace i then struct_body None i else refuse i
   struct_by (Some name) = λ i. if sees p.OpenBrace i then struct_body (Some name) i else Ok (found (s.StructTag name) m, i)
 
   abbrev pub enum_by : Option (List ℕ) → Parser (Found Specifier)
-  enum_by None = enum_body None
+  enum_by None = λ i. if sees p.OpenBrace i then enum_body None i else refuse i
   enum_by (Some name) = λ i. if sees p.OpenBrace i then enum_body (Some name) i else Ok (found (s.EnumTag name) m, i)
 
   -- a specifier by its keyword or its name; with it whether a type came before what follows, and whether it is `typedef`

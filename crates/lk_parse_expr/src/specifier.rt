@@ -159,17 +159,15 @@ impl<
         ensures { Gives (spec.struct_by self.now.depth (spec.readers self.now.depth)
             tag cursor.old) result cursor.new }
     {
+        if cursor.sees(Punct::OpenBrace) {
+            return self.struct_body(cursor, tag);
+        }
         match tag {
-            None => self.struct_body(cursor, None),
-            Some(name) => {
-                if cursor.sees(Punct::OpenBrace) {
-                    return self.struct_body(cursor, Some(name));
-                }
-                Ok(Found {
-                    tree: Specifier::StructTag(name),
-                    room: self.depth,
-                })
-            }
+            None => Err(cursor.refuse()),
+            Some(name) => Ok(Found {
+                tree: Specifier::StructTag(name),
+                room: self.depth,
+            }),
         }
     }
 
@@ -179,17 +177,15 @@ impl<
         ensures { Gives (spec.enum_by self.now.depth (spec.readers self.now.depth)
             tag cursor.old) result cursor.new }
     {
+        if cursor.sees(Punct::OpenBrace) {
+            return self.enum_body(cursor, tag);
+        }
         match tag {
-            None => self.enum_body(cursor, None),
-            Some(name) => {
-                if cursor.sees(Punct::OpenBrace) {
-                    return self.enum_body(cursor, Some(name));
-                }
-                Ok(Found {
-                    tree: Specifier::EnumTag(name),
-                    room: self.depth,
-                })
-            }
+            None => Err(cursor.refuse()),
+            Some(name) => Ok(Found {
+                tree: Specifier::EnumTag(name),
+                room: self.depth,
+            }),
         }
     }
 

@@ -1,0 +1,11 @@
+use Rattle.std.proofs.Common.{◌≡◌, map, length}
+use Rattle.std.specs.Vec.Iter.{into_iter_items, into_iter_len}
+use Rattle.lk_tree.specs.Numbers as spec
+use Rattle.lk_ordinals.specs.Parts as part
+use Rattle.lk_ordinals.proofs.Rows.{behind}
+use Rattle.lk_ordinals.proofs.declaration.+initialisers.Given as goal
+
+abbrev pub invariant-entries_of-loop-one : goal.invariant-entries_of-loop-one
+invariant-entries_of-loop-one l =
+    (spec.list (map part.entry l.fn.tree) l.fn.first ≡ behind l.numbered.items (spec.list (map part.entry (into_iter_items l.one-iterator)) l.next))
+    × (into_iter_len l.one-iterator ≡ length (into_iter_items l.one-iterator))
