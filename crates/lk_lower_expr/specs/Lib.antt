@@ -3,7 +3,9 @@ pub mod Initialisers
 pub mod Library
 pub mod Names
 pub mod Naming
+pub mod Lowering
 pub mod Parts
+pub mod Statics
 pub mod Statements
 pub mod Values
 pub mod Walk
