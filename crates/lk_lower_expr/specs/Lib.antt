@@ -4,7 +4,9 @@ pub mod Library
 pub mod Names
 pub mod Naming
 pub mod Lowering
+pub mod Owned
 pub mod Parts
+pub mod Programs
 pub mod Statics
 pub mod Statements
 pub mod Values

@@ -87,10 +87,10 @@ module _ (whole : Whole) (numbers : Numbers) where
   entity_at s e = option_and_then (λ linked. slice_get linked.unit.entities e) (linked_at s)
 
   -- the source that defines an entity of the program, and its entity there
-  abbrev definition_of : (s e : ℕ) → Option (ℕ × ℕ)
+  abbrev pub definition_of : (s e : ℕ) → Option (ℕ × ℕ)
   definition_of s e = option_and_then (λ here. here.defined) (option_and_then (λ linked. entity_here linked e) (linked_at s))
 
-  abbrev root_of_entity : Option (ℕ × ℕ) → ℕ
+  abbrev pub root_of_entity : Option (ℕ × ℕ) → ℕ
   root_of_entity None = 0
   root_of_entity (Some (s, e)) = option_map_or (λ declaration. numbers.root s declaration.ordinal) (option_and_then declaration_of (entity_at s e)) 0
 
@@ -106,7 +106,7 @@ module _ (whole : Whole) (numbers : Numbers) where
   abbrev is_body_of : ℕ → Body → Bool
   is_body_of e body = nat_eq body.entity e
 
-  abbrev function_of : Option (ℕ × ℕ) → ℕ
+  abbrev pub function_of : Option (ℕ × ℕ) → ℕ
   function_of None = 0
   function_of (Some (s, e)) = numbers.function s (option_map_or (λ linked. place_in (is_body_of e) linked.unit.bodies) (linked_at s) 0)
 
