@@ -47,7 +47,6 @@ pub step_slot : (names : Names) (node : Node) (operator : StepOperator) (change 
 unfolding step_part
 step_slot names node operator change a t = of_both slot_in None (nat_eq a.node.type t) _ _ (of_both slot_in None _ _ _ refl refl) refl
 
-
 pub choice_at : (names : Names) (e c a b : TypedExpr) → e.form ≡ form.Choice c a b → None ≡ (part names e).slot
 choice_at names e c a b is = sym (ap slot_in (as_form names e (form.Choice c a b) _ is (of_Choice names c a b)) ∙ choice_slot names _ _ _ _)
 

@@ -133,4 +133,3 @@ of_Discard names a = ap (form_part names) (sym (form.rolls-Discard a)) ∙ fold-
 pub of_Null : (names : Names) → form_part names form.Null ≡ (λ node. rules.null_part names node)
 unfolding part form_part
 of_Null names = ap (form_part names) (sym form.rolls-Null) ∙ fold-roll-TypedForm Called (Node → Part) (Node → Part) Part (of_callee names) (of_form names) (of_library names) (of_expr names) TypedForm-F.Null
-
