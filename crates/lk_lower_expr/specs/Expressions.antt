@@ -7,16 +7,17 @@ use Rattle.lk_lower_expr.specs.Names.{Names, Node}
 use Rattle.lk_lower_expr.specs.Parts as parts
 use Rattle.lk_lower_expr.specs.Parts.{Part}
 use Rattle.lk_lower_expr.specs.Values as rules
-use Rattle.lk_typed.specs.declared.expression.Callee.TheFolds.{fold-TypedExpr}
+use Rattle.lk_typed.specs.declared.expression.Callee.TheFolds.{fold-TypedExpr, fold-TypedForm}
 use Rattle.lk_typed.specs.declared.expression.Callee.TheOpen.{Callee-F, TypedForm-F, LibraryCall-F, TypedExpr-F}
 use Rattle.lk_typed.specs.declared.expression.TypedExpr.{TypedExpr}
+use Rattle.lk_typed.specs.declared.expression.TypedForm.{TypedForm}
 
 module _ (names : Names) where
-  abbrev of_callee : Callee-F Called (Node → Part) (Node → Part) Part → Called
+  abbrev pub of_callee : Callee-F Called (Node → Part) (Node → Part) Part → Called
   of_callee (Callee-F.Callee::Function entity) = by_name entity
   of_callee (Callee-F.Pointer a) = by_pointer a
 
-  abbrev of_library : LibraryCall-F Called (Node → Part) (Node → Part) Part → Node → Part
+  abbrev pub of_library : LibraryCall-F Called (Node → Part) (Node → Part) Part → Node → Part
   of_library (LibraryCall-F.Create id entity argument) node = calls.create_part names node id entity argument
   of_library (LibraryCall-F.Join a) node = calls.on_one names node does.Join a
   of_library (LibraryCall-F.Detach a) node = calls.on_one names node does.Detach a
@@ -36,7 +37,7 @@ module _ (names : Names) where
   of_library (LibraryCall-F.Print format args) node = calls.print_part names node format args
   of_library (LibraryCall-F.Compute args) node = calls.compute_part names node args
 
-  abbrev of_form : TypedForm-F Called (Node → Part) (Node → Part) Part → Node → Part
+  abbrev pub of_form : TypedForm-F Called (Node → Part) (Node → Part) Part → Node → Part
   of_form (TypedForm-F.Object storage) node = rules.object_part names node storage
   of_form (TypedForm-F.Slot local) node = parts.slot_part names node (names.slot local)
   of_form (TypedForm-F.Text bytes) node = rules.text_part names node
@@ -67,8 +68,12 @@ module _ (names : Names) where
   of_form (TypedForm-F.Discard a) node = parts.stands_for names node a
   of_form TypedForm-F.Null node = rules.null_part names node
 
-  abbrev of_expr : TypedExpr-F Called (Node → Part) (Node → Part) Part → Part
+  abbrev pub of_expr : TypedExpr-F Called (Node → Part) (Node → Part) Part → Part
   of_expr e = e.form (record { ordinal = e.ordinal; spot = e.spot; type = e.ty })
 
   unfoldable pub part : TypedExpr → Part
   part = fold-TypedExpr Called (Node → Part) (Node → Part) Part of_callee of_form of_library of_expr
+
+  -- the same of a form, by its node
+  unfoldable pub form_part : TypedForm → Node → Part
+  form_part = fold-TypedForm Called (Node → Part) (Node → Part) Part of_callee of_form of_library of_expr

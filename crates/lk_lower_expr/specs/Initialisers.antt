@@ -24,6 +24,16 @@ use Rattle.lk_types.specs.Predeclared.{kind_id}
 abbrev Deed : Type 0
 Deed = Action × Option ℕ
 
+-- what a scalar part begins with: the value of an expression, the byte of a text, or the state of an initialiser word
+pub data Begins : Type 0 where
+  by_value : Part → Begins
+  by_byte : (text k byte : ℕ) → Begins
+  ready : Begins
+
+pub record Entry : Type 0 where
+  pub path : List CellStep
+  pub begins : Begins
+
 module _ (names : Names) where
   -- these steps of a node, the first of them the step `k`: each leads to the next, the last to `to`
   abbrev pub numbered : Node → (k : ℕ) → List Deed → (to : ℕ) → List Step
@@ -49,16 +59,6 @@ module _ (names : Names) where
   abbrev last_from : ℕ → ℕ → ℕ
   last_from k zero = k
   last_from k (suc count) = k + count
-
-  -- what a scalar part begins with: the value of an expression, the byte of a text, or the state of an initialiser word
-  pub data Begins : Type 0 where
-    by_value : Part → Begins
-    by_byte : (text k byte : ℕ) → Begins
-    ready : Begins
-
-  pub record Entry : Type 0 where
-    pub path : List CellStep
-    pub begins : Begins
 
   -- the bytes of a text go to the elements of an array, the first of these to the element `i`
   abbrev bytes_to : List CellStep → (text i : ℕ) → List ℕ → List Entry
@@ -90,7 +90,7 @@ module _ (names : Names) where
   entry_count node root entry = suc (length (way_to node root 0 entry.path))
 
   -- the step of the node that settles an entry whose first step is `k`
-  abbrev settling : Node → (root k : ℕ) → Entry → ℕ
+  abbrev pub settling : Node → (root k : ℕ) → Entry → ℕ
   settling node root k entry = k + length (way_to node root k entry.path)
 
   -- the steps of an entry at the declared name, the first of them the step `k`
@@ -111,6 +111,10 @@ module _ (names : Names) where
   abbrev pub entries_count : Node → ℕ → List Entry → ℕ
   entries_count node root [] = 0
   entries_count node root (entry ∷ others) = entry_count node root entry + entries_count node root others
+
+  -- the step behind those of all entries, the first of them the step `k`
+  abbrev pub past : Node → (root k : ℕ) → List Entry → ℕ
+  past node root k entries = k + entries_count node root entries
 
   -- the steps of the values, each of which leads to the step that settles its entry: those of the bytes of a text are steps of the text
   abbrev byte_steps : Node → Spot → (root text k : ℕ) → (t : ℕ) → List Entry → List Step

@@ -3,7 +3,11 @@ pub mod Initialisers
 pub mod Library
 pub mod Names
 pub mod Naming
+pub mod Lowering
+pub mod Owned
 pub mod Parts
+pub mod Programs
+pub mod Statics
 pub mod Statements
 pub mod Values
 pub mod Walk

@@ -1,5 +1,5 @@
 -- How the tables of a source say what its numbers stand for.
-use Rattle.std.specs.Prelude.{ℕ, ◌+◌, List, get_or, slice_get}
+use Rattle.std.specs.Prelude.{ℕ, ◌+◌, ◌<◌, ◌^◌, All, List, get_or, slice_get}
 use Rattle.std.specs.Option.{option_map_or}
 use Rattle.lk_base.specs.declared.cell.CellStep.{CellStep}
 use Rattle.lk_base.specs.declared.cell.CellStep.TheVariants.{Field, Index}
@@ -46,6 +46,10 @@ object_of source (Local n) = local_number source.locals n
 
 abbrev pub at_of : SourceNames → ℕ → ℕ → ℕ
 at_of source node step = get_or source.bases node 0 + step
+
+-- no point has a number from 2 ^ 31 on
+abbrev pub AreFew : SourceNames → Type 0
+AreFew source = All (λ base. base < 2 ^ 31) source.bases
 
 -- what the numbers of a source stand for
 abbrev pub names_of : Table → SourceNames → Names

@@ -139,7 +139,7 @@ module _ (names : Names) where
   choice_of (Function result params dots) = value_choice
   choice_of (Opaque n) = value_choice
 
-  abbrev pub choice_part : Node → Part → Part → Part → Part
+  unfoldable pub choice_part : Node → Part → Part → Part → Part
   choice_part node = choice_of (names.form node.type) node
 
   -- ---- assignments (C99 6.5.16, 6.5.2.4, 6.5.3.1): the value is that which is written
@@ -187,7 +187,7 @@ module _ (names : Names) where
         inside = λ on. in_turn (parts.place_of names a.slot a) (at o 0) then goes b (at o 1);
       }
 
-  abbrev pub compound_part : Node → Op → Part → Part → ℕ → Part
+  unfoldable pub compound_part : Node → Op → Part → Part → ℕ → Part
   compound_part node op a b t = if nat_eq a.node.type t then compound_alike node op a b t else compound_converted node op a b t
 
   abbrev pub operator_of : StepOperator → Op
@@ -236,7 +236,7 @@ module _ (names : Names) where
   is_pointer (Function result params dots) = false
   is_pointer (Opaque n) = false
 
-  abbrev pub step_part : Node → StepOperator → Change → Part → ℕ → Part
+  unfoldable pub step_part : Node → StepOperator → Change → Part → ℕ → Part
   step_part node operator change a t =
       if nat_eq a.node.type t
       then (if is_pointer (names.form t) || nat_eq t (kind_id IntKind) then step_plain node (operator_of operator) change a t else step_wide node (operator_of operator) change a t)

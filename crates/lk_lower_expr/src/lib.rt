@@ -3,6 +3,8 @@
 
 mod names;
 mod step;
+mod value;
 
 pub use names::{LocalNames, SourceNames};
 pub use step::{NamedStep, Step};
+pub use value::slot_of;

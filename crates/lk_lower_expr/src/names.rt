@@ -1,7 +1,7 @@
 //! What the numbers of a typed tree stand for in the program.
 
-ghost use Rattle.std.specs.Prelude.{◌≡◌};
-ghost use Rattle.lk_lower_expr.specs.Naming.{local_number};
+ghost use Rattle.std.specs.Prelude.{◌≡◌, ◌<◌, ◌^◌, IsTrue};
+ghost use Rattle.lk_lower_expr.specs.Naming.{at_of, local_number, AreFew};
 
 use lk_base::{Seq, Spot};
 use lk_types::TypeId;
@@ -37,6 +37,18 @@ pub struct SourceNames {
 }
 
 impl SourceNames {
+    /// The number of a step of a node.
+    pub fn at(&self, node: u32, step: u32) -> u32
+        requires bases { AreFew self.now }
+        requires step { step < 2 ^ 31 }
+        ensures { result ≡ at_of self.now node step }
+    {
+        match self.bases.list().get(node as usize) {
+            Some(base) => *base + step,
+            None => step,
+        }
+    }
+
     /// The slot or the root of a local; 0 past the last one.
     pub fn local_number(&self, local: u32) -> u32
         ensures { result ≡ local_number self.now.locals local }

@@ -1,0 +1,57 @@
+-- What the rules have in common that choose among several.
+use Rattle.std.proofs.Common.{sym, ap, ◌∙◌, ◌≡◌, ℕ, Bool, true, false, ◌||◌, Option, None, Some, nat_eq, refl}
+use Rattle.std.specs.Prelude.{if◌then◌else◌}
+use Rattle.lk_arith.specs.declared.operators.Op.{Op}
+use Rattle.lk_lower_expr.specs.Names.{Names, Node}
+use Rattle.lk_lower_expr.specs.Parts.{Part}
+use Rattle.lk_lower_expr.specs.Values.{choice_part, choice_of, compound_part, step_part}
+use Rattle.lk_tree.specs.declared.operators.StepOperator.{StepOperator}
+use Rattle.lk_typed.specs.declared.expression.Change.{Change}
+use Rattle.lk_lower_expr.specs.Expressions.{part}
+use Rattle.lk_lower_expr.proofs.Forms.{as_form, of_Choice, of_Compound, of_Step}
+use Rattle.lk_typed.specs.declared.expression.TypedExpr.{TypedExpr}
+use Rattle.lk_typed.specs.declared.expression.TypedForm.{TypedForm}
+use Rattle.lk_typed.specs.declared.expression.TypedForm.TheVariants as form
+use Rattle.lk_types.specs.declared.c_type.CType.{CType}
+use Rattle.lk_types.specs.declared.c_type.CType.TheVariants.{Void, Int, ThreadId, Mutex, Cond, Pointer, Array, Struct, Function, Opaque}
+
+abbrev slot_in : Part → Option ℕ
+slot_in part = part.slot
+
+-- what holds of both sides of a choice holds of the choice
+pub of_both : {A B : Type 0} (f : A → B) (b : B) (test : Bool) (x y : A) → f x ≡ b → f y ≡ b → f (if test then x else y) ≡ b
+of_both f b true x y left right = left
+of_both f b false x y left right = right
+
+pub choice_slot_of : (names : Names) (form : CType) (node : Node) (c a b : Part) → (choice_of names form node c a b).slot ≡ None
+choice_slot_of names Void node c a b = refl
+choice_slot_of names (Int k) node c a b = refl
+choice_slot_of names ThreadId node c a b = refl
+choice_slot_of names Mutex node c a b = refl
+choice_slot_of names Cond node c a b = refl
+choice_slot_of names (Pointer t) node c a b = refl
+choice_slot_of names (Array t n) node c a b = refl
+choice_slot_of names (Struct s) node c a b = refl
+choice_slot_of names (Function result params dots) node c a b = refl
+choice_slot_of names (Opaque n) node c a b = refl
+
+pub choice_slot : (names : Names) (node : Node) (c a b : Part) → (choice_part names node c a b).slot ≡ None
+unfolding choice_part
+choice_slot names node c a b = choice_slot_of names (names.form node.type) node c a b
+
+pub compound_slot : (names : Names) (node : Node) (op : Op) (a b : Part) (t : ℕ) → (compound_part names node op a b t).slot ≡ None
+unfolding compound_part
+compound_slot names node op a b t = of_both slot_in None (nat_eq a.node.type t) _ _ refl refl
+
+pub step_slot : (names : Names) (node : Node) (operator : StepOperator) (change : Change) (a : Part) (t : ℕ) → (step_part names node operator change a t).slot ≡ None
+unfolding step_part
+step_slot names node operator change a t = of_both slot_in None (nat_eq a.node.type t) _ _ (of_both slot_in None _ _ _ refl refl) refl
+
+pub choice_at : (names : Names) (e c a b : TypedExpr) → e.form ≡ form.Choice c a b → None ≡ (part names e).slot
+choice_at names e c a b is = sym (ap slot_in (as_form names e (form.Choice c a b) _ is (of_Choice names c a b)) ∙ choice_slot names _ _ _ _)
+
+pub compound_at : (names : Names) (e a b : TypedExpr) (op : Op) (t : ℕ) → e.form ≡ form.Compound op a b t → None ≡ (part names e).slot
+compound_at names e a b op t is = sym (ap slot_in (as_form names e (form.Compound op a b t) _ is (of_Compound names op a b t)) ∙ compound_slot names _ _ _ _ _)
+
+pub step_at : (names : Names) (e a : TypedExpr) (operator : StepOperator) (change : Change) (t : ℕ) → e.form ≡ form.Step operator change a t → None ≡ (part names e).slot
+step_at names e a operator change t is = sym (ap slot_in (as_form names e (form.Step operator change a t) _ is (of_Step names operator change a t)) ∙ step_slot names _ _ _ _ _)

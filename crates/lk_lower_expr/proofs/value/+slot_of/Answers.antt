@@ -1,0 +1,11 @@
+use Rattle.lk_lower_expr.proofs.Chosen.{choice_at, compound_at, step_at}
+use Rattle.lk_lower_expr.proofs.value.+slot_of.Goals as goal
+
+pub returns-in-Choice : goal.returns-in-Choice
+returns-in-Choice t c = choice_at _ _ _ _ _ c.in-Choice.is
+
+pub returns-in-Compound : goal.returns-in-Compound
+returns-in-Compound t c = compound_at _ _ _ _ _ _ c.in-Compound.is
+
+pub returns-in-Step : goal.returns-in-Step
+returns-in-Step t c = step_at _ _ _ _ _ _ c.in-Step.is
