@@ -227,6 +227,12 @@ count_of n = if is_value kind.ULong n then Some (unsigned_abs n) else None
 abbrev pub allocates_many : Program → State → ℕ → ℕ → ℕ → Bool → Option Value → Option Change
 allocates_many program s p w r zero v = option_and_then (λ n. allocates program s p w r zero n (Index 0 ∷ [])) (option_and_then count_of (number_in v))
 
+-- one object, or as many elements as an operand says (C99 7.20.3)
+abbrev pub allocates_by : Program → State → Thread → ℕ → ℕ → Bool → Option ℕ → Option Change
+allocates_by program s thread w r zero None = allocates program s thread.frame.point w r zero 1 []
+allocates_by program s thread w r zero (Some a) =
+    allocates_many program s thread.frame.point w r zero (operand thread a)
+
 -- frees the object of a pointer, and does nothing on null (C99 7.20.3.2)
 abbrev pub frees : Program → ℕ → Option Value → Option Change
 frees program p None = None
@@ -270,6 +276,11 @@ enters_through program thread a args = option_and_then (λ f. enters program thr
 
 abbrev pub returns_value : Program → ℕ → Thread → ℕ → Option Change
 returns_value program t thread a = option_and_then (λ v. returns program t thread (Some v)) (operand thread a)
+
+-- returns, with the value of an operand where there is one (C99 6.8.6.4)
+abbrev pub returns_by : Program → ℕ → Thread → Option ℕ → Option Change
+returns_by program t thread None = returns program t thread None
+returns_by program t thread (Some a) = returns_value program t thread a
 
 abbrev pub joins : Program → ℕ → Option Value → Option Change
 joins program p v = succeeds program p (option_map effect.Join (thread_in v))
@@ -366,6 +377,28 @@ abbrev pub computes : Program → Thread → ℕ → List ℕ → ℕ → Bool �
 computes program thread w args ty true = gives program thread.frame.point (ids_equal (map (operand thread) args))
 computes program thread w args ty false = goes program thread.frame.point 0 (by_word program w (Some ty)) effect.Nothing
 
+abbrev pub stores_id : Program → State → Thread → ℕ → Option Change
+stores_id program s thread a =
+    changes program thread.frame.point (value_put s (operand thread a) (Some (Id thread.frame.created)))
+
+abbrev pub locks : Program → State → ℕ → Thread → ℕ → Option Change
+locks program s t thread a =
+    succeeds program thread.frame.point (mutex_made program s (operand thread a) (mutex.Owned t))
+
+abbrev pub retakes : Program → State → ℕ → Thread → ℕ → Option Change
+retakes program s t thread a =
+    changes program thread.frame.point (mutex_made program s (operand thread a) (mutex.Owned t))
+
+abbrev pub unlocks : Program → State → Thread → ℕ → Option Change
+unlocks program s thread a =
+    succeeds program thread.frame.point (mutex_made program s (operand thread a) mutex.Free)
+
+abbrev pub initialises : Program → State → Thread → ℕ → Option Change
+initialises program s thread a = succeeds program thread.frame.point (made_ready program s (operand thread a))
+
+abbrev pub destroys : Program → State → Thread → ℕ → Option Change
+destroys program s thread a = succeeds program thread.frame.point (made_unready program s (operand thread a))
+
 abbrev pub releases_by : Program → State → Thread → ℕ → ℕ → Option Change
 releases_by program s thread c a = releases program s thread.frame.point (operand thread c) (operand thread a)
 
@@ -400,23 +433,21 @@ module _ (program : Program) (s : State) (t : ℕ) (thread : Thread) (w : ℕ) w
   change does.Skip = changes program p (Some effect.Nothing)
   change (does.Call f args) = enters program thread f args
   change (does.PointerCall a args) = enters_through program thread a args
-  change (does.Return None) = returns program t thread None
-  change (does.Return (Some a)) = returns_value program t thread a
+  change (does.Return a) = returns_by program t thread a
   change (does.Create f a) = option_and_then (begins program p w f) (value a)
-  change (does.StoreId a) = changes program p (value_put s (value a) (Some (Id thread.frame.created)))
+  change (does.StoreId a) = stores_id program s thread a
   change (does.Join a) = joins program p (value a)
   change (does.Detach a) = detaches program p (value a)
   change does.ExitThread = Some EndThread
   change does.ExitProcess = Some EndProcess
-  change (does.Lock a) = succeeds program p (mutex_made program s (value a) (mutex.Owned t))
-  change (does.Unlock a) = succeeds program p (mutex_made program s (value a) mutex.Free)
+  change (does.Lock a) = locks program s t thread a
+  change (does.Unlock a) = unlocks program s thread a
   change (does.Release c a) = releases_by program s thread c a
-  change (does.Retake a) = changes program p (mutex_made program s (value a) (mutex.Owned t))
-  change (does.Init a) = succeeds program p (made_ready program s (value a))
-  change (does.Destroy a) = succeeds program p (made_unready program s (value a))
+  change (does.Retake a) = retakes program s t thread a
+  change (does.Init a) = initialises program s thread a
+  change (does.Destroy a) = destroys program s thread a
   change (does.Signal a) = signals program s p (value a)
-  change (does.Allocate ty None zero r) = allocates program s p w r zero 1 []
-  change (does.Allocate ty (Some a) zero r) = allocates_many program s p w r zero (value a)
+  change (does.Allocate ty count zero r) = allocates_by program s thread w r zero count
   change (does.Free a) = frees program p (value a)
   change (does.Scan a) = scans program s p w (current thread a)
   change (does.Fill a place named) = fills program s p named (current thread a)

@@ -2,18 +2,20 @@
 ghost use Rattle.std.specs.Prelude.{◌≡◌, ◌<◌, ◌^◌, IfOk, length};
 ghost use Rattle.lk_change.specs.Changes as spec;
 
+use crate::accesses::{reads, scans_current, slot_given, slot_put, stores_id, writes};
+use crate::births::{allocates_by, frees};
+use crate::calls::{branched, enters, enters_through, returns_by, switched};
 use crate::change::{Change, Effect};
-use crate::changes::{
-    allocates, allocates_many, begins_with, branched, changes, computes, converted, copied,
-    detaches, enters, enters_through, frees, gives, gives_binary, index_of, joins, made_ready,
-    made_unready, member_of, mutex_made, number_of_type, pointer_to_root, releases_by, returns,
-    returns_value, scans, signals, slot_put, succeeds, switched, unary_value, value_put, writes,
-};
-use crate::fills::fills;
+use crate::fills::fills_current;
+use crate::going::{changes, gives};
+use crate::locks::{destroys, initialises, locks, releases_by, retakes, signals, unlocks};
+use crate::numbers::{computes, gives_binary, gives_converted, number_of_type, unary_value};
+use crate::pointers::{gives_element, gives_member, gives_root};
+use crate::threads::{begins_with, detaches, joins};
 use lk_base::NoMemory;
-use lk_cells::{State, Thread, current, operand, value_through};
+use lk_cells::{State, Thread, operand};
 use lk_facts::{Action, Points};
-use lk_values::{Mutex, Path, Value};
+use lk_values::Value;
 use std::alloc::Global;
 
 /// What the step of an action does, where no cause makes it undefined and it doesn't wait. There is nothing where an operand
@@ -31,160 +33,53 @@ pub fn change_of(
     ensures { IfOk result (λ change. change ≡ spec.change points.now state.now t thread.now word action.now) }
 {
     let frame = &thread.frame;
-    let point = frame.point;
+    let at = frame.point;
     match action {
-        Action::Value { number, ty } => Ok(gives(
-            points,
-            point,
-            number_of_type(points, *ty, *number),
-        )),
-        Action::Null { .. } => Ok(gives(points, point, Some(Value::Null))),
-        Action::Func { function } => Ok(gives(points, point, Some(Value::Function(*function)))),
-        Action::SelfId => Ok(gives(points, point, Some(Value::Thread(Some(t))))),
-        Action::Root(root) | Action::Text(root) => {
-            let pointer = pointer_to_root(alloc, points, state, frame, *root);
-            Ok(gives(points, point, pointer))
+        Action::Value { number, ty } => Ok(gives(points, at, number_of_type(points, *ty, *number))),
+        Action::Null { .. } => Ok(gives(points, at, Some(Value::Null))),
+        Action::Func { function } => Ok(gives(points, at, Some(Value::Function(*function)))),
+        Action::SelfId => Ok(gives(points, at, Some(Value::Thread(Some(t))))),
+        Action::Root(r) | Action::Text(r) => Ok(gives_root(alloc, points, state, frame, *r)),
+        Action::Field { a, member } => gives_member(points, state, thread, *a, *member),
+        Action::Index { a, b, into } => gives_element(points, state, thread, *a, *b, *into),
+        Action::Read { a, .. } => reads(points, state, thread, *a),
+        Action::Write { a, b, .. } => writes(points, state, thread, *a, *b),
+        Action::SlotRead(slot) => slot_given(points, frame, *slot),
+        Action::SlotWrite { slot, a } => slot_put(points, at, *slot, operand(frame, *a)),
+        Action::Unary { op, a } => Ok(gives(points, at, unary_value(*op, operand(frame, *a)))),
+        Action::Binary { op, a, b } => gives_binary(points, state, thread, *op, *a, *b),
+        Action::Compute { args, ty, equal } => {
+            let args = args.list();
+            Ok(computes(points, thread, word, args, *ty, *equal))
         }
-        Action::Field { a, member } => {
-            let pointer = member_of(state, operand(frame, *a), *member)?;
-            Ok(gives(points, point, pointer))
-        }
-        Action::Index { a, b, into } => {
-            let pointer = index_of(points, state, *into, operand(frame, *a), operand(frame, *b))?;
-            Ok(gives(points, point, pointer))
-        }
-        Action::Read { a, .. } => {
-            let value = value_through(points.types(), state, operand(frame, *a))?;
-            Ok(gives(points, point, value))
-        }
-        Action::Write { a, b, .. } => {
-            let change = writes(points, state, thread, *a, *b)?;
-            Ok(change)
-        }
-        Action::SlotRead(slot) => {
-            let value = copied(frame.slots.get(*slot as usize))?;
-            Ok(gives(points, point, value))
-        }
-        Action::SlotWrite { slot, a } => {
-            let change = slot_put(points, point, *slot, operand(frame, *a))?;
-            Ok(change)
-        }
-        Action::Unary { op, a } => Ok(gives(points, point, unary_value(*op, operand(frame, *a)))),
-        Action::Binary { op, a, b } => {
-            let change = gives_binary(points, state, thread, *op, *a, *b)?;
-            Ok(change)
-        }
-        Action::Compute { args, ty, equal } => Ok(computes(
-            points,
-            thread,
-            word,
-            args.list(),
-            *ty,
-            *equal,
-        )),
-        Action::Convert { a, ty } => {
-            let value = converted(points, state, *a, *ty, operand(frame, *a))?;
-            Ok(gives(points, point, value))
-        }
-        Action::Branch(a) => Ok(branched(points, point, operand(frame, *a))),
-        Action::Switch { a, cases } => Ok(switched(
-            points,
-            point,
-            operand(frame, *a),
-            cases.list(),
-        )),
-        Action::Skip => Ok(changes(points, point, Some(Effect::Nothing))),
-        Action::Call { function, args } => {
-            let change = enters(alloc, points, thread, *function, args.list())?;
-            Ok(change)
-        }
-        Action::PointerCall { a, args } => {
-            let change = enters_through(alloc, points, thread, *a, args.list())?;
-            Ok(change)
-        }
-        Action::Return(None) => Ok(returns(points, t, thread, None)),
-        Action::Return(Some(a)) => {
-            let change = returns_value(points, t, thread, *a)?;
-            Ok(change)
-        }
-        Action::Create { function, a } => {
-            let change = begins_with(alloc, points, point, word, *function, operand(frame, *a))?;
-            Ok(change)
-        }
-        Action::StoreId(a) => {
-            let effect = value_put(
-                state,
-                operand(frame, *a),
-                Some(Value::Thread(frame.created)),
-            )?;
-            Ok(changes(points, point, effect))
-        }
-        Action::Join(a) => Ok(joins(points, point, operand(frame, *a))),
-        Action::Detach(a) => Ok(detaches(points, point, operand(frame, *a))),
+        Action::Convert { a, ty } => gives_converted(points, state, thread, *a, *ty),
+        Action::Branch(a) => Ok(branched(points, at, operand(frame, *a))),
+        Action::Switch { a, cases } => Ok(switched(points, at, operand(frame, *a), cases.list())),
+        Action::Skip => Ok(changes(points, at, Some(Effect::Nothing))),
+        Action::Call { function, args } => enters(alloc, points, thread, *function, args.list()),
+        Action::PointerCall { a, args } => enters_through(alloc, points, thread, *a, args.list()),
+        Action::Return(a) => returns_by(points, t, thread, *a),
+        Action::Create { function, a } => begins_with(alloc, points, thread, word, *function, *a),
+        Action::StoreId(a) => stores_id(points, state, thread, *a),
+        Action::Join(a) => Ok(joins(points, at, operand(frame, *a))),
+        Action::Detach(a) => Ok(detaches(points, at, operand(frame, *a))),
         Action::ExitThread => Ok(Some(Change::EndThread)),
         Action::ExitProcess => Ok(Some(Change::EndProcess)),
-        Action::Lock(a) => {
-            let effect = mutex_made(points, state, operand(frame, *a), Mutex::Owned(t))?;
-            Ok(succeeds(points, point, effect))
-        }
-        Action::Unlock(a) => {
-            let effect = mutex_made(points, state, operand(frame, *a), Mutex::Free)?;
-            Ok(succeeds(points, point, effect))
-        }
-        Action::Release { cond, mutex } => {
-            let change = releases_by(points, state, thread, *cond, *mutex)?;
-            Ok(change)
-        }
-        Action::Retake(a) => {
-            let effect = mutex_made(points, state, operand(frame, *a), Mutex::Owned(t))?;
-            Ok(changes(points, point, effect))
-        }
-        Action::Init(a) => {
-            let effect = made_ready(points, state, operand(frame, *a))?;
-            Ok(succeeds(points, point, effect))
-        }
-        Action::Destroy(a) => {
-            let effect = made_unready(points, state, operand(frame, *a))?;
-            Ok(succeeds(points, point, effect))
-        }
-        Action::Signal(a) => Ok(signals(points, state, point, operand(frame, *a))),
+        Action::Lock(a) => locks(points, state, t, thread, *a),
+        Action::Unlock(a) => unlocks(points, state, thread, *a),
+        Action::Release { cond, mutex } => releases_by(points, state, thread, *cond, *mutex),
+        Action::Retake(a) => retakes(points, state, t, thread, *a),
+        Action::Init(a) => initialises(points, state, thread, *a),
+        Action::Destroy(a) => destroys(points, state, thread, *a),
+        Action::Signal(a) => Ok(signals(points, state, at, operand(frame, *a))),
         Action::Allocate {
-            count: None,
+            count,
             zero,
             root,
             ..
-        } => {
-            let whole = Path::empty(alloc);
-            Ok(allocates(points, state, point, word, *root, *zero, 1, whole))
-        }
-        Action::Allocate {
-            count: Some(a),
-            zero,
-            root,
-            ..
-        } => {
-            let change = allocates_many(
-                alloc,
-                points,
-                state,
-                point,
-                word,
-                *root,
-                *zero,
-                operand(frame, *a),
-            )?;
-            Ok(change)
-        }
-        Action::Free(a) => Ok(frees(points, point, operand(frame, *a))),
-        Action::Scan(a) => {
-            let value = current(thread, *a)?;
-            let change = scans(points, state, point, word, value.as_ref())?;
-            Ok(change)
-        }
-        Action::Fill { a, named, .. } => {
-            let value = current(thread, *a)?;
-            let change = fills(points, state, point, named.list(), value.as_ref())?;
-            Ok(change)
-        }
+        } => { allocates_by(alloc, points, state, thread, word, *root, *zero, *count) }
+        Action::Free(a) => Ok(frees(points, at, operand(frame, *a))),
+        Action::Scan(a) => scans_current(points, state, thread, word, *a),
+        Action::Fill { a, named, .. } => fills_current(points, state, thread, named.list(), *a),
     }
 }

@@ -1,14 +1,16 @@
 //! How an initialiser fills the cells that it doesn't name.
 ghost use Rattle.std.specs.Prelude.{◌≡◌, ◌<◌, ◌+◌, ◌++◌, ◌∷◌, IfOk, IfSome, length, map, take, drop};
 ghost use Rattle.std.specs.Option.{option_copied, option_map, option_or};
+ghost use Rattle.lk_cells.specs.Operands as of_operand;
 ghost use Rattle.lk_change.specs.Changes as spec;
 
 use crate::change::{Change, Effect};
-use crate::changes::{changes, copied_part, stays_on};
+use crate::copies::copied_part;
+use crate::going::{changes, stays_on};
 use lk_base::{CellStep, NoMemory, Seq};
 use lk_cells::{
-    CellKind, Object, State, elements_of, form_of, form_through, kind_through, object_at, part_at,
-    part_of, zero_of,
+    CellKind, Object, State, Thread, current, elements_of, form_of, form_through, kind_through,
+    object_at, part_at, part_of, zero_of,
 };
 use lk_facts::Points;
 use lk_types::{TypeId, TypeTable};
@@ -58,7 +60,8 @@ fn newer(
 
 /// The last step of a path that leads to an element after which another one stands: its place, and the step to that one.
 fn last_turn(types: &TypeTable, object: &Object, steps: &[CellStep]) -> Option<(usize, CellStep)>
-    ensures value { spec.next_path types.now object.now.length steps.now object.now.ty ≡ spec.path_counted steps.now result }
+    ensures value { spec.next_path types.now object.now.length steps.now object.now.ty ≡
+        spec.path_counted steps.now result }
     ensures in_range { IfSome result (λ turn. turn.0 < length steps.now) }
 {
     let mut reached = object.ty;
@@ -78,7 +81,8 @@ fn last_turn(types: &TypeTable, object: &Object, steps: &[CellStep]) -> Option<(
 /// The path with another step at a place, and after it the first elements.
 fn counted(path: &Path, place: usize, next: CellStep) -> Result<Path, NoMemory>
     requires { place < length path.now }
-    ensures { IfOk result (λ counted. counted ≡ take place path.now ++ next ∷ map spec.first_index (drop (place + 1) path.now)) }
+    ensures { IfOk result (λ counted. counted ≡
+        take place path.now ++ next ∷ map spec.first_index (drop (place + 1) path.now)) }
 {
     let mut counted = path.turned(place, next)?;
     for step in &path.list()[place + 1..] {
@@ -119,7 +123,8 @@ fn next_absent(
     named: &[Seq<CellStep>],
     path: &Path,
 ) -> Result<Option<Path>, NoMemory>
-    ensures { IfOk result (λ next. next ≡ spec.next_absent types.now object.now.length object.now.ty named.now named.now path.now) }
+    ensures { IfOk result (λ next. next ≡
+        spec.next_absent types.now object.now.length object.now.ty named.now named.now path.now) }
 {
     let mut at = path.copy()?;
     for _one in named {
@@ -181,7 +186,8 @@ fn absent_through(
     named: &[Seq<CellStep>],
     value: Option<&Value>,
 ) -> Result<Option<Pointer>, NoMemory>
-    ensures { IfOk result (λ next. next ≡ spec.absent_through points.now state.now named.now (option_copied value.entry)) }
+    ensures { IfOk result (λ next. next ≡
+        spec.absent_through points.now state.now named.now (option_copied value.entry)) }
 {
     match part_of(state, value) {
         Some(part) => {
@@ -193,14 +199,15 @@ fn absent_through(
 }
 
 /// Fills a cell, and stays with the next absent one, or goes on where none is left (C99 6.7.8).
-pub(crate) fn fills(
+fn fills(
     points: &Points,
     state: &State,
     point: u32,
     named: &[Seq<CellStep>],
     value: Option<&Value>,
 ) -> Result<Option<Change>, NoMemory>
-    ensures { IfOk result (λ change. change ≡ spec.fills points.now state.now point named.now (option_copied value.entry)) }
+    ensures { IfOk result (λ change. change ≡
+        spec.fills points.now state.now point named.now (option_copied value.entry)) }
 {
     let Some(effect) = filled(points, state, value)? else {
         return Ok(None);
@@ -209,4 +216,20 @@ pub(crate) fn fills(
         Some(next) => Ok(stays_on(next, effect)),
         None => Ok(changes(points, point, Some(effect))),
     }
+}
+
+/// Fills a cell, from the cell on at which the point stands.
+pub(crate) fn fills_current(
+    points: &Points,
+    state: &State,
+    thread: &Thread,
+    named: &[Seq<CellStep>],
+    a: u32,
+) -> Result<Option<Change>, NoMemory>
+    ensures { IfOk result (λ change. change ≡ spec.fills points.now state.now thread.now.frame.point
+        named.now (of_operand.current thread.now a)) }
+{
+    let value = current(thread, a)?;
+    let change = fills(points, state, thread.frame.point, named, value.as_ref())?;
+    Ok(change)
 }
