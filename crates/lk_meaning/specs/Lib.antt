@@ -1,2 +1,9 @@
+pub mod After
 pub mod Decisions
+pub mod Full
+pub mod Laws
+pub mod Locations
+pub mod Reached
 pub mod Runs
+pub mod Stepping
+pub mod Steps

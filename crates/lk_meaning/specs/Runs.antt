@@ -1,6 +1,6 @@
 -- Runs, and what threads touch next (C99 5.1.2.3; POSIX Base Definitions 4.11).
-use Rattle.std.specs.Prelude.{◌≡◌, ◌≢◌, ℕ, Bool, true, false, List, [], ◌∷◌, ◌++◌, Option, None, Some, ◌⊎◌, slice_get, option_and_then, if◌then◌else◌, ◌||◌, IsTrue}
-use Rattle.std.specs.Option.{option_map, option_map_or}
+use Rattle.std.specs.Prelude.{◌≡◌, ◌≢◌, ℕ, Bool, true, false, Option, None, Some, slice_get, option_and_then, if◌then◌else◌, ◌||◌, IsTrue}
+use Rattle.std.specs.Option.{option_map}
 use Rattle.lk_facts.specs.Program.{action_at}
 use Rattle.lk_facts.specs.declared.action.Action.{Action}
 use Rattle.lk_facts.specs.declared.action.Action.TheVariants as does
@@ -64,13 +64,13 @@ module _ (s : State) (thread : Thread) where
   touched_by (does.Scan a) = through_current s thread a false
   touched_by (does.Fill a place named) = through_current s thread a true
 
--- Touch: the cell that the point of the thread t reads or writes next, and whether it writes. There is none where the thread or the
--- process has ended.
+-- Touch: the cell that the point of the thread t reads or writes next, and whether it writes. There is none where the thread isn't
+-- there, or it or the process has ended, or the operand leads to no part of an object that lives.
 abbrev pub touch : Program → State → ℕ → Option Touched
 touch program s t =
     option_and_then (λ thread. if thread.ended || s.ended then None else option_and_then (touched_by s thread) (action_at program thread.frame.point)) (slice_get s.threads t)
 
--- Race: two threads are about to touch one cell of an object that lives, and one of them is to write it
+-- Race: two threads are about to touch one cell of an object that lives, and one of them is to write it (POSIX Base Definitions 4.11)
 pub record Race (program : Program) (s : State) (c : Cell) : Type 0 where
   pub lives : IsTrue (places.lives s c.object)
   pub first : ℕ

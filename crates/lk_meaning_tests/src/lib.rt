@@ -3,8 +3,14 @@
 #![tactic(auto)]
 
 #[cfg(test)]
+mod acts;
+#[cfg(test)]
 mod cells;
 #[cfg(test)]
+mod machine;
+#[cfg(test)]
 mod scenes;
+#[cfg(test)]
+mod steps;
 #[cfg(test)]
 mod values;

@@ -1,6 +1,6 @@
 //! Paths, cells, pointers, tables and causes by themselves.
 
-use lk_base::{CellStep, Kind};
+use lk_base::{CellStep, Kind, NoMemory};
 use lk_values::{Cell, Mutex, Path, Pointer, Table, Value, Why, either, put_both};
 use std::alloc::Global;
 use std::test::Fail;
@@ -8,9 +8,8 @@ use std::test::Fail;
 const FIRST: CellStep = CellStep::Field(1);
 
 /// The path through a member to the element 2.
-fn element(alloc: Global) -> Result<Path, Fail> {
-    let path = Path::of(alloc, &[FIRST, CellStep::Index(2)])?;
-    Ok(path)
+fn element(alloc: Global) -> Result<Path, NoMemory> {
+    Path::of(alloc, &[FIRST, CellStep::Index(2)])
 }
 
 #[test]
