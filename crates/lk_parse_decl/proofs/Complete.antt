@@ -12,7 +12,7 @@ use Rattle.lk_tree.specs.declared.declaration.Designator.{Designator}
 use Rattle.lk_tree.specs.declared.expression.Declarator.{Declarator}
 use Rattle.lk_parse_expr.specs.declared.found.Found.{Found}
 use Rattle.lk_parse_expr.specs.declared.naming.Head.{Head}
-use Rattle.lk_parse_expr.specs.Input.{Input, peek, next}
+use Rattle.lk_parse_expr.specs.Input.{Input, peek, here, next}
 use Rattle.lk_parse_expr.specs.Words.{is_close_brace}
 use Rattle.lk_parse_expr.specs.Heads.{declare_head}
 use Rattle.lk_parse_expr.specs.Readers.{same_punct, Outcome, Parser, and_then, exhausted, sees, goes_on, found, left}
@@ -83,13 +83,13 @@ module _ (m : ℕ) (below : Parser (Found Init)) (good : InitsRead m below) wher
   each_entry = record { reads = entry_read; comma = stops_comma 1 (k.Punct p.Comma) (omega arith) refl; begins = entry_no_close; some = entry_some; behind = left-entry }
 
   braced_read : {h : ℕ} {list : List Entry} (from : Input) {close : Input} → peek from ≡ k.Punct p.OpenBrace → ReadsEntries h list (next from) close → peek close ≡ k.Punct p.CloseBrace
-      → Answers (suc m) (1 + h) (init.List (list_at from list)) (next close) (braced m below from from)
+      → Answers (suc m) (1 + h) (init.List (list_at from list)) (next close) (braced m below (here from) from)
   unfolding braced
   braced_read from {close} is list so =
       let e = entries_end list so in
       around (needs 1 from _ (entries_one list) (λ some. and_so _ (separated_read each_entry e.row e.follow e.stop) (omega arith) (λ room same. rw e.comma (expects close _ so (fits room same refl)))))
 
-  init_read : {h : ℕ} {value : Init} {from rest : Input} → ReadsInit h value from rest → stops 1 (peek rest) ≡ true → Answers (suc m) h value rest (init_from m below from from)
+  init_read : {h : ℕ} {value : Init} {from rest : Input} → ReadsInit h value from rest → stops 1 (peek rest) ≡ true → Answers (suc m) h value rest (init_from m below (here from) from)
   unfolding init_from
   init_read (g.init_expr {from = from} value) stop = rw (unseen p.OpenBrace value refl) (and_so _ ((complete (suc m)).expr value stop) (omega arith) (λ room same. fits room same refl))
   init_read (g.init_list {from = from} is entries so) stop = rw (sees-same p.OpenBrace from is) (braced_read from is entries so)
@@ -220,7 +220,7 @@ module _ (m : ℕ) (typedef : Bool) where
       let e = equal_shut mid so in
       record { depth = _; inner = _; head = head; mid = mid; reads = inner; follow = e.0; shut = e.1; within = omega arith; behind = λ room same. more_behind (valued_read _ head mid room same so value (stops_comma 1 (peek rest) (omega arith) comma)) comma others is }
 
-declare_read : (m : ℕ) {h : ℕ} {one : Declare} {from rest : Input} → ReadsDeclare h one from rest → Answers (suc m) h one rest (declare_from m from from)
+declare_read : (m : ℕ) {h : ℕ} {one : Declare} {from rest : Input} → ReadsDeclare h one from rest → Answers (suc m) h one rest (declare_from m (here from) from)
 unfolding declare_from declarators
 declare_read m (g.declare_none {rest = rest} list is) =
     around (and_so _ (specifiers_read m (readers m) (complete m) list) (omega arith) (λ room same. rw (sees-same p.Semicolon rest is) (expects rest _ is (fits (min room m) (omega arith) refl))))

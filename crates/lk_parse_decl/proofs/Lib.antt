@@ -1,3 +1,5 @@
+pub mod Levels
 pub mod Left
 pub mod Complete
 pub mod Sound
+pub mod Exactly

@@ -11,7 +11,7 @@ use Rattle.lk_tree.specs.declared.declaration.Designator.{Designator}
 use Rattle.lk_parse_expr.specs.declared.found.Found.{Found}
 use Rattle.lk_parse_expr.specs.declared.naming.Naming.TheVariants as naming
 use Rattle.lk_parse_expr.specs.declared.naming.Head.{Head}
-use Rattle.lk_parse_expr.specs.Input.{Input, peek, next}
+use Rattle.lk_parse_expr.specs.Input.{Input, peek, here, next}
 use Rattle.lk_parse_expr.specs.Words.{is_close_brace}
 use Rattle.lk_parse_expr.specs.Heads.{declare_head}
 use Rattle.lk_parse_expr.specs.Readers.{same_punct, Parser, and_then, exhausted, sees, found, left, separated, repeat}
@@ -109,16 +109,16 @@ module _ (m : ℕ) (below : Parser (Found Init)) (sound : InitsHave m below) whe
   abbrev IsInit : Input → Found Init → Input → Type 0
   IsInit from f rest = Has (suc m) (λ h value rest. ReadsInit h value from rest) f rest
 
-  braced_end_has : (from : Input) (list : Found (List Entry)) (mid : Input) → peek from ≡ k.Punct p.OpenBrace → HasRow m ReadsEntry is_close_brace (next from) list mid → Yields (IsInit from) (braced_end from list mid)
+  braced_end_has : (from : Input) (list : Found (List Entry)) (mid : Input) → peek from ≡ k.Punct p.OpenBrace → HasRow m ReadsEntry is_close_brace (next from) list mid → Yields (IsInit from) (braced_end (here from) list mid)
   unfolding comma_if_any
   braced_end_has from list mid is has = by (sees p.Comma mid) refl
     where
-      by : (b : Bool) → sees p.Comma mid ≡ b → Yields (IsInit from) (braced_end from list mid)
+      by : (b : Bool) → sees p.Comma mid ≡ b → Yields (IsInit from) (braced_end (here from) list mid)
       by true e = rw e (after_expect _ p.CloseBrace (next mid) _ (λ so.
           record { depth = _; reads = g.init_list is (row_entries_comma has.row (seen p.Comma mid e) so) so; all = (let a = has.all in omega arith) }))
       by false e = rw e (after_expect _ p.CloseBrace mid _ (λ so. record { depth = _; reads = g.init_list is (row_entries has.row) so; all = (let a = has.all in omega arith) }))
 
-  init_has : (from : Input) → Yields (IsInit from) (init_from m below from from)
+  init_has : (from : Input) → Yields (IsInit from) (init_from m below (here from) from)
   unfolding init_from braced
   init_has from = by_test _ (sees p.OpenBrace from) _ _
       (λ e. after_need _ 1 m from _ (λ some. and_yields (HasRow m ReadsEntry is_close_brace (next from)) _ (separated is_close_brace (entry m below) m (next from)) _
@@ -158,12 +158,12 @@ module _ (m : ℕ) (typedef : Bool) where
       (let a = more.all in omega arith) (seen p.Comma i e)))
       (λ e. record { depth = more.depth; reads = g.declarators_last more.reads; all = (let a = more.all in omega arith) }))
 
-declare_has : (m : ℕ) (from : Input) → Yields (Has (suc m) (λ h one rest. ReadsDeclare h one from rest)) (declare_from m from from)
+declare_has : (m : ℕ) (from : Input) → Yields (Has (suc m) (λ h one rest. ReadsDeclare h one from rest)) (declare_from m (here from) from)
 unfolding declare_from declarators
 declare_has m from = and_yields (IsList m (readers m) (sounds m) from) _ (specifiers m (readers m) from) _ (specifiers_has m (readers m) (sounds m) from) (λ first mid has. by first mid has (sees p.Semicolon mid) refl)
   where
     by : (first : Found (List Specifier × Bool)) (mid : Input) → IsList m (readers m) (sounds m) from first mid → (b : Bool) → sees p.Semicolon mid ≡ b
-        → Yields (Has (suc m) (λ h one rest. ReadsDeclare h one from rest)) (and_then (declarators m first.tree.1 mid) (declare_end from first))
+        → Yields (Has (suc m) (λ h one rest. ReadsDeclare h one from rest)) (and_then (declarators m first.tree.1 mid) (declare_end (here from) first))
     by first mid has true e = rw e (after_expect _ p.Semicolon mid _ (λ so. record { depth = _; reads = g.declare_none has.reads so; all = (let a = has.all in omega arith) }))
     by first mid has false e = rw e (and_yields (HasRow m (ReadsInitDeclarator first.tree.1) (λ _. false) mid) _ (separated (λ _. false) (init_declarator m first.tree.1) m mid) _
         (separated_has m (ReadsInitDeclarator first.tree.1) (λ _. false) (init_declarator m first.tree.1) (init_declarator_has m first.tree.1) mid) (λ list i more. after_expect _ p.Semicolon i _ (λ so.
