@@ -29,7 +29,7 @@ use Rattle.lk_flow.specs.Mains.{is_argv, is_args}
 use Rattle.lk_flow.specs.Rows.{object_of}
 use Rattle.lk_flow.proofs.Finders.{finds_as, joins_as, joins_none}
 
--- an action that is neither joins nothing
+-- what is read at a number is there
 read_within : {X Y : Type 0} (read : X → Y) (xs : List X) (k : ℕ) (y : Y) → option_map read (slice_get xs k) ≡ Some y → k < length xs
 read_within read [] k y is = absurd (none-some y is)
 read_within read (x ∷ xs) zero y is = omega arith
@@ -40,6 +40,7 @@ found_within read [] k y is = absurd (none-some y is)
 found_within read (x ∷ xs) zero y is = omega arith
 found_within read (x ∷ xs) (suc k) y is = let on = found_within read xs k y is in omega (arith, on)
 
+-- an action that is neither local nor passing joins nothing
 pub no_row : (program : Program) (p f : ℕ) (act : Action) → is_local act ≡ false → is_passing act ≡ false → (u v : LabelName) (m : Mark) → Row program p f act u v m → ⊥
 no_row program p f (action.Value number ty) here there u v m is = is
 no_row program p f (action.Null ty) here there u v m is = is

@@ -157,9 +157,3 @@ pair_put from to mark old new i put = record {
         | inr same ↦ subst (Contains (old ++ e ∷ [])) same (Contains-push old e)
       ]),
     )
-
-pub no_pair : (from to : Option ℕ) (mark : Mark) (es : List Edge) → (from ≡ None) ⊎ (to ≡ None) → Adds (IsPair from to mark) es es
-no_pair from to mark es none = adds_none (IsPair from to mark) es (λ e is. elim none [
-  | inl lacks ↦ none-some e.from (sym lacks ∙ is.begins)
-  | inr lacks ↦ none-some e.to (sym lacks ∙ is.ends)
-])

@@ -17,7 +17,6 @@ use Rattle.lk_facts.specs.declared.root.Holder.{Holder}
 use Rattle.lk_facts.specs.declared.root.Root.{Root as RootOf}
 use Rattle.lk_facts.specs.declared.root.Holder.TheVariants.{Root}
 use Rattle.lk_types.specs.Nodes.{IsNode, first, node_of, step}
-use Rattle.lk_types.specs.declared.node.Base.{Base}
 use Rattle.lk_types.specs.declared.node.Base.TheVariants.{Start}
 use Rattle.lk_types.specs.declared.c_type.CType.{CType}
 use Rattle.lk_types.specs.declared.node.NodeId.{NodeId}
@@ -30,9 +29,6 @@ use Rattle.lk_flow.proofs.Finders.{contains_got, got_contains}
 
 pub name_equal : (h : Holder) (n : NodeId) (x : LabelName) → x.holder ≡ h → x.node ≡ n → x ≡ name_with h n
 name_equal h n x holder node = λ i. record { holder = holder i; node = node i }
-
-pub node_equal : (n : NodeId) (base : Base) (number : ℕ) → n.base ≡ base → n.number ≡ number → n ≡ record { base = base; number = number }
-node_equal n base number base_is number_is = λ i. record { base = base_is i; number = number_is i }
 
 -- a step into a part leads to a place
 pub inside_to_place : (form : CType) (s : Sel) → leads_inside form s ≡ true → leads_to_place form s ≡ true
@@ -57,15 +53,6 @@ module _ (program : Program) (labels : LabelTable) (are : AreLabels program labe
       equal_nodes_have_equal_ids program.types x.node start whole.start.node is (whole.start.first ∙ (ap (λ u. first (Start u)) (sym same) ∙ sym begins))
 
   -- what a holder points to
-  pub no_value : (h : Holder) → ((u : ℕ) → IsHolderType program h u ↔ (None ≡ Some u)) → Finds labels.names (Of program (IsWhole program h) Target) None
-  no_value h types = λ u of. none-some of.1.ty ((types of.1.ty).0 of.1.has)
-
-  pub no_pointer : (h : Holder) (t : ℕ) (start : NodeId) → ((u : ℕ) → IsHolderType program h u ↔ (Some t ≡ Some u)) → IsNode program.types start → node_of program.types start ≡ first (Start t) → None ≡ step program.types (node_of program.types start) Target →
-      Finds labels.names (Of program (IsWhole program h) Target) None
-  no_pointer h t start types is begins nowhere = λ u of.
-      let here = one_start h t start types is begins of.0 of.1 in
-      none-some (node_of program.types u.node) (nowhere ∙ subst (λ n. step program.types (node_of program.types n) Target ≡ Some (node_of program.types u.node)) here of.2.steps.leads)
-
   pub pointee_found : (h : Holder) (t : ℕ) (start node : NodeId) (found : Option ℕ) → ((u : ℕ) → IsHolderType program h u ↔ (Some t ≡ Some u)) → IsNode program.types start → node_of program.types start ≡ first (Start t) → IsNode program.types node →
       Some (node_of program.types node) ≡ step program.types (node_of program.types start) Target → IsNumberOf labels.names (name_with h node) found → Finds labels.names (Of program (IsWhole program h) Target) found
   pointee_found h t start node found types is begins node_is leads number =
@@ -177,6 +164,3 @@ module _ (program : Program) (labels : LabelTable) (are : AreLabels program labe
   pub behind_from : (l : ℕ) (x : LabelName) (s : Sel) (field : NodeId) (found : Option ℕ) → slice_get labels.names l ≡ Some x → Steps program.types x.node s field → FindsTarget program.types labels.names x.holder field found → (y : LabelName) → slice_get labels.names l ≡ Some y →
       Finds labels.names (Of program (IsPart program y s) Target) found
   behind_from l x s field found at steps target y y_at = subst (λ z. Finds labels.names (Of program (IsPart program z s) Target) found) (same_Some x y (sym at ∙ y_at)) (field_target x s field found (named_at l x at) steps target)
-
-  pub not_behind_from : (l : ℕ) (x : LabelName) (s : Sel) → slice_get labels.names l ≡ Some x → None ≡ step program.types (node_of program.types x.node) s → (y : LabelName) → slice_get labels.names l ≡ Some y → Finds labels.names (Of program (IsPart program y s) Target) None
-  not_behind_from l x s at nowhere y y_at = subst (λ z. Finds labels.names (Of program (IsPart program z s) Target) None) (same_Some x y (sym at ∙ y_at)) (no_field x s nowhere)
