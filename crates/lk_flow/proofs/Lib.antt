@@ -1,0 +1,9 @@
+pub mod ActionLists
+pub mod ClosingLists
+pub mod ConversionLists
+pub mod Counting
+pub mod FieldLists
+pub mod Finders
+pub mod NamedLabels
+pub mod RowLists
+pub mod SameEdge

@@ -1,0 +1,8 @@
+pub mod Actions
+pub mod Closing
+pub mod Conversions
+pub mod Counting
+pub mod Finding
+pub mod Growing
+pub mod Mains
+pub mod Rows
