@@ -3,7 +3,9 @@ use Rattle.std.specs.Prelude.{ℕ, Bool, true, false, ◌&&◌, Option, Some, No
 use Rattle.lk_base.specs.declared.cell.CellStep.TheVariants.{Field, Index}
 use Rattle.lk_base.specs.declared.cell.CellStep.{CellStep}
 use Rattle.lk_typed.specs.Ty.{Ty, Void, Int, ThreadId, Mutex, Cond, Pointer, Array, Struct, Function, Opaque}
-use Rattle.lk_typed.specs.Typing.{Typing, Constant, NotConstant, Undefined, Known, Address, Position, NotAddress, NullAddress, FunctionAddress, Inside, Nowhere, value_of_type}
+use Rattle.lk_typed.specs.declared.constant.Constant.{Constant}
+use Rattle.lk_typed.specs.declared.constant.Constant.TheVariants.{NotConstant, Undefined, Known}
+use Rattle.lk_typed.specs.Typing.{Typing, Address, Position, NotAddress, NullAddress, FunctionAddress, Inside, Nowhere, value_of_type}
 
 -- whether there is an element with this index
 abbrev pub is_there : ℕ → Option ℕ → Bool

@@ -7,7 +7,7 @@ use Rattle.lk_tree.specs.declared.operators.AssignOperator.TheVariants as assign
 use Rattle.lk_tree.specs.declared.operators.BinaryOperator.{BinaryOperator}
 use Rattle.lk_tree.specs.declared.operators.BinaryOperator.TheVariants as binary
 use Rattle.lk_typed.specs.Ty.{Ty, is_function, is_integer, is_lock}
-use Rattle.lk_typed.specs.Env.{Env}
+use Rattle.lk_typed.specs.Env.{Members}
 use Rattle.lk_typed.specs.Typing.{Typing, Verdict, value_of_type, if_so, unless}
 use Rattle.lk_typed.specs.Addresses.{value}
 use Rattle.lk_typed.specs.Conversions.{conversion_codes, cast_codes, converted}
@@ -21,11 +21,11 @@ given_codes target e = conversion_codes target (value e)
 
 -- the condition of if, while, do, for and ?: (C99 6.8.4.1, 1; 6.8.5, 2)
 abbrev pub condition_codes : Typing → List Code
-condition_codes e = must_be is_condition (value e)
+condition_codes e = must_be is_condition (value e).type
 
 -- the value of a switch, an index, an array's size (C99 6.8.4.2, 1)
 abbrev pub integer_codes : Typing → List Code
-integer_codes e = must_be is_integer (value e)
+integer_codes e = must_be is_integer (value e).type
 
 -- an expression statement, and the parts of a for that aren't its condition: the value is dropped; a mutex is no value (C99 6.8.3, 2)
 abbrev pub dropped_codes : Typing → List Code
@@ -57,15 +57,21 @@ abbrev pub or_behind : List Code → List Code → List Code
 or_behind [] behind = behind
 or_behind (code ∷ others) behind = code ∷ others
 
--- `=` converts to the type of the left side, where that is no function; `op=` computes first (C99 6.5.16.1, 6.5.16.2)
-abbrev pub right_codes : Env → Option BinaryOperator → Typing → Typing → List Code
-right_codes env None left right = if is_function left.type then [] else given_codes left.type right
-right_codes env (Some o) left right =
-    or_behind (must_be is_scalar (value left) ++ must_be is_scalar (value right)) (back_codes left.type (result_of env (row_of o) (value left) (value right)))
+-- `=` converts to the type of the left side, where that is no function (C99 6.5.16.1)
+abbrev pub plain_codes : Typing → Typing → List Code
+plain_codes left right = if is_function left.type then [] else given_codes left.type right
+
+-- `op=` computes on two values, and converts back (C99 6.5.16.2)
+abbrev pub computed_codes : List Members → BinaryOperator → Ty → Typing → Typing → List Code
+computed_codes structs o target a b = or_behind (must_be is_scalar a.type ++ must_be is_scalar b.type) (back_codes target (result_of structs (row_of o) a b))
+
+abbrev pub right_codes : List Members → Option BinaryOperator → Typing → Typing → List Code
+right_codes structs None left right = plain_codes left right
+right_codes structs (Some o) left right = computed_codes structs o left.type (value left) (value right)
 
 -- the left side is a place (C99 6.5.16, 2)
-abbrev pub assign_rule : Env → AssignOperator → Typing → Typing → Verdict
-assign_rule env o left right = unless (if_so (not left.is_place) NotAPlace ++ right_codes env (operator_of o) left right) (value_of_type left.type)
+abbrev pub assign_rule : List Members → AssignOperator → Typing → Typing → Verdict
+assign_rule structs o left right = unless (if_so (not left.is_place) NotAPlace ++ right_codes structs (operator_of o) left right) (value_of_type left.type)
 
 -- ---- casts
 

@@ -46,7 +46,7 @@ argument_codes env Size a = given_codes size_type a.typing
 
 -- an argument behind those that have a parameter gets the promotions: a scalar (C99 6.5.2.2, 7)
 abbrev pub further_codes : Argument → List Code
-further_codes a = if is_struct a.typing.type then StructValue ∷ [] else must_be is_scalar (value a.typing)
+further_codes a = if is_struct a.typing.type then StructValue ∷ [] else must_be is_scalar (value a.typing).type
 
 -- as many arguments as parameters, or where `...` ends them as many at least (C99 6.5.2.2, 2)
 abbrev pub arguments_codes : Env → Bool → List Passing → List Argument → List Code
@@ -146,7 +146,7 @@ asks_of None = NothingMore
 asks_of (Some f) = f.asks
 
 abbrev pub call_of : Env → Option LibraryFunction → Typing → Option Signature → List Argument → Verdict
-call_of env known f None arguments = Broken (must_be is_function_pointer (value f))
+call_of env known f None arguments = Broken (must_be is_function_pointer (value f).type)
 call_of env known f (Some signature) arguments =
     unless (arguments_codes env signature.dots (passes_by known (Some signature)) arguments ++ asked env.role (asks_of known) arguments) (value_of_type signature.result)
 

@@ -7,7 +7,8 @@ use Rattle.lk_arith.specs.declared.operators.Op.{Op}
 use Rattle.lk_arith.specs.declared.operators.UnaryOp.{UnaryOp}
 use Rattle.lk_arith.specs.Conversions.{convert, truth, is_zero}
 use Rattle.lk_arith.specs.Operators.{Outcome, outcome, unary_outcome}
-use Rattle.lk_typed.specs.Typing.{Constant, NotConstant, Undefined, Known}
+use Rattle.lk_typed.specs.declared.constant.Constant.{Constant}
+use Rattle.lk_typed.specs.declared.constant.Constant.TheVariants.{NotConstant, Undefined, Known}
 
 -- what is done to a constant
 abbrev pub on_value : Constant → (ℤ → Constant) → Constant

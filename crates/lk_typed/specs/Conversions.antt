@@ -6,7 +6,9 @@ use Rattle.lk_base.specs.declared.code.Code.{Code}
 use Rattle.lk_base.specs.declared.code.Code.TheVariants.{Mismatch, IntPointerCast, PointerCast, StructValue, MutexValue}
 use Rattle.lk_arith.specs.Conversions.{convert}
 use Rattle.lk_typed.specs.Ty.{Ty, Void, Int, ThreadId, Mutex, Cond, Pointer, Array, Struct, Function, Opaque, kind_of, target_of, holds_of, is_same, is_same_kind, is_void, is_integer, is_pointer, is_function, is_struct, is_lock, is_thread_id}
-use Rattle.lk_typed.specs.Typing.{Typing, Constant, NotConstant, Undefined, Known, Address, NullAddress, if_so, or_at_least, is_null_value, integer, value_of_type}
+use Rattle.lk_typed.specs.declared.constant.Constant.{Constant}
+use Rattle.lk_typed.specs.declared.constant.Constant.TheVariants.{NotConstant, Undefined, Known}
+use Rattle.lk_typed.specs.Typing.{Typing, Address, NullAddress, if_so, or_at_least, is_null_value, integer, value_of_type}
 
 -- ---- what pointers point to
 
@@ -48,11 +50,17 @@ converts target v =
 abbrev pub is_integer_and_pointer : Ty → Typing → Bool
 is_integer_and_pointer target v = not v.is_null && (is_integer target && not (is_bool target) && is_pointer v.type || is_pointer target && is_integer v.type)
 
--- 35: between two different pointer types neither of which is void *, or between a function pointer and anything but its own type (C99 6.3.2.3, 7 and 8)
+-- two different pointer types neither of which is void *
+abbrev pub are_two_pointers : Ty → Ty → Bool
+are_two_pointers target t = is_pointer target && is_pointer t && not (is_same target t) && not (is_void_pointer target) && not (is_void_pointer t)
+
+-- a function pointer beside anything but its own type
+abbrev pub is_function_pointer_alone : Ty → Ty → Bool
+is_function_pointer_alone target t = (is_function_pointer target || is_function_pointer t) && not (is_same target t)
+
+-- 35 (C99 6.3.2.3, 7 and 8)
 abbrev pub are_different_pointers : Ty → Ty → Bool
-are_different_pointers target t =
-    is_pointer target && is_pointer t && not (is_same target t) && not (is_void_pointer target) && not (is_void_pointer t)
-    || (is_function_pointer target || is_function_pointer t) && not (is_same target t)
+are_different_pointers target t = are_two_pointers target t || is_function_pointer_alone target t
 
 -- the codes that a conversion breaks: none where there is one; else those that name it, by number; else 22
 abbrev pub conversion_codes : Ty → Typing → List Code

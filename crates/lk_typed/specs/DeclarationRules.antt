@@ -159,7 +159,7 @@ has_size_later t Initialised = is_array t
 has_size_later t Defined = false
 
 abbrev pub is_complete_object : Env → Env → Scope → List Storage → Ty → Given → Bool
-is_complete_object env at_end scope ss t given = not (wants_type ss t given) || has_size_later t given || is_complete (env_for env at_end scope ss given) t
+is_complete_object env at_end scope ss t given = not (wants_type ss t given) || has_size_later t given || is_complete (env_for env at_end scope ss given).structs t
 
 -- `main` has one of its two types (C99 5.1.2.2.1, 1), where it has external linkage
 abbrev pub arguments : Tys

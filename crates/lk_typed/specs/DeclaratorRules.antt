@@ -5,7 +5,8 @@ use Rattle.lk_base.specs.declared.code.Code.TheVariants.{Mismatch, Incomplete, V
 use Rattle.lk_typed.specs.Env.{Env}
 use Rattle.lk_typed.specs.Faults.{Breach, breach}
 use Rattle.lk_typed.specs.Sizes.{is_complete}
-use Rattle.lk_typed.specs.Typing.{Constant, known_value}
+use Rattle.lk_typed.specs.declared.constant.Constant.{Constant}
+use Rattle.lk_typed.specs.Typing.{known_value}
 use Rattle.lk_typed.specs.Ty.{Ty, Void, Int, ThreadId, Mutex, Cond, Pointer, Array, Struct, Function, Opaque, function_of, holds_of, is_array, is_function, is_lock, is_struct, is_void}
 
 -- a rule of one code
@@ -62,7 +63,7 @@ has_size may_be_absent element (Some (Some c)) = is_size_of element (known_value
 -- the rules of `declarator[size]`: 25 of the element (C99 6.7.5.2, 1), 31 of the size
 abbrev pub array_rules : Env → Bool → Option Ty → Size → List Breach
 array_rules env may_be_absent element size =
-    of_type element (λ t. unless (is_complete env t) Incomplete) ++ unless (has_size may_be_absent element size) VariableArray
+    of_type element (λ t. unless (is_complete env.structs t) Incomplete) ++ unless (has_size may_be_absent element size) VariableArray
 
 abbrev pub array_of_size : Option ℤ → Ty → Option Ty
 array_of_size None t = None

@@ -188,8 +188,9 @@ look_up_tag env name = latest (λ tag. is_name tag.name name) env.tags
 abbrev pub look_up_tag_here : Env → Name → Option Tag
 look_up_tag_here env name = latest (λ tag. is_name tag.name name) (drop env.tag_base env.tags)
 
-abbrev pub members_of : Env → ℕ → Members
-members_of env s = unwrap_or (slice_get env.structs s) NotYet
+-- what is known of the struct with this number
+abbrev pub members_of : List Members → ℕ → Members
+members_of structs s = unwrap_or (slice_get structs s) NotYet
 
 -- a member of a struct by its name
 abbrev pub field_of : List Field → Name → Option Field

@@ -116,21 +116,21 @@ module _ {D X M S G I B P : Type 0} where
 
   abbrev pub rule : Env → ℕ → ExprForm-F D X M S G Judged I B P Named → Verdict
   rule env n (ExprForm-F.Comma left right) = with_two left.typing right.typing (λ a b. comma_rule (value a) (value b))
-  rule env n (ExprForm-F.Assign op left right) = with_two left.typing right.typing (assign_rule env op)
+  rule env n (ExprForm-F.Assign op left right) = with_two left.typing right.typing (assign_rule env.structs op)
   rule env n (ExprForm-F.Choice condition taken other) =
       with_one condition.typing (λ c. with_two taken.typing other.typing (λ a b. choice_rule (value c) (value a) (value b)))
-  rule env n (ExprForm-F.Binary op left right) = with_two left.typing right.typing (λ a b. binary_rule env op (value a) (value b))
+  rule env n (ExprForm-F.Binary op left right) = with_two left.typing right.typing (λ a b. binary_rule env.structs op (value a) (value b))
   rule env n (ExprForm-F.Cast type operand) = with_type type.type (λ target. with_one operand.typing (cast_rule target))
-  rule env n (ExprForm-F.Pre op operand) = with_one operand.typing (step_rule env)
+  rule env n (ExprForm-F.Pre op operand) = with_one operand.typing (step_rule env.structs)
   rule env n (ExprForm-F.Prefix op operand) = with_one operand.typing (prefix_rule op)
-  rule env n (ExprForm-F.SizeofExpr operand) = with_one operand.typing (λ e. sizeof_rule env e.type)
-  rule env n (ExprForm-F.SizeofType type) = with_type type.type (sizeof_rule env)
-  rule env n (ExprForm-F.Index array inner) = with_two array.typing inner.typing (λ a i. index_rule env (value a) (value i))
+  rule env n (ExprForm-F.SizeofExpr operand) = with_one operand.typing (λ e. sizeof_rule env.structs env.in_size e.type)
+  rule env n (ExprForm-F.SizeofType type) = with_type type.type (sizeof_rule env.structs env.in_size)
+  rule env n (ExprForm-F.Index array inner) = with_two array.typing inner.typing (λ a i. index_rule env.structs (value a) (value i))
   rule env n (ExprForm-F.Call function arguments) =
       with_one function.typing (λ f. with_arguments (arguments_of arguments) (call_rule env (record { typing = f; look = function.look })))
-  rule env n (ExprForm-F.Member object member) = with_one object.typing (λ e. dot_rule env e member)
-  rule env n (ExprForm-F.Arrow pointer member) = with_one pointer.typing (λ e. arrow_rule env (value e) member)
-  rule env n (ExprForm-F.Post op operand) = with_one operand.typing (step_rule env)
+  rule env n (ExprForm-F.Member object member) = with_one object.typing (λ e. dot_rule env.structs e member)
+  rule env n (ExprForm-F.Arrow pointer member) = with_one pointer.typing (λ e. arrow_rule env.structs (value e) member)
+  rule env n (ExprForm-F.Post op operand) = with_one operand.typing (step_rule env.structs)
   rule env n (ExprForm-F.Word word) = word_rule env word
   rule env n (ExprForm-F.Number kind number) = number_rule kind number
   rule env n (ExprForm-F.Char number) = char_rule number

@@ -28,7 +28,8 @@ use Rattle.lk_typed.specs.Statics.{is_static_value}
 use Rattle.lk_typed.specs.Telling.{ExprTeller, FormTeller, TypeNameTeller, added, constant, in_declarator, of_member_declarator, of_specifier, of_declarator, of_item, of_member, of_parameter, of_type_name}
 use Rattle.lk_typed.specs.Told.{SpecifierTeller, DeclaratorTold, MemberTeller, ItemTeller, specifiers}
 use Rattle.lk_typed.specs.Ty.{Ty}
-use Rattle.lk_typed.specs.Typing.{Typing, Constant, Named}
+use Rattle.lk_typed.specs.declared.constant.Constant.{Constant}
+use Rattle.lk_typed.specs.Typing.{Typing, Named}
 use Rattle.lk_typed.specs.Words.{told_name}
 
 -- ---- the fold

@@ -19,7 +19,8 @@ use Rattle.lk_typed.specs.Env.{Env, Name, Tag, extend, look_up_tag}
 use Rattle.lk_typed.specs.Faults.{Breach, breach}
 use Rattle.lk_typed.specs.Redeclared.{DefinesStruct, DefinesEnum, NamesEnum, TagUse, tag_rules}
 use Rattle.lk_typed.specs.Told.{in_int, struct_use, with_optional}
-use Rattle.lk_typed.specs.Typing.{Constant, known_value}
+use Rattle.lk_typed.specs.declared.constant.Constant.{Constant}
+use Rattle.lk_typed.specs.Typing.{known_value}
 use Rattle.lk_typed.specs.Expressions.{expr_constant, specifiers_found}
 
 -- ---- tags (C99 6.7.2.2, 6.7.2.3): 21, and 25 of an enumeration that isn't defined

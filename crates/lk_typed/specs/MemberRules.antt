@@ -16,11 +16,11 @@ types_in Faulty = []
 
 -- the types of the members of each struct
 abbrev pub fields_in : Env → ℕ → List Ty
-fields_in env s = types_in (members_of env s)
+fields_in env s = types_in (members_of env.structs s)
 
 -- the rules of a member's name: 21 where the struct has it already; 25 where its type is incomplete, void or a function (C99 6.7.2.1, 2)
 abbrev pub member_rules : Env → List Field → Name → Ty → List Breach
-member_rules env before name t = (if is_some (field_of before name) then breach_of Redeclared name ∷ [] else []) ++ unless (is_complete env t) Incomplete
+member_rules env before name t = (if is_some (field_of before name) then breach_of Redeclared name ∷ [] else []) ++ unless (is_complete env.structs t) Incomplete
 
 -- 32 of a declarator
 abbrev pub large_rules : Env → Ty → List Breach

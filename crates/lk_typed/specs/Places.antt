@@ -11,8 +11,9 @@ use Rattle.lk_arith.specs.Operators.{unary_kind}
 use Rattle.lk_tree.specs.declared.operators.PrefixOperator.{PrefixOperator}
 use Rattle.lk_tree.specs.declared.operators.PrefixOperator.TheVariants as prefix
 use Rattle.lk_typed.specs.Ty.{Ty, Pointer, kind_of, target_of, struct_of, is_void, is_integer, is_pointer, is_function}
-use Rattle.lk_typed.specs.Env.{Env, Name, Field, Members, NotYet, Begun, Known as KnownMembers, Faulty, members_of, field_of, number_of_field}
-use Rattle.lk_typed.specs.Typing.{Typing, NotConstant, Address, Verdict, Typed, Broken, Silent, value_of_type, place_of_type, integer, if_so, unless}
+use Rattle.lk_typed.specs.Env.{Name, Field, Members, NotYet, Begun, Known as KnownMembers, Faulty, members_of, field_of, number_of_field}
+use Rattle.lk_typed.specs.declared.constant.Constant.TheVariants.{NotConstant}
+use Rattle.lk_typed.specs.Typing.{Typing, Address, Verdict, Typed, Broken, Silent, value_of_type, place_of_type, integer, if_so, unless}
 use Rattle.lk_typed.specs.Sizes.{is_complete, is_broken, holds_struct_or_lock, bytes_in, constant_of_bytes}
 use Rattle.lk_typed.specs.Addresses.{inside, member_at, moved, value}
 use Rattle.lk_typed.specs.Constants.{unary_constant}
@@ -38,7 +39,7 @@ indirect e None = None
 indirect e (Some target) = pointed e target
 
 abbrev pub indirection_rule : Typing → Verdict
-indirection_rule e = by_row (must_be is_pointer e) (indirect e (target_of e.type))
+indirection_rule e = by_row (must_be is_pointer e.type) (indirect e (target_of e.type))
 
 -- ---- + - ~ ! (C99 6.5.3.3)
 
@@ -47,7 +48,7 @@ at_promoted_kind o e None = None
 at_promoted_kind o e (Some k) = Some (integer (unary_kind o (promoted k)) (unary_constant o (promoted k) e.constant))
 
 abbrev pub arithmetic_rule : UnaryOp → Typing → Verdict
-arithmetic_rule o e = by_row (must_be is_integer e) (at_promoted_kind o e (kind_of e.type))
+arithmetic_rule o e = by_row (must_be is_integer e.type) (at_promoted_kind o e (kind_of e.type))
 
 -- ! of a pointer is no constant
 abbrev pub not_of : Typing → Option Kind → Typing
@@ -55,7 +56,7 @@ not_of e None = integer kind.Int NotConstant
 not_of e (Some k) = integer kind.Int (unary_constant u.Not (promoted k) e.constant)
 
 abbrev pub not_rule : Typing → Verdict
-not_rule e = unless (must_be is_condition e) (not_of e (kind_of e.type))
+not_rule e = unless (must_be is_condition e.type) (not_of e (kind_of e.type))
 
 -- the operators before an operand; & alone takes it as it is, the others take its value
 abbrev pub prefix_rule : PrefixOperator → Typing → Verdict
@@ -73,8 +74,8 @@ element_of e i None = None
 element_of e i (Some target) = Some (place_of_type target (moved e.address i.constant))
 
 -- both are values
-abbrev pub index_rule : Env → Typing → Typing → Verdict
-index_rule env e i = by_row (must_be (is_steppable env) e ++ must_be is_integer i) (element_of e i (target_of e.type))
+abbrev pub index_rule : List Members → Typing → Typing → Verdict
+index_rule structs e i = by_row (must_be (is_steppable structs) e.type ++ must_be is_integer i.type) (element_of e i (target_of e.type))
 
 -- ---- . and -> (C99 6.5.2.3)
 
@@ -89,39 +90,39 @@ member_of when_incomplete address name Begun = Broken (when_incomplete ∷ [])
 member_of when_incomplete address name (KnownMembers fields) = member_in address (number_of_field fields name) (field_of fields name)
 member_of when_incomplete address name Faulty = Silent
 
-abbrev pub dot_of : Env → Typing → Name → Option ℕ → Verdict
-dot_of env e name None = Broken (Mismatch ∷ [])
-dot_of env e name (Some s) = if e.is_place then member_of Mismatch e.address name (members_of env s) else Broken (Mismatch ∷ [])
+abbrev pub dot_of : List Members → Typing → Name → Option ℕ → Verdict
+dot_of structs e name None = Broken (Mismatch ∷ [])
+dot_of structs e name (Some s) = if e.is_place then member_of Mismatch e.address name (members_of structs s) else Broken (Mismatch ∷ [])
 
 -- . takes a place of struct type
-abbrev pub dot_rule : Env → Typing → Name → Verdict
-dot_rule env e name = dot_of env e name (struct_of e.type)
+abbrev pub dot_rule : List Members → Typing → Name → Verdict
+dot_rule structs e name = dot_of structs e name (struct_of e.type)
 
 -- what -> says of its pointer's target: of a struct its member; of void 22; of another incomplete type 25; else 22
-abbrev pub arrow_target : Env → Typing → Name → Ty → Option ℕ → Verdict
-arrow_target env e name target None = if is_void target || is_function target || is_complete env target then Broken (Mismatch ∷ []) else Broken (Incomplete ∷ [])
-arrow_target env e name target (Some s) = member_of Incomplete e.address name (members_of env s)
+abbrev pub arrow_target : List Members → Typing → Name → Ty → Option ℕ → Verdict
+arrow_target structs e name target None = if is_void target || is_function target || is_complete structs target then Broken (Mismatch ∷ []) else Broken (Incomplete ∷ [])
+arrow_target structs e name target (Some s) = member_of Incomplete e.address name (members_of structs s)
 
-abbrev pub arrow_of : Env → Typing → Name → Option Ty → Verdict
-arrow_of env e name None = Broken (must_be is_pointer e)
-arrow_of env e name (Some target) = arrow_target env e name target (struct_of target)
+abbrev pub arrow_of : List Members → Typing → Name → Option Ty → Verdict
+arrow_of structs e name None = Broken (must_be is_pointer e.type)
+arrow_of structs e name (Some target) = arrow_target structs e name target (struct_of target)
 
 -- -> takes a value
-abbrev pub arrow_rule : Env → Typing → Name → Verdict
-arrow_rule env e name = arrow_of env e name (target_of e.type)
+abbrev pub arrow_rule : List Members → Typing → Name → Verdict
+arrow_rule structs e name = arrow_of structs e name (target_of e.type)
 
 -- ---- ++ and -- (C99 6.5.2.4, 6.5.3.1): of a place that holds an integer or a pointer to a complete object type
 
-abbrev pub is_counted : Env → Ty → Bool
-is_counted env t = is_integer t || is_steppable env t
+abbrev pub is_counted : List Members → Ty → Bool
+is_counted structs t = is_integer t || is_steppable structs t
 
-abbrev pub step_rule : Env → Typing → Verdict
-step_rule env e = unless (if_so (not e.is_place) NotAPlace ++ must_be (is_counted env) e) (value_of_type e.type)
+abbrev pub step_rule : List Members → Typing → Verdict
+step_rule structs e = unless (if_so (not e.is_place) NotAPlace ++ must_be (is_counted structs) e.type) (value_of_type e.type)
 
 -- ---- sizeof (C99 6.5.3.4): of a complete object type; of one that holds a struct, mutex or condition variable only in an allocation's size
 
-abbrev pub sizeof_codes : Env → Ty → List Code
-sizeof_codes env t = if_so (not (is_complete env t)) Incomplete ++ if_so (holds_struct_or_lock t && not env.in_size) SizeofStruct
+abbrev pub sizeof_codes : List Members → Bool → Ty → List Code
+sizeof_codes structs in_size t = if_so (not (is_complete structs t)) Incomplete ++ if_so (holds_struct_or_lock t && not in_size) SizeofStruct
 
-abbrev pub sizeof_rule : Env → Ty → Verdict
-sizeof_rule env t = if is_broken env t then Silent else unless (sizeof_codes env t) (integer kind.ULong (constant_of_bytes (bytes_in t)))
+abbrev pub sizeof_rule : List Members → Bool → Ty → Verdict
+sizeof_rule structs in_size t = if is_broken structs t then Silent else unless (sizeof_codes structs in_size t) (integer kind.ULong (constant_of_bytes (bytes_in t)))

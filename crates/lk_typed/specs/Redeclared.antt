@@ -114,7 +114,7 @@ is_open Faulty = false
 
 -- whether a use may stand where the tag has this meaning: a struct is defined once, an enumeration is defined once, and each is named by its own word
 abbrev pub admits : Env → TagMeaning → TagUse → Bool
-admits env (AStructTag s) DefinesStruct = is_open (members_of env s)
+admits env (AStructTag s) DefinesStruct = is_open (members_of env.structs s)
 admits env (AStructTag s) DefinesEnum = false
 admits env (AStructTag s) NamesStruct = true
 admits env (AStructTag s) NamesEnum = false

@@ -1,9 +1,10 @@
 -- Which types are complete, what they hold, and how many bytes they have (C99 6.2.5, 6.5.3.4).
-use Rattle.std.specs.Prelude.{ℕ, ◌*◌, Bool, true, false, not, ◌&&◌, Option, Some, None, pos, nat_eq, option_map}
+use Rattle.std.specs.Prelude.{ℕ, ◌*◌, Bool, true, false, not, ◌&&◌, List, Option, Some, None, pos, nat_eq, option_map}
 use Rattle.lk_arith.specs.Kinds.{bytes_of}
 use Rattle.lk_typed.specs.Ty.{Ty, Void, Int, ThreadId, Mutex, Cond, Pointer, Array, Struct, Function, Opaque}
-use Rattle.lk_typed.specs.Env.{Env, Members, NotYet, Begun, Known as KnownMembers, Faulty, members_of}
-use Rattle.lk_typed.specs.Typing.{Constant, NotConstant, Known}
+use Rattle.lk_typed.specs.Env.{Members, NotYet, Begun, Known as KnownMembers, Faulty, members_of}
+use Rattle.lk_typed.specs.declared.constant.Constant.{Constant}
+use Rattle.lk_typed.specs.declared.constant.Constant.TheVariants.{NotConstant, Known}
 
 -- a struct is complete from the closing brace of its members on (C99 6.7.2.3, 4); of a faulty one nothing is asked
 abbrev pub are_known : Members → Bool
@@ -19,30 +20,30 @@ is_faulty (KnownMembers fields) = false
 is_faulty Faulty = true
 
 -- a complete object type (C99 6.2.5, 1): its size is known
-abbrev pub is_complete : Env → Ty → Bool
-is_complete env Void = false
-is_complete env (Int k) = true
-is_complete env ThreadId = true
-is_complete env Mutex = true
-is_complete env Cond = true
-is_complete env (Pointer t) = true
-is_complete env (Array t n) = not (nat_eq n 0) && is_complete env t
-is_complete env (Struct s) = are_known (members_of env s)
-is_complete env (Function result params dots) = false
-is_complete env (Opaque n) = false
+abbrev pub is_complete : List Members → Ty → Bool
+is_complete structs Void = false
+is_complete structs (Int k) = true
+is_complete structs ThreadId = true
+is_complete structs Mutex = true
+is_complete structs Cond = true
+is_complete structs (Pointer t) = true
+is_complete structs (Array t n) = not (nat_eq n 0) && is_complete structs t
+is_complete structs (Struct s) = are_known (members_of structs s)
+is_complete structs (Function result params dots) = false
+is_complete structs (Opaque n) = false
 
 -- a struct with a faulty definition, or an array of such: what needs its members or size has neither a type nor a fault
-abbrev pub is_broken : Env → Ty → Bool
-is_broken env Void = false
-is_broken env (Int k) = false
-is_broken env ThreadId = false
-is_broken env Mutex = false
-is_broken env Cond = false
-is_broken env (Pointer t) = false
-is_broken env (Array t n) = is_broken env t
-is_broken env (Struct s) = is_faulty (members_of env s)
-is_broken env (Function result params dots) = false
-is_broken env (Opaque n) = false
+abbrev pub is_broken : List Members → Ty → Bool
+is_broken structs Void = false
+is_broken structs (Int k) = false
+is_broken structs ThreadId = false
+is_broken structs Mutex = false
+is_broken structs Cond = false
+is_broken structs (Pointer t) = false
+is_broken structs (Array t n) = is_broken structs t
+is_broken structs (Struct s) = is_faulty (members_of structs s)
+is_broken structs (Function result params dots) = false
+is_broken structs (Opaque n) = false
 
 -- whether it is a struct, a mutex or a condition variable, or an array of such: what 42 speaks of
 abbrev pub holds_struct_or_lock : Ty → Bool

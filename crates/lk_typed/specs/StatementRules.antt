@@ -9,7 +9,7 @@ use Rattle.lk_typed.specs.Faults.{Breach, breach, breach_of}
 use Rattle.lk_typed.specs.Labels.{Label, has_label, has_label_before}
 use Rattle.lk_typed.specs.Statics.{is_known}
 use Rattle.lk_typed.specs.Ty.{Ty, is_integer, is_lock, is_pointer, is_void}
-use Rattle.lk_typed.specs.Typing.{Constant}
+use Rattle.lk_typed.specs.declared.constant.Constant.{Constant}
 
 -- ---- expressions in statements; the types are those of values, an array or function turned into a pointer (C99 6.3.2.1)
 

@@ -15,7 +15,8 @@ use Rattle.lk_typed.specs.Expressions.{expr_adds, expr_constant, expr_type}
 use Rattle.lk_typed.specs.Initialisers.{Adder}
 use Rattle.lk_typed.specs.StatementRules.{CaseFound, Switch}
 use Rattle.lk_typed.specs.Ty.{Ty, kind_of}
-use Rattle.lk_typed.specs.Typing.{Constant, known_value}
+use Rattle.lk_typed.specs.declared.constant.Constant.{Constant}
+use Rattle.lk_typed.specs.Typing.{known_value}
 
 abbrev pub optional_adds : Option Expr → Adder
 optional_adds None env = nothing

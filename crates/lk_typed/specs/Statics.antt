@@ -5,7 +5,9 @@ use Rattle.lk_base.specs.declared.cell.CellStep.{CellStep}
 use Rattle.lk_base.specs.declared.cell.CellStep.TheVariants.{Index}
 use Rattle.lk_base.specs.declared.code.Code.{Code}
 use Rattle.lk_base.specs.declared.code.Code.TheVariants as code
-use Rattle.lk_typed.specs.Typing.{Typing, Constant, NotConstant, Undefined, Known, Address, Position, NotAddress, NullAddress, FunctionAddress, Inside, Nowhere, if_so}
+use Rattle.lk_typed.specs.declared.constant.Constant.{Constant}
+use Rattle.lk_typed.specs.declared.constant.Constant.TheVariants.{NotConstant, Undefined, Known}
+use Rattle.lk_typed.specs.Typing.{Typing, Address, Position, NotAddress, NullAddress, FunctionAddress, Inside, Nowhere, if_so}
 use Rattle.lk_typed.specs.Addresses.{is_there, value}
 
 abbrev pub is_known : Constant → Bool

@@ -13,7 +13,8 @@ use Rattle.lk_typed.specs.Faults.{Breach}
 use Rattle.lk_typed.specs.Redeclared.{TagUse, DefinesStruct, DefinesEnum, NamesStruct, NamesEnum, DeclaresStruct, may_use, tag_meant, typedef_type}
 use Rattle.lk_typed.specs.Ty.{Ty, Void, Int, Struct, int}
 use Rattle.lk_typed.specs.TypeWords.{WordType, void, integer, type_of_words}
-use Rattle.lk_typed.specs.Typing.{Constant, known_value}
+use Rattle.lk_typed.specs.declared.constant.Constant.{Constant}
+use Rattle.lk_typed.specs.Typing.{known_value}
 
 -- ---- what is told
 

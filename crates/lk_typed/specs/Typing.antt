@@ -4,15 +4,10 @@ use Rattle.lk_base.specs.declared.cell.CellStep.{CellStep}
 use Rattle.lk_base.specs.declared.kind.Kind.{Kind}
 use Rattle.lk_base.specs.declared.code.Code.{Code}
 use Rattle.lk_arith.specs.Conversions.{is_zero}
+use Rattle.lk_typed.specs.declared.constant.Constant.{Constant}
+use Rattle.lk_typed.specs.declared.constant.Constant.TheVariants.{NotConstant, Undefined, Known}
 use Rattle.lk_typed.specs.Ty.{Ty, Void, Int, ThreadId, Mutex, Cond, Pointer, Array, Struct, Function, Opaque}
 use Rattle.lk_typed.specs.Env.{Declared, Additions}
-
--- an integer constant expression (C99 6.6, 6)
-pub data Constant : Type 0 where
-  NotConstant : Constant
-  -- it is one, and its arithmetic is undefined
-  Undefined : Constant
-  Known : ℤ → Constant
 
 -- the value of a constant, where it is known
 abbrev pub known_value : Constant → Option ℤ

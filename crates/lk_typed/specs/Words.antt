@@ -7,7 +7,8 @@ use Rattle.lk_base.specs.declared.code.Code.TheVariants.{Undeclared, Mismatch, T
 use Rattle.lk_base.specs.Code.{number_of}
 use Rattle.lk_typed.specs.Ty.{Ty, Signature, Array, function_of, holds_of, char, is_void, is_integer}
 use Rattle.lk_typed.specs.Env.{Env, Name, Role, AsOperand, ConvertedTo, AsFunction, AsRoutine, Declared, Meaning, AnObject, AFunction, ATypedef, AnEnumerator, AnInitialiserWord, AFaultyName, is_name, is_one_of, look_up}
-use Rattle.lk_typed.specs.Typing.{Typing, Verdict, Typed, Broken, Silent, Known, Address, Anchor, AtObject, AtText, NotAddress, FunctionAddress, Inside, NotConstant, place_of_type, integer, if_so, unless, or_at_least}
+use Rattle.lk_typed.specs.declared.constant.Constant.TheVariants.{Known, NotConstant}
+use Rattle.lk_typed.specs.Typing.{Typing, Verdict, Typed, Broken, Silent, Address, Anchor, AtObject, AtText, NotAddress, FunctionAddress, Inside, place_of_type, integer, if_so, unless, or_at_least}
 use Rattle.lk_typed.specs.Library.{library_function}
 
 -- ---- names whose use as an expression is refused

@@ -1,8 +1,11 @@
-//! The tree of a checked source: a type at each expression, each conversion written out, each name resolved.
+//! The tree of a checked source: a type at each expression, each conversion written out, each name resolved. Beside it
+//! stand the words in which the rules of C are put: what a constant is, and which operands an operator takes.
 //!
 //! Trees are plain values: a contract compares two of them by `≡`.
 #![tactic(auto)]
 
+mod binary_row;
+mod constant;
 mod entity;
 mod expression;
 mod initialiser;
@@ -11,6 +14,8 @@ mod statement;
 mod unit;
 mod whole;
 
+pub use binary_row::BinaryRow;
+pub use constant::Constant;
 pub use entity::{Declaration, Defines, Entity, EntityKind, Linkage, Use};
 pub use expression::{Callee, Change, Storage, TypedExpr, TypedForm};
 pub use initialiser::{AbsentCells, LocalPart, LocalValue, StaticObject, StaticPart, StaticValue};

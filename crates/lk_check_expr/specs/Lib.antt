@@ -1,0 +1,5 @@
+pub mod Codes
+pub mod Meaning
+pub mod Rows
+pub mod Typings
+pub mod Laws
