@@ -4,9 +4,12 @@ use Rattle.std.specs.Prelude.{if◌then◌else◌}
 use Rattle.lk_arith.specs.declared.operators.Op.{Op}
 use Rattle.lk_lower_expr.specs.Names.{Names, Node}
 use Rattle.lk_lower_expr.specs.Parts.{Part}
-use Rattle.lk_lower_expr.specs.Values.{choice_part, choice_of, compound_part, step_part}
+use Rattle.lk_lower_expr.specs.Values.{choice_part, choice_of, compound_part, step_part, is_pointer}
+use Rattle.lk_types.specs.Predeclared.{kind_id}
 use Rattle.lk_tree.specs.declared.operators.StepOperator.{StepOperator}
 use Rattle.lk_typed.specs.declared.expression.Change.{Change}
+use Rattle.lk_base.specs.declared.kind.Kind.TheVariants.{Int as IntKind}
+use Rattle.lk_lower_expr.specs.Counts.{choice_count, compound_count, step_count}
 use Rattle.lk_lower_expr.specs.Expressions.{part}
 use Rattle.lk_lower_expr.proofs.Forms.{as_form, of_Choice, of_Compound, of_Step}
 use Rattle.lk_typed.specs.declared.expression.TypedExpr.{TypedExpr}
@@ -55,3 +58,41 @@ compound_at names e a b op t is = sym (ap slot_in (as_form names e (form.Compoun
 
 pub step_at : (names : Names) (e a : TypedExpr) (operator : StepOperator) (change : Change) (t : ℕ) → e.form ≡ form.Step operator change a t → None ≡ (part names e).slot
 step_at names e a operator change t is = sym (ap slot_in (as_form names e (form.Step operator change a t) _ is (of_Step names operator change a t)) ∙ step_slot names _ _ _ _ _)
+
+-- ---- how many steps such a node has
+
+abbrev count_in : Part → ℕ
+count_in part = part.count
+
+pub choice_counts_of : (names : Names) (form : CType) (node : Node) (c a b : Part) → (choice_of names form node c a b).count ≡ choice_count form
+choice_counts_of names Void node c a b = refl
+choice_counts_of names (Int k) node c a b = refl
+choice_counts_of names ThreadId node c a b = refl
+choice_counts_of names Mutex node c a b = refl
+choice_counts_of names Cond node c a b = refl
+choice_counts_of names (Pointer t) node c a b = refl
+choice_counts_of names (Array t n) node c a b = refl
+choice_counts_of names (Struct s) node c a b = refl
+choice_counts_of names (Function result params dots) node c a b = refl
+choice_counts_of names (Opaque n) node c a b = refl
+
+-- what holds on each side of a choice holds of the choice
+pub of_sides : {A B : Type 0} (f : A → B) (test : Bool) (x y : A) (b c : B) → f x ≡ b → f y ≡ c → f (if test then x else y) ≡ (if test then b else c)
+of_sides f true x y b c left right = left
+of_sides f false x y b c left right = right
+
+pub choice_counts : (names : Names) (e c a b : TypedExpr) → e.form ≡ form.Choice c a b → (part names e).count ≡ choice_count (names.form e.ty)
+unfolding choice_part
+choice_counts names e c a b is = ap count_in (as_form names e (form.Choice c a b) _ is (of_Choice names c a b)) ∙ choice_counts_of names (names.form e.ty) _ _ _ _
+
+pub compound_counts : (names : Names) (e a b : TypedExpr) (op : Op) (t : ℕ) → e.form ≡ form.Compound op a b t → (part names e).count ≡ compound_count (part names a).node.type t
+unfolding compound_part
+compound_counts names e a b op t is = ap count_in (as_form names e (form.Compound op a b t) _ is (of_Compound names op a b t)) ∙
+    of_sides count_in (nat_eq (part names a).node.type t) _ _ 3 5 refl refl
+
+pub step_counts : (names : Names) (e a : TypedExpr) (operator : StepOperator) (change : Change) (t : ℕ) → e.form ≡ form.Step operator change a t →
+    (part names e).count ≡ step_count (names.form t) (part names a).node.type t
+unfolding step_part
+step_counts names e a operator change t is = ap count_in (as_form names e (form.Step operator change a t) _ is (of_Step names operator change a t)) ∙
+    of_sides count_in (nat_eq (part names a).node.type t) _ _ (if (is_pointer (names.form t) || nat_eq t (kind_id IntKind)) then 4 else 5) 6
+      (of_sides count_in (is_pointer (names.form t) || nat_eq t (kind_id IntKind)) _ _ 4 5 refl refl) refl
