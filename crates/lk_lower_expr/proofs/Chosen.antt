@@ -95,4 +95,4 @@ pub step_counts : (names : Names) (e a : TypedExpr) (operator : StepOperator) (c
 unfolding step_part
 step_counts names e a operator change t is = ap count_in (as_form names e (form.Step operator change a t) _ is (of_Step names operator change a t)) ∙
     of_sides count_in (nat_eq (part names a).node.type t) _ _ (if (is_pointer (names.form t) || nat_eq t (kind_id IntKind)) then 4 else 5) 6
-      (of_sides count_in (is_pointer (names.form t) || nat_eq t (kind_id IntKind)) _ _ 4 5 refl refl) refl
+    (of_sides count_in (is_pointer (names.form t) || nat_eq t (kind_id IntKind)) _ _ 4 5 refl refl) refl
