@@ -1,10 +1,14 @@
 //! Where an expression begins, and which point gives its value.
-ghost use Rattle.std.specs.Prelude.{◌≡◌};
+ghost use Rattle.std.specs.Prelude.{◌≡◌, ◌+◌, IfOk};
+ghost use Rattle.lk_lower_expr.specs.Counts as counts;
+ghost use Rattle.lk_lower_expr.specs.Values as rules;
+ghost use Rattle.lk_types.specs.Table.{type_at};
 ghost use Rattle.lk_lower_expr.specs.Naming.{part_in};
 
 use crate::names::SourceNames;
+use lk_base::{Kind, NoMemory};
 use lk_typed::{LibraryCall, TypedExpr, TypedForm};
-use lk_types::TypeTable;
+use lk_types::{CType, TypeId, TypeTable};
 
 /// The slot that an expression names, where it names one.
 #[tactic(auto, unfolding(crate::specs::Expressions::part))]
@@ -42,4 +46,73 @@ pub fn slot_of(table: &TypeTable, names: &SourceNames, e: &TypedExpr) -> Option<
         | TypedForm::Discard(_)
         | TypedForm::Null => None,
     }
+}
+
+/// Whether a type is void; it is where the table has no type of that number.
+fn is_void(table: &TypeTable, ty: TypeId) -> bool
+    ensures { result ≡ counts.is_void (type_at table.now ty) }
+{
+    if ty.0 >= table.count() {
+        return true;
+    }
+    match table.get(ty) {
+        CType::Void => true,
+        CType::Int(_)
+        | CType::ThreadId
+        | CType::Mutex
+        | CType::Cond
+        | CType::Pointer(_)
+        | CType::Array(_, _)
+        | CType::Struct(_)
+        | CType::Function { .. }
+        | CType::Opaque(_) => false,
+    }
+}
+
+/// Whether a type is of pointers.
+fn is_pointer(table: &TypeTable, ty: TypeId) -> bool
+    ensures { result ≡ rules.is_pointer (type_at table.now ty) }
+{
+    if ty.0 >= table.count() {
+        return false;
+    }
+    match table.get(ty) {
+        CType::Pointer(_) => true,
+        CType::Void
+        | CType::Int(_)
+        | CType::ThreadId
+        | CType::Mutex
+        | CType::Cond
+        | CType::Array(_, _)
+        | CType::Struct(_)
+        | CType::Function { .. }
+        | CType::Opaque(_) => false,
+    }
+}
+
+/// How many steps `?:` has of its own.
+fn choice_count(table: &TypeTable, ty: TypeId) -> u32
+    ensures { result ≡ counts.choice_count (type_at table.now ty) }
+{
+    if is_void(table, ty) { 1 } else { 4 }
+}
+
+/// How many steps `op=` has of its own, by the types of its place and of its computation.
+fn compound_count(place: TypeId, computed: TypeId) -> u32
+    ensures { result ≡ counts.compound_count place computed }
+{
+    if place == computed { 3 } else { 5 }
+}
+
+/// How many steps `++` or `--` has of its own, by the types of its place and of its computation.
+fn step_count(table: &TypeTable, place: TypeId, computed: TypeId) -> u32
+    ensures { result ≡ counts.step_count (type_at table.now computed) place computed }
+{
+    if place != computed {
+        return 6;
+    }
+    if is_pointer(table, computed) || computed == TypeId::of_kind(Kind::Int) {
+        return 4;
+    }
+    5
 }
