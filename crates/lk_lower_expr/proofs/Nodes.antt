@@ -1,7 +1,8 @@
 -- The part of an expression stands at the expression's node.
 use Rattle.std.proofs.Common.{sym, ap, ◌∙◌, ◌≡◌, refl, ℕ, Bool, true, false, Option, None, Some, List}
 use Rattle.std.specs.Prelude.{if◌then◌else◌}
-use Rattle.lk_lower_expr.proofs.Forms.{node_of, of_expression}
+use Rattle.lk_lower_expr.proofs.Forms.{of_expression}
+use Rattle.lk_lower_expr.specs.Naming.{node_of}
 use Rattle.lk_lower_expr.specs.Expressions.{part, form_part, library_part, of_callee, of_form, of_library, of_expr}
 use Rattle.lk_lower_expr.specs.Library.{Called, by_name, by_pointer, call_part}
 use Rattle.lk_lower_expr.specs.Names.{Names, Node}

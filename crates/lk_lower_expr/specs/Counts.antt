@@ -1,6 +1,9 @@
 -- How many steps of its own the node of an expression has, where that depends on types.
-use Rattle.std.specs.Prelude.{ℕ, Bool, true, false, ◌||◌, nat_eq, if◌then◌else◌}
+use Rattle.std.specs.Prelude.{ℕ, Bool, true, false, ◌||◌, nat_eq, if◌then◌else◌, suc, List, [], ◌∷◌}
 use Rattle.lk_base.specs.declared.kind.Kind.TheVariants.{Int as IntKind}
+use Rattle.lk_lower_expr.specs.Library.{is_text}
+use Rattle.lk_typed.specs.declared.expression.TypedExpr.{TypedExpr}
+use Rattle.lk_types.specs.Table.{Table, type_at}
 use Rattle.lk_lower_expr.specs.Values.{is_pointer}
 use Rattle.lk_types.specs.Predeclared.{kind_id}
 use Rattle.lk_types.specs.declared.c_type.CType.{CType}
@@ -26,3 +29,8 @@ compound_count place computed = if nat_eq place computed then 3 else 5
 
 abbrev pub step_count : CType → (place computed : ℕ) → ℕ
 step_count form place computed = if nat_eq place computed then (if is_pointer form || nat_eq computed (kind_id IntKind) then 4 else 5) else 6
+
+-- how many of these expressions are of type `char *`
+abbrev pub text_count : Table → List TypedExpr → ℕ
+text_count table [] = 0
+text_count table (e ∷ others) = if is_text (type_at table e.ty) then suc (text_count table others) else text_count table others
