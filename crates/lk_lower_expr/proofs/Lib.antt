@@ -1,2 +1,3 @@
 pub mod Chosen
 pub mod Forms
+pub mod Nodes

@@ -7,10 +7,11 @@ use Rattle.lk_lower_expr.specs.Names.{Names, Node}
 use Rattle.lk_lower_expr.specs.Parts as parts
 use Rattle.lk_lower_expr.specs.Parts.{Part}
 use Rattle.lk_lower_expr.specs.Values as rules
-use Rattle.lk_typed.specs.declared.expression.Callee.TheFolds.{fold-TypedExpr, fold-TypedForm}
+use Rattle.lk_typed.specs.declared.expression.Callee.TheFolds.{fold-TypedExpr, fold-TypedForm, fold-LibraryCall}
 use Rattle.lk_typed.specs.declared.expression.Callee.TheOpen.{Callee-F, TypedForm-F, LibraryCall-F, TypedExpr-F}
 use Rattle.lk_typed.specs.declared.expression.TypedExpr.{TypedExpr}
 use Rattle.lk_typed.specs.declared.expression.TypedForm.{TypedForm}
+use Rattle.lk_typed.specs.declared.library.LibraryCall.{LibraryCall}
 
 module _ (names : Names) where
   abbrev pub of_callee : Callee-F Called (Node → Part) (Node → Part) Part → Called
@@ -77,3 +78,7 @@ module _ (names : Names) where
   -- the same of a form, by its node
   unfoldable pub form_part : TypedForm → Node → Part
   form_part = fold-TypedForm Called (Node → Part) (Node → Part) Part of_callee of_form of_library of_expr
+
+  -- and of a call of the library
+  unfoldable pub library_part : LibraryCall → Node → Part
+  library_part = fold-LibraryCall Called (Node → Part) (Node → Part) Part of_callee of_form of_library of_expr

@@ -16,6 +16,19 @@ pub data Called : Type 0 where
   by_name : (entity : ℕ) → Called
   by_pointer : Part → Called
 
+-- `char *`
+abbrev pub is_text : CType → Bool
+is_text Void = false
+is_text (Int k) = false
+is_text ThreadId = false
+is_text Mutex = false
+is_text Cond = false
+is_text (Pointer t) = nat_eq t (kind_id Char)
+is_text (Array t n) = false
+is_text (Struct s) = false
+is_text (Function result params dots) = false
+is_text (Opaque n) = false
+
 module _ (names : Names) where
   abbrev at : ℕ → ℕ → ℕ
   at = names.at
@@ -68,19 +81,6 @@ module _ (names : Names) where
   -- a read of the text to which the operand points; it stands where the operand does
   abbrev pub scan_part : Node → Part → Part
   scan_part node a = parts.computes names node (a ∷ []) 1 (λ on. step (does.Scan a.value) (parts.value_of names node.type) a.node.spot on ∷ [])
-
-  -- `char *`
-  abbrev pub is_text : CType → Bool
-  is_text Void = false
-  is_text (Int k) = false
-  is_text ThreadId = false
-  is_text Mutex = false
-  is_text Cond = false
-  is_text (Pointer t) = nat_eq t (kind_id Char)
-  is_text (Array t n) = false
-  is_text (Struct s) = false
-  is_text (Function result params dots) = false
-  is_text (Opaque n) = false
 
   -- those operands of `printf` that are read as texts
   abbrev pub texts_of : List Part → List Part

@@ -70,3 +70,7 @@ names_of table source = record {
 
 abbrev pub part_in : Table → SourceNames → TypedExpr → Part
 part_in table source = part (names_of table source)
+
+-- the node of an expression
+abbrev pub node_of : TypedExpr → Node
+node_of e = record { ordinal = e.ordinal; spot = e.spot; type = e.ty }

@@ -19,6 +19,18 @@ use Rattle.lk_types.specs.Predeclared.{kind_id}
 use Rattle.lk_types.specs.declared.c_type.CType.{CType}
 use Rattle.lk_types.specs.declared.c_type.CType.TheVariants.{Void, Int, ThreadId, Mutex, Cond, Pointer, Array, Struct, Function, Opaque}
 
+abbrev pub is_pointer : CType → Bool
+is_pointer Void = false
+is_pointer (Int k) = false
+is_pointer ThreadId = false
+is_pointer Mutex = false
+is_pointer Cond = false
+is_pointer (Pointer t) = true
+is_pointer (Array t n) = false
+is_pointer (Struct s) = false
+is_pointer (Function result params dots) = false
+is_pointer (Opaque n) = false
+
 module _ (names : Names) where
   abbrev at : ℕ → ℕ → ℕ
   at = names.at
@@ -223,18 +235,6 @@ module _ (names : Names) where
       let o = node.ordinal in changes node a (changed change (at o 0) (at o 4)) 6 (λ on.
       reading a (at o 1) ∷ one_of node (at o 2) ∷ converting node (at o 0) t (at o 3) ∷ computing node op (at o 2) (at o 1) t (at o 4) ∷
       converting node (at o 3) a.node.type (at o 5) ∷ writing a (at o 4) on ∷ [])
-
-  abbrev is_pointer : CType → Bool
-  is_pointer Void = false
-  is_pointer (Int k) = false
-  is_pointer ThreadId = false
-  is_pointer Mutex = false
-  is_pointer Cond = false
-  is_pointer (Pointer t) = true
-  is_pointer (Array t n) = false
-  is_pointer (Struct s) = false
-  is_pointer (Function result params dots) = false
-  is_pointer (Opaque n) = false
 
   unfoldable pub step_part : Node → StepOperator → Change → Part → ℕ → Part
   step_part node operator change a t =

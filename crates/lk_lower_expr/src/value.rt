@@ -1,10 +1,16 @@
 //! Where an expression begins, and which point gives its value.
-ghost use Rattle.std.specs.Prelude.{◌≡◌};
-ghost use Rattle.lk_lower_expr.specs.Naming.{part_in};
+ghost use Rattle.std.specs.Prelude.{◌≡◌, ◌+◌, IfOk};
+ghost use Rattle.lk_lower_expr.specs.Counts as counts;
+ghost use Rattle.lk_lower_expr.specs.Values as rules;
+ghost use Rattle.lk_types.specs.Table.{type_at};
+ghost use Rattle.lk_lower_expr.specs.Expressions.{library_part};
+ghost use Rattle.lk_lower_expr.specs.Library as calls;
+ghost use Rattle.lk_lower_expr.specs.Naming.{names_of, node_of, part_in};
 
 use crate::names::SourceNames;
+use lk_base::{Kind, NoMemory};
 use lk_typed::{LibraryCall, TypedExpr, TypedForm};
-use lk_types::TypeTable;
+use lk_types::{CType, TypeId, TypeTable};
 
 /// The slot that an expression names, where it names one.
 #[tactic(auto, unfolding(crate::specs::Expressions::part))]
@@ -41,5 +47,196 @@ pub fn slot_of(table: &TypeTable, names: &SourceNames, e: &TypedExpr) -> Option<
         | TypedForm::Convert(_)
         | TypedForm::Discard(_)
         | TypedForm::Null => None,
+    }
+}
+
+/// Whether a type is void; it is where the table has no type of that number.
+fn is_void(table: &TypeTable, ty: TypeId) -> bool
+    ensures { result ≡ counts.is_void (type_at table.now ty) }
+{
+    if ty.0 >= table.count() {
+        return true;
+    }
+    match table.get(ty) {
+        CType::Void => true,
+        CType::Int(_)
+        | CType::ThreadId
+        | CType::Mutex
+        | CType::Cond
+        | CType::Pointer(_)
+        | CType::Array(_, _)
+        | CType::Struct(_)
+        | CType::Function { .. }
+        | CType::Opaque(_) => false,
+    }
+}
+
+/// Whether a type is of pointers.
+fn is_pointer(table: &TypeTable, ty: TypeId) -> bool
+    ensures { result ≡ rules.is_pointer (type_at table.now ty) }
+{
+    if ty.0 >= table.count() {
+        return false;
+    }
+    match table.get(ty) {
+        CType::Pointer(_) => true,
+        CType::Void
+        | CType::Int(_)
+        | CType::ThreadId
+        | CType::Mutex
+        | CType::Cond
+        | CType::Array(_, _)
+        | CType::Struct(_)
+        | CType::Function { .. }
+        | CType::Opaque(_) => false,
+    }
+}
+
+/// How many steps `?:` has of its own.
+fn choice_count(table: &TypeTable, ty: TypeId) -> u32
+    ensures { result ≡ counts.choice_count (type_at table.now ty) }
+{
+    if is_void(table, ty) { 1 } else { 4 }
+}
+
+/// How many steps `op=` has of its own, by the types of its place and of its computation.
+fn compound_count(place: TypeId, computed: TypeId) -> u32
+    ensures { result ≡ counts.compound_count place computed }
+{
+    if place == computed { 3 } else { 5 }
+}
+
+/// How many steps `++` or `--` has of its own, by the types of its place and of its computation.
+fn step_count(table: &TypeTable, place: TypeId, computed: TypeId) -> u32
+    ensures { result ≡ counts.step_count (type_at table.now computed) place computed }
+{
+    if place != computed {
+        return 6;
+    }
+    if is_pointer(table, computed) || computed == TypeId::of_kind(Kind::Int) {
+        return 4;
+    }
+    5
+}
+
+/// A number of steps with more of them.
+fn with_more(count: u32, more: u32) -> Result<u32, NoMemory>
+    ensures { IfOk result (λ sum. sum ≡ count + more) }
+{
+    count.checked_add(more).ok_or(NoMemory)
+}
+
+/// Whether a type is `char *`.
+fn is_text(table: &TypeTable, ty: TypeId) -> bool
+    ensures { result ≡ calls.is_text (type_at table.now ty) }
+{
+    if ty.0 >= table.count() {
+        return false;
+    }
+    match table.get(ty) {
+        CType::Pointer(inner) => *inner == TypeId::of_kind(Kind::Char),
+        CType::Void
+        | CType::Int(_)
+        | CType::ThreadId
+        | CType::Mutex
+        | CType::Cond
+        | CType::Array(_, _)
+        | CType::Struct(_)
+        | CType::Function { .. }
+        | CType::Opaque(_) => false,
+    }
+}
+
+/// How many of the operands of `printf` are read as texts.
+fn text_count(table: &TypeTable, args: &[TypedExpr]) -> Result<u32, NoMemory>
+    ensures { IfOk result (λ count. count ≡ counts.text_count table.now args.now) }
+{
+    let mut count = 0;
+    for arg in args {
+        if is_text(table, arg.ty) {
+            count = with_more(count, 1)?;
+        }
+    }
+    Ok(count)
+}
+
+/// How many steps of its own the node of an expression has.
+#[tactic(auto, unfolding(crate::specs::Expressions::part))]
+pub fn count_of(table: &TypeTable, names: &SourceNames, e: &TypedExpr) -> Result<u32, NoMemory>
+    ensures { IfOk result (λ count. count ≡ (part_in table.now names.now e.now).count) }
+{
+    match &e.form {
+        TypedForm::Load(inner) => {
+            let count = count_of(table, names, inner.get())?;
+            with_more(count, 1)
+        }
+        TypedForm::Decay(inner) => {
+            let count = count_of(table, names, inner.get())?;
+            with_more(count, 2)
+        }
+        TypedForm::Convert(inner) => {
+            let count = count_of(table, names, inner.get())?;
+            with_more(count, 1)
+        }
+        TypedForm::Choice(_, _, _) => Ok(choice_count(table, e.ty)),
+        TypedForm::Compound(_, place, _, ty) => Ok(compound_count(place.get().ty, *ty)),
+        TypedForm::Step(_, _, place, ty) => Ok(step_count(table, place.get().ty, *ty)),
+        TypedForm::And(_, _) | TypedForm::Or(_, _) => Ok(7),
+        TypedForm::Paren(_) => Ok(0),
+        TypedForm::Call(_, _) => Ok(1),
+        TypedForm::Library(call) => library_count(table, names, call, e),
+        TypedForm::Slot(_)
+        | TypedForm::Indirection(_)
+        | TypedForm::Address(_)
+        | TypedForm::Comma(_, _)
+        | TypedForm::Discard(_) => Ok(0),
+        TypedForm::Object(_)
+        | TypedForm::Text(_)
+        | TypedForm::Member(_, _)
+        | TypedForm::Arrow(_, _)
+        | TypedForm::Index(_, _)
+        | TypedForm::Number(_)
+        | TypedForm::Function(_)
+        | TypedForm::Unary(_, _)
+        | TypedForm::Binary(_, _, _)
+        | TypedForm::Assign(_, _)
+        | TypedForm::Extern(_, _)
+        | TypedForm::Size(_)
+        | TypedForm::Null => Ok(1),
+    }
+}
+
+/// How many steps a call of the library has, at the node of an expression.
+#[tactic(auto, unfolding(crate::specs::Expressions::library_part))]
+fn library_count(
+    table: &TypeTable,
+    names: &SourceNames,
+    call: &LibraryCall,
+    e: &TypedExpr,
+) -> Result<u32, NoMemory>
+    ensures { IfOk result (λ count. count ≡
+        (library_part (names_of table.now names.now) call.now (node_of e.now)).count) }
+{
+    match call {
+        LibraryCall::Print(_, args) => {
+            let count = text_count(table, args.list())?;
+            with_more(count, 1)
+        }
+        LibraryCall::Create(_, _, _) | LibraryCall::Wait(_, _) => Ok(2),
+        LibraryCall::Join(_)
+        | LibraryCall::Detach(_)
+        | LibraryCall::ExitThread(_)
+        | LibraryCall::SelfId
+        | LibraryCall::Equal(_, _)
+        | LibraryCall::Init(_)
+        | LibraryCall::Destroy(_)
+        | LibraryCall::Lock(_)
+        | LibraryCall::Unlock(_)
+        | LibraryCall::Signal(_)
+        | LibraryCall::Allocate(_, _, _)
+        | LibraryCall::Free(_)
+        | LibraryCall::Exit(_)
+        | LibraryCall::Scan(_)
+        | LibraryCall::Compute(_) => Ok(1),
     }
 }
