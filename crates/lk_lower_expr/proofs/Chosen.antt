@@ -92,7 +92,7 @@ of_sides f true x y b c left right = left
 of_sides f false x y b c left right = right
 
 -- the part of an expression has the type of its node
-type_of : (names : Names) (e : TypedExpr) → (part names e).node.type ≡ e.ty
+pub type_of : (names : Names) (e : TypedExpr) → (part names e).node.type ≡ e.ty
 type_of names e = ap (λ (n : Node). n.type) (stands_at names e)
 
 pub library_counts : (names : Names) (e : TypedExpr) (call : LibraryCall) → e.form ≡ form.Library call → (part names e).count ≡ (library_part names call (node_of e)).count

@@ -1,3 +1,4 @@
 pub mod Chosen
 pub mod Forms
+pub mod Given
 pub mod Nodes

@@ -2,6 +2,8 @@
 use Rattle.std.specs.Prelude.{ℕ, Bool, true, false, ◌||◌, nat_eq, if◌then◌else◌, suc, List, [], ◌∷◌}
 use Rattle.lk_base.specs.declared.kind.Kind.TheVariants.{Int as IntKind}
 use Rattle.lk_lower_expr.specs.Library.{is_text}
+use Rattle.lk_typed.specs.declared.expression.Change.{Change}
+use Rattle.lk_typed.specs.declared.expression.Change.TheVariants.{After, Before}
 use Rattle.lk_typed.specs.declared.expression.TypedExpr.{TypedExpr}
 use Rattle.lk_types.specs.Table.{Table, type_at}
 use Rattle.lk_lower_expr.specs.Values.{is_pointer}
@@ -34,3 +36,19 @@ step_count form place computed = if nat_eq place computed then (if is_pointer fo
 abbrev pub text_count : Table → List TypedExpr → ℕ
 text_count table [] = 0
 text_count table (e ∷ others) = if is_text (type_at table e.ty) then suc (text_count table others) else text_count table others
+
+-- ---- which step gives the value
+
+abbrev pub choice_step : CType → ℕ
+choice_step form = if is_void form then 0 else 3
+
+abbrev pub compound_step : (place computed : ℕ) → ℕ
+compound_step place computed = if nat_eq place computed then 1 else 3
+
+-- the step that is written
+abbrev pub written_step : CType → (place computed : ℕ) → ℕ
+written_step form place computed = if nat_eq place computed then (if is_pointer form || nat_eq computed (kind_id IntKind) then 2 else 3) else 4
+
+abbrev pub changed_step : Change → CType → (place computed : ℕ) → ℕ
+changed_step After form place computed = 0
+changed_step Before form place computed = written_step form place computed

@@ -7,7 +7,8 @@ use Rattle.lk_lower_expr.specs.Names.{Names, Node}
 use Rattle.lk_lower_expr.specs.Parts as parts
 use Rattle.lk_lower_expr.specs.Parts.{Part}
 use Rattle.lk_lower_expr.specs.Values as rules
-use Rattle.lk_typed.specs.declared.expression.Callee.TheFolds.{fold-TypedExpr, fold-TypedForm, fold-LibraryCall}
+use Rattle.lk_typed.specs.declared.expression.Callee.{Callee}
+use Rattle.lk_typed.specs.declared.expression.Callee.TheFolds.{fold-TypedExpr, fold-TypedForm, fold-LibraryCall, fold-Callee}
 use Rattle.lk_typed.specs.declared.expression.Callee.TheOpen.{Callee-F, TypedForm-F, LibraryCall-F, TypedExpr-F}
 use Rattle.lk_typed.specs.declared.expression.TypedExpr.{TypedExpr}
 use Rattle.lk_typed.specs.declared.expression.TypedForm.{TypedForm}
@@ -82,3 +83,7 @@ module _ (names : Names) where
   -- and of a call of the library
   unfoldable pub library_part : LibraryCall → Node → Part
   library_part = fold-LibraryCall Called (Node → Part) (Node → Part) Part of_callee of_form of_library of_expr
+
+  -- and of what is called
+  unfoldable pub callee_part : Callee → Called
+  callee_part = fold-Callee Called (Node → Part) (Node → Part) Part of_callee of_form of_library of_expr

@@ -7,4 +7,4 @@ mod value;
 
 pub use names::{LocalNames, SourceNames};
 pub use step::{NamedStep, Step};
-pub use value::slot_of;
+pub use value::{count_of, slot_of, value_of};

@@ -1,15 +1,15 @@
 //! Where an expression begins, and which point gives its value.
-ghost use Rattle.std.specs.Prelude.{◌≡◌, ◌+◌, IfOk};
+ghost use Rattle.std.specs.Prelude.{◌≡◌, ◌+◌, ◌<◌, ◌^◌, IfOk};
 ghost use Rattle.lk_lower_expr.specs.Counts as counts;
 ghost use Rattle.lk_lower_expr.specs.Values as rules;
 ghost use Rattle.lk_types.specs.Table.{type_at};
 ghost use Rattle.lk_lower_expr.specs.Expressions.{library_part};
 ghost use Rattle.lk_lower_expr.specs.Library as calls;
-ghost use Rattle.lk_lower_expr.specs.Naming.{names_of, node_of, part_in};
+ghost use Rattle.lk_lower_expr.specs.Naming.{at_of, names_of, node_of, part_in, AreFew};
 
 use crate::names::SourceNames;
 use lk_base::{Kind, NoMemory};
-use lk_typed::{LibraryCall, TypedExpr, TypedForm};
+use lk_typed::{Change, LibraryCall, TypedExpr, TypedForm};
 use lk_types::{CType, TypeId, TypeTable};
 
 /// The slot that an expression names, where it names one.
@@ -238,5 +238,102 @@ fn library_count(
         | LibraryCall::Exit(_)
         | LibraryCall::Scan(_)
         | LibraryCall::Compute(_) => Ok(1),
+    }
+}
+
+/// The step of `?:` that gives its value.
+fn choice_step(table: &TypeTable, ty: TypeId) -> u32
+    ensures value { result ≡ counts.choice_step (type_at table.now ty) }
+    ensures few { result < 2 ^ 31 }
+{
+    if is_void(table, ty) { 0 } else { 3 }
+}
+
+/// The step of `op=` that gives its value, by the types of its place and of its computation.
+fn compound_step(place: TypeId, computed: TypeId) -> u32
+    ensures value { result ≡ counts.compound_step place computed }
+    ensures few { result < 2 ^ 31 }
+{
+    if place == computed { 1 } else { 3 }
+}
+
+/// The step of `++` or `--` that gives what is written, by the types of its place and of its computation.
+fn written_step(table: &TypeTable, place: TypeId, computed: TypeId) -> u32
+    ensures value { result ≡ counts.written_step (type_at table.now computed) place computed }
+    ensures few { result < 2 ^ 31 }
+{
+    if place != computed {
+        return 4;
+    }
+    if is_pointer(table, computed) || computed == TypeId::of_kind(Kind::Int) {
+        return 2;
+    }
+    3
+}
+
+/// The step behind those that a place or a value has at its node, where its value is read or converted.
+fn behind(
+    table: &TypeTable,
+    names: &SourceNames,
+    node: u32,
+    inner: &TypedExpr,
+    more: u32,
+) -> Result<u32, NoMemory>
+    requires { AreFew names.now }
+    ensures { IfOk result (λ point. point ≡ at_of names.now node ((part_in table.now names.now inner.now).count + more)) }
+{
+    let count = count_of(table, names, inner)?;
+    let step = with_more(count, more)?;
+    if step >= 1 << 31 {
+        return Err(NoMemory);
+    }
+    Ok(names.at(node, step))
+}
+
+/// The point that gives the value of an expression, or the pointer to the place that it names.
+#[tactic(auto, unfolding(crate::specs::Expressions::part))]
+pub fn value_of(table: &TypeTable, names: &SourceNames, e: &TypedExpr) -> Result<u32, NoMemory>
+    requires { AreFew names.now }
+    ensures { IfOk result (λ point. point ≡ (part_in table.now names.now e.now).value) }
+{
+    let node = e.ordinal;
+    match &e.form {
+        TypedForm::Load(inner) => behind(table, names, node, inner.get(), 0),
+        TypedForm::Decay(inner) => behind(table, names, node, inner.get(), 1),
+        TypedForm::Convert(inner) => behind(table, names, node, inner.get(), 0),
+        TypedForm::Indirection(inner) => value_of(table, names, inner.get()),
+        TypedForm::Address(inner) => value_of(table, names, inner.get()),
+        TypedForm::Discard(inner) => value_of(table, names, inner.get()),
+        TypedForm::Paren(inner) => match slot_of(table, names, inner.get()) {
+            None => value_of(table, names, inner.get()),
+            Some(_) => Ok(names.at(node, 0)),
+        },
+        TypedForm::Comma(_, right) => value_of(table, names, right.get()),
+        TypedForm::Assign(_, right) => value_of(table, names, right.get()),
+        TypedForm::And(_, _) | TypedForm::Or(_, _) => Ok(names.at(node, 6)),
+        TypedForm::Choice(_, _, _) => Ok(names.at(node, choice_step(table, e.ty))),
+        TypedForm::Compound(_, place, _, ty) => Ok(names.at(
+            node,
+            compound_step(place.get().ty, *ty),
+        )),
+        TypedForm::Step(_, change, place, ty) => match change {
+            Change::After => Ok(names.at(node, 0)),
+            Change::Before => Ok(names.at(node, written_step(table, place.get().ty, *ty))),
+        },
+        TypedForm::Call(_, _) => Ok(names.at(node, 0)),
+        TypedForm::Library(_) => Ok(names.at(node, 0)),
+        TypedForm::Object(_)
+        | TypedForm::Slot(_)
+        | TypedForm::Text(_)
+        | TypedForm::Member(_, _)
+        | TypedForm::Arrow(_, _)
+        | TypedForm::Index(_, _)
+        | TypedForm::Number(_)
+        | TypedForm::Function(_)
+        | TypedForm::Unary(_, _)
+        | TypedForm::Binary(_, _, _)
+        | TypedForm::Extern(_, _)
+        | TypedForm::Size(_)
+        | TypedForm::Null => Ok(names.at(node, 0)),
     }
 }
