@@ -1,5 +1,5 @@
 -- What the rules have in common that choose among several.
-use Rattle.std.proofs.Common.{arith, ◌+◌, sym, ap, ◌∙◌, ◌≡◌, ℕ, Bool, true, false, ◌||◌, Option, None, Some, nat_eq, refl}
+use Rattle.std.proofs.Common.{arith, ◌+◌, sym, ap, ◌∙◌, ◌≡◌, ℕ, Bool, true, false, ◌||◌, Option, None, nat_eq, refl}
 use Rattle.std.specs.Prelude.{if◌then◌else◌, length, map, suc, List, [], ◌∷◌}
 use Rattle.lk_lower_expr.specs.Library.{Called, texts_of, is_text, print_part}
 use Rattle.lk_lower_expr.specs.Naming.{names_of}
@@ -23,7 +23,6 @@ use Rattle.lk_typed.specs.declared.expression.Callee.TheOpen.{LibraryCall-F}
 use Rattle.lk_typed.specs.declared.library.LibraryCall.{LibraryCall}
 use Rattle.lk_typed.specs.declared.library.LibraryCall.TheVariants as library
 use Rattle.lk_typed.specs.declared.expression.TypedExpr.{TypedExpr}
-use Rattle.lk_typed.specs.declared.expression.TypedForm.{TypedForm}
 use Rattle.lk_typed.specs.declared.expression.TypedForm.TheVariants as form
 use Rattle.lk_types.specs.declared.c_type.CType.{CType}
 use Rattle.lk_types.specs.declared.c_type.CType.TheVariants.{Void, Int, ThreadId, Mutex, Cond, Pointer, Array, Struct, Function, Opaque}

@@ -1,22 +1,21 @@
 -- Which step gives the value of an expression, of the forms that choose among several, and of calls.
-use Rattle.std.proofs.Common.{◌+◌, sym, ap, ◌∙◌, ◌≡◌, ℕ, Bool, true, false, ◌||◌, Option, None, Some, List, nat_eq, refl}
+use Rattle.std.proofs.Common.{ap, ◌∙◌, ◌≡◌, ℕ, Bool, true, false, ◌||◌, List, nat_eq, refl}
 use Rattle.std.specs.Prelude.{if◌then◌else◌}
 use Rattle.lk_arith.specs.declared.operators.Op.{Op}
 use Rattle.lk_base.specs.declared.kind.Kind.TheVariants.{Int as IntKind}
 use Rattle.lk_lower_expr.proofs.Chosen.{of_sides, type_of}
-use Rattle.lk_lower_expr.proofs.Forms.{as_form, of_Choice, of_Compound, of_Step, of_Library, of_Call, of_Paren}
-use Rattle.lk_lower_expr.specs.Counts.{is_void, choice_step, compound_step, changed_step, written_step}
-use Rattle.lk_lower_expr.specs.Expressions.{part, form_part, library_part, callee_part, of_callee, of_form, of_library, of_expr}
+use Rattle.lk_lower_expr.proofs.Forms.{as_form, of_Choice, of_Compound, of_Step, of_Library, of_Call}
+use Rattle.lk_lower_expr.specs.Counts.{choice_step, compound_step, written_step}
+use Rattle.lk_lower_expr.specs.Expressions.{part, library_part, of_callee, of_form, of_library, of_expr}
 use Rattle.lk_lower_expr.specs.Library.{Called, by_name, by_pointer, call_part}
 use Rattle.lk_lower_expr.specs.Names.{Names, Node}
 use Rattle.lk_lower_expr.specs.Naming.{node_of}
-use Rattle.lk_lower_expr.specs.Parts.{Part, paren_of}
+use Rattle.lk_lower_expr.specs.Parts.{Part}
 use Rattle.lk_lower_expr.specs.Values.{choice_part, choice_of, compound_part, step_part, is_pointer}
 use Rattle.lk_tree.specs.declared.operators.StepOperator.{StepOperator}
 use Rattle.lk_typed.specs.declared.expression.Callee.{Callee}
 use Rattle.lk_typed.specs.declared.expression.Callee.TheFolds.{fold_out-LibraryCall}
 use Rattle.lk_typed.specs.declared.expression.Callee.TheOpen.{LibraryCall-F}
-use Rattle.lk_typed.specs.declared.expression.Change.{Change}
 use Rattle.lk_typed.specs.declared.expression.Change.TheVariants.{After, Before}
 use Rattle.lk_typed.specs.declared.expression.TypedExpr.{TypedExpr}
 use Rattle.lk_typed.specs.declared.expression.TypedForm.TheVariants as form

@@ -1,3 +1,4 @@
+pub mod Begun
 pub mod Chosen
 pub mod Forms
 pub mod Given

@@ -1,5 +1,5 @@
 -- The part of an expression stands at the expression's node.
-use Rattle.std.proofs.Common.{sym, ap, ◌∙◌, ◌≡◌, refl, ℕ, Bool, true, false, Option, None, Some, List}
+use Rattle.std.proofs.Common.{ap, ◌∙◌, ◌≡◌, refl, ℕ, Bool, true, false, Option, None, Some, List}
 use Rattle.std.specs.Prelude.{if◌then◌else◌}
 use Rattle.lk_lower_expr.proofs.Forms.{of_expression}
 use Rattle.lk_lower_expr.specs.Naming.{node_of}
@@ -9,9 +9,8 @@ use Rattle.lk_lower_expr.specs.Names.{Names, Node}
 use Rattle.lk_lower_expr.specs.Parts.{Part, paren_of}
 use Rattle.lk_lower_expr.specs.Values.{choice_part, choice_of, compound_part, step_part}
 use Rattle.lk_typed.specs.declared.expression.Callee.{Callee}
-use Rattle.lk_typed.specs.declared.expression.Callee.TheFolds.{fold_out-TypedForm, fold_out-LibraryCall, map-TypedForm, map-LibraryCall, fold-Callee, fold-TypedForm, fold-LibraryCall, fold-TypedExpr}
+use Rattle.lk_typed.specs.declared.expression.Callee.TheFolds.{fold_out-TypedForm, fold_out-LibraryCall, map-TypedForm, fold-Callee}
 use Rattle.lk_typed.specs.declared.expression.Callee.TheOpen.{TypedForm-F, LibraryCall-F}
-use Rattle.lk_typed.specs.declared.expression.Callee.TheViews.{out-TypedForm, out-LibraryCall}
 use Rattle.lk_typed.specs.declared.expression.TypedExpr.{TypedExpr}
 use Rattle.lk_typed.specs.declared.expression.TypedForm.{TypedForm}
 use Rattle.lk_typed.specs.declared.library.LibraryCall.{LibraryCall}

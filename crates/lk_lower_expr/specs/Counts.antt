@@ -2,6 +2,8 @@
 use Rattle.std.specs.Prelude.{ℕ, Bool, true, false, ◌||◌, nat_eq, if◌then◌else◌, suc, List, [], ◌∷◌}
 use Rattle.lk_base.specs.declared.kind.Kind.TheVariants.{Int as IntKind}
 use Rattle.lk_lower_expr.specs.Library.{is_text}
+use Rattle.lk_lower_expr.specs.Names.{Names}
+use Rattle.lk_lower_expr.specs.Parts.{Part, first_of, place_of}
 use Rattle.lk_typed.specs.declared.expression.Change.{Change}
 use Rattle.lk_typed.specs.declared.expression.Change.TheVariants.{After, Before}
 use Rattle.lk_typed.specs.declared.expression.TypedExpr.{TypedExpr}
@@ -52,3 +54,9 @@ written_step form place computed = if nat_eq place computed then (if is_pointer 
 abbrev pub changed_step : Change → CType → (place computed : ℕ) → ℕ
 changed_step After form place computed = 0
 changed_step Before form place computed = written_step form place computed
+
+-- ---- where an expression begins
+
+-- where a place is read at once: it begins with the place, but for a slot
+abbrev pub place_first : Names → Part → ℕ → ℕ
+place_first names a node = first_of (place_of names a.slot a) (names.at node 0)

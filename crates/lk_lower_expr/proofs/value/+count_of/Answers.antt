@@ -1,4 +1,4 @@
-use Rattle.std.proofs.Common.{rules, ◌≡◌, IfOk, sym, subst, ◌∙◌}
+use Rattle.std.proofs.Common.{◌≡◌, IfOk, sym, subst, ◌∙◌}
 use Rattle.lk_lower_expr.proofs.Chosen.{choice_counts, compound_counts, step_counts, library_counts}
 use Rattle.lk_lower_expr.proofs.value.+count_of.Goals as goal
 

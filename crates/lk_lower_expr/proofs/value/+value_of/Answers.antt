@@ -1,4 +1,4 @@
-use Rattle.std.proofs.Common.{◌≡◌, sym, ap, ◌∙◌}
+use Rattle.std.proofs.Common.{sym, ap, ◌∙◌}
 use Rattle.lk_lower_expr.proofs.Given.{choice_value, compound_value, read_value, written_value}
 use Rattle.lk_lower_expr.proofs.value.+value_of.Goals as goal
 use Rattle.lk_typed.specs.declared.expression.TypedForm.TheVariants as form
@@ -15,4 +15,4 @@ returns-in-After t c = rw c.at-in-After.ensures (sym (read_value _ _ _ _ _ (c.in
 pub returns-in-Before : goal.returns-in-Before
 returns-in-Before t c =
     rw (c.at-in-Before.ensures, c.written_step.ensures.value, c.get-in-Before.ensures)
-      (sym (written_value _ _ _ _ _ (c.in-Step.is ∙ ap (λ change. form.Step c.in-Step.field-0 change c.in-Step.place c.in-Step.ty) c.in-Before.is)))
+    (sym (written_value _ _ _ _ _ (c.in-Step.is ∙ ap (λ change. form.Step c.in-Step.field-0 change c.in-Step.place c.in-Step.ty) c.in-Before.is)))

@@ -1,4 +1,4 @@
-use Rattle.std.proofs.Common.{rules, ◌≡◌, ◌+◌, IfOk, sym, subst, ap, ◌∙◌}
+use Rattle.std.proofs.Common.{rules, ◌≡◌, ◌+◌, IfOk, subst, ap, ◌∙◌}
 use Rattle.lk_lower_expr.proofs.Chosen.{print_counts}
 use Rattle.lk_lower_expr.specs.Counts.{text_count}
 use Rattle.lk_lower_expr.proofs.value.library_count.Goals as goal

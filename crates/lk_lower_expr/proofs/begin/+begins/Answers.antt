@@ -1,0 +1,24 @@
+use Rattle.std.proofs.Common.{sym, ap, ◌∙◌}
+use Rattle.lk_lower_expr.proofs.Begun.{as_other, choice_first, compound_first, step_first, paren_first, library_first}
+use Rattle.lk_lower_expr.specs.Counts.{place_first}
+use Rattle.lk_lower_expr.specs.Naming.{names_of, part_in}
+use Rattle.lk_lower_expr.proofs.begin.+begins.Goals as goal
+
+pub first_of-returns-in-Choice : goal.first_of-returns-in-Choice
+first_of-returns-in-Choice t c =
+    as_other _ _ _ (ap (λ e. (part_in c.args.table.now c.args.names.now e).first) c.get-in-Choice.ensures ∙ sym (choice_first _ _ _ _ _ c.in-Choice.is)) c.first_of-in-Choice.ensures
+
+pub first_of-returns-in-Paren : goal.first_of-returns-in-Paren
+first_of-returns-in-Paren t c =
+    as_other _ _ _ (ap (λ e. place_first (names_of c.args.table.now c.args.names.now) (part_in c.args.table.now c.args.names.now e) c.args.e.now.ordinal) c.get-in-Paren.ensures ∙ sym (paren_first _ _ _ c.in-Paren.is)) c.place_first.ensures
+
+pub first_of-returns-in-Compound : goal.first_of-returns-in-Compound
+first_of-returns-in-Compound t c =
+    as_other _ _ _ (ap (λ e. place_first (names_of c.args.table.now c.args.names.now) (part_in c.args.table.now c.args.names.now e) c.args.e.now.ordinal) c.get-in-Compound.ensures ∙ sym (compound_first _ _ _ _ _ _ c.in-Compound.is)) c.place_first-in-Compound.ensures
+
+pub first_of-returns-in-Step : goal.first_of-returns-in-Step
+first_of-returns-in-Step t c =
+    as_other _ _ _ (ap (λ e. place_first (names_of c.args.table.now c.args.names.now) (part_in c.args.table.now c.args.names.now e) c.args.e.now.ordinal) c.get-in-Step.ensures ∙ sym (step_first _ _ _ _ _ _ c.in-Step.is)) c.place_first-in-Step.ensures
+
+pub first_of-returns-in-Library : goal.first_of-returns-in-Library
+first_of-returns-in-Library t c = as_other _ _ _ (sym (library_first _ _ _ c.in-Library.is)) c.library_first.ensures
