@@ -52,7 +52,8 @@ fn extend(
 ) -> Result<bool, NoMemory>
     requires edges { AreEdgesWithin labels.now edges.now }
     requires size { rows.old.size ≡ length labels.now.entries }
-    ensures { IfOk result (Going (AreSound edges.now (is_global_at labels.now)) (AreClosed edges.now (is_global_at labels.now)) rows.old rows.new) }
+    ensures { IfOk result (Going (AreSound edges.now (is_global_at labels.now))
+        (AreClosed edges.now (is_global_at labels.now)) rows.old rows.new) }
 {
     let found = summaries(alloc, edges, rows, labels)?;
     let arrows = arrows(alloc, &found, labels)?;
@@ -64,7 +65,8 @@ fn extend(
 /// Puts the ends of each summary edge together, and answers whether a pair was new.
 fn put_all(found: &[SummaryEdge], rows: &mut BitRows) -> bool
     requires { All (IsSummaryWithin rows.old.size) found.now }
-    ensures pairs { (a b : ℕ) → (has rows.new a b ≡ true) ↔ ((has rows.old a b ≡ true) ⊎ Contains found.now (summary_of a b)) }
+    ensures pairs { (a b : ℕ) → (has rows.new a b ≡ true)
+        ↔ ((has rows.old a b ≡ true) ⊎ Contains found.now (summary_of a b)) }
     ensures grows { Grows rows.old rows.new result }
 {
     let mut changed = false;
@@ -77,7 +79,8 @@ fn put_all(found: &[SummaryEdge], rows: &mut BitRows) -> bool
 /// Puts the ends of a summary edge together, and answers whether the pair was new.
 fn put_summary(summary: &SummaryEdge, rows: &mut BitRows) -> bool
     requires { IsSummaryWithin rows.old.size summary.now }
-    ensures pairs { (x y : ℕ) → has rows.new x y ≡ (has rows.old x y || x == summary.now.from && y == summary.now.to) }
+    ensures pairs { (x y : ℕ) →
+        has rows.new x y ≡ (has rows.old x y || x == summary.now.from && y == summary.now.to) }
     ensures grows { Grows rows.old rows.new result }
 {
     rows.put(summary.from.0, summary.to.0)
@@ -87,7 +90,8 @@ fn put_summary(summary: &SummaryEdge, rows: &mut BitRows) -> bool
 /// from where it begins.
 fn arrows(alloc: Global, found: &[SummaryEdge], labels: &Labels) -> Result<Vec<Arrow>, NoMemory>
     requires { All (IsSummaryWithin (length labels.now.entries)) found.now }
-    ensures { IfOk result (λ arrows. (x : Arrow) → Contains arrows.items x ↔ IsGiven (IsPassedOn (is_global_at labels.now)) found.now x) }
+    ensures { IfOk result (λ arrows. (x : Arrow) →
+        Contains arrows.items x ↔ IsGiven (IsPassedOn (is_global_at labels.now)) found.now x) }
 {
     let mut arrows = Vec::new(alloc);
     for summary in found {
@@ -104,7 +108,8 @@ fn push_arrow(
     arrows: &mut Vec<Arrow>,
 ) -> Result<(), NoMemory>
     requires { IsSummaryWithin (length labels.now.entries) summary.now }
-    ensures { OnOk result (Adds (IsPassedOn (is_global_at labels.now) summary.now) arrows.old.items arrows.new.items) }
+    ensures { OnOk result
+        (Adds (IsPassedOn (is_global_at labels.now) summary.now) arrows.old.items arrows.new.items) }
 {
     if !labels.is_global(summary.to) {
         arrows.push(Arrow {

@@ -31,7 +31,8 @@ pub struct Passage {
 
 /// The edges that pass a site this way, those of one site together.
 pub fn passages(alloc: Global, edges: &[Edge], side: Side) -> Result<Vec<Passage>, NoMemory>
-    ensures each { IfOk result (λ all. (x : Passage) → Contains all.items x ↔ IsGiven (IsPassage side) edges.now x) }
+    ensures each { IfOk result (λ all. (x : Passage) →
+        Contains all.items x ↔ IsGiven (IsPassage side) edges.now x) }
     ensures sorted { IfOk result (λ all. IsNonDecreasingBy (λ passage. passage.site) all.items) }
 {
     let mut all = unsorted(alloc, edges, side)?;
@@ -41,7 +42,8 @@ pub fn passages(alloc: Global, edges: &[Edge], side: Side) -> Result<Vec<Passage
 
 /// The edges that pass a site this way, in the order of all edges.
 fn unsorted(alloc: Global, edges: &[Edge], side: Side) -> Result<Vec<Passage>, NoMemory>
-    ensures { IfOk result (λ all. (x : Passage) → Contains all.items x ↔ IsGiven (IsPassage side) edges.now x) }
+    ensures { IfOk result (λ all. (x : Passage) →
+        Contains all.items x ↔ IsGiven (IsPassage side) edges.now x) }
 {
     let mut all = Vec::new(alloc);
     for edge in edges {

@@ -34,7 +34,9 @@ pub fn summaries(
 ) -> Result<Vec<SummaryEdge>, NoMemory>
     requires edges { AreEdgesWithin labels.now edges.now }
     requires size { levels.now.size ≡ length labels.now.entries }
-    ensures each { IfOk result (λ found. (s : SummaryEdge) → Contains found.items s ↔ Summary (HasEdge edges.now) (is_global_at labels.now) (λ x y. has levels.now x y ≡ true) s.from s.to) }
+    ensures each { IfOk result (λ found. (s : SummaryEdge) → Contains found.items s
+        ↔ Summary (HasEdge edges.now) (is_global_at labels.now)
+        (λ x y. has levels.now x y ≡ true) s.from s.to) }
     ensures within { IfOk result (λ found. All (IsSummaryWithin levels.now.size) found.items) }
 {
     let leavings = passages(alloc, edges, Side::OutOf)?;
@@ -57,7 +59,10 @@ fn push_summaries(
     requires within { All (λ leaving. leaving.from < levels.now.size) leavings.now }
     requires sorted { IsNonDecreasingBy (λ leaving. leaving.site) leavings.now }
     requires size { levels.now.size ≡ length labels.now.entries }
-    ensures { OnOk result (Adds (GivesSummary (is_global_at labels.now) levels.now leavings.now edge.now.from edge.now.to edge.now.mark) found.old.items found.new.items) }
+    ensures { OnOk result (Adds
+        (GivesSummary (is_global_at labels.now) levels.now leavings.now
+        edge.now.from edge.now.to edge.now.mark)
+        found.old.items found.new.items) }
 {
     match edge.mark {
         Mark::Plain => found.push(SummaryEdge {
@@ -89,7 +94,8 @@ fn push_matched(
     requires inside { inside < levels.now.size }
     requires within { All (λ leaving. leaving.from < levels.now.size) leavings.now }
     requires size { levels.now.size ≡ length labels.now.entries }
-    ensures { OnOk result (Adds (IsMatched (is_global_at labels.now) levels.now leavings.now from inside) found.old.items found.new.items) }
+    ensures { OnOk result (Adds (IsMatched (is_global_at labels.now) levels.now leavings.now from inside)
+        found.old.items found.new.items) }
 {
     if labels.is_global(inside) {
         return Ok(());
@@ -112,7 +118,8 @@ fn push_ended(
     requires inside { inside < levels.now.size }
     requires within { leaving.now.from < levels.now.size }
     requires size { levels.now.size ≡ length labels.now.entries }
-    ensures { OnOk result (Adds (Ends (is_global_at labels.now) levels.now from inside leaving.now) found.old.items found.new.items) }
+    ensures { OnOk result (Adds (Ends (is_global_at labels.now) levels.now from inside leaving.now)
+        found.old.items found.new.items) }
 {
     if labels.is_global(leaving.from) || !levels.has(inside.0, leaving.from.0) {
         return Ok(());

@@ -21,7 +21,8 @@ pub(crate) fn arrows(
     edges: &[Edge],
     side: Side,
 ) -> Result<Vec<Arrow>, NoMemory>
-    ensures { IfOk result (λ arrows. (x : Arrow) → Contains arrows.items x ↔ Flows side summaries.now edges.now x) }
+    ensures { IfOk result (λ arrows. (x : Arrow) →
+        Contains arrows.items x ↔ Flows side summaries.now edges.now x) }
 {
     let mut arrows = along(alloc, summaries)?;
     for edge in edges {
@@ -33,7 +34,8 @@ pub(crate) fn arrows(
 
 /// An arrow for each summary edge.
 fn along(alloc: Global, summaries: &[SummaryEdge]) -> Result<Vec<Arrow>, NoMemory>
-    ensures { IfOk result (λ arrows. (x : Arrow) → Contains arrows.items x ↔ IsGiven IsAlong summaries.now x) }
+    ensures { IfOk result (λ arrows. (x : Arrow) →
+        Contains arrows.items x ↔ IsGiven IsAlong summaries.now x) }
 {
     let mut arrows = Vec::new(alloc);
     for summary in summaries {

@@ -26,7 +26,8 @@ pub(crate) fn crossings(
 ) -> Result<Vec<Crossing>, NoMemory>
     requires { All (IsEdgeWithin levels.now.size) edges.now }
     ensures within { IfOk result (λ all. All (IsCrossingInRange levels.now.size) all.items) }
-    ensures each { IfOk result (λ all. (i b m : ℕ) → (has_id (crossed_of all.items i b) m ≡ true) ↔ ((l : ℕ) × HasEdge edges.now m l (Enter i) × (has levels.now l b ≡ true))) }
+    ensures each { IfOk result (λ all. (i b m : ℕ) → (has_id (crossed_of all.items i b) m ≡ true)
+        ↔ ((l : ℕ) × HasEdge edges.now m l (Enter i) × (has levels.now l b ≡ true))) }
 {
     let entrances = passages(alloc, edges, Side::Into)?;
     let mut all = Vec::new(alloc);
@@ -63,7 +64,8 @@ fn past(entrance: &Passage, count: usize) -> usize
 fn crossing(alloc: Global, entrances: &[Passage], levels: &BitRows) -> Result<Crossing, NoMemory>
     requires { All (IsPassageWithin levels.now.size) entrances.now }
     ensures within { IfOk result (IsCrossingInRange levels.now.size) }
-    ensures each { IfOk result (λ crossing. (b m : ℕ) → (has_id (outside_of crossing b) m ≡ true) ↔ IsGiven (LeadsInto levels.now b) entrances.now m) }
+    ensures each { IfOk result (λ crossing. (b m : ℕ) → (has_id (outside_of crossing b) m ≡ true)
+        ↔ IsGiven (LeadsInto levels.now b) entrances.now m) }
 {
     let inside = reached(alloc, entrances, levels)?;
     let inflows = inflows(alloc, entrances, levels)?;
@@ -82,7 +84,8 @@ fn crossing(alloc: Global, entrances: &[Passage], levels: &BitRows) -> Result<Cr
 fn reached(alloc: Global, entrances: &[Passage], levels: &BitRows) -> Result<IdSet, NoMemory>
     requires { All (IsPassageWithin levels.now.size) entrances.now }
     ensures within { IfOk result (IsSetBelow levels.now.size) }
-    ensures each { IfOk result (λ ids. (b : ℕ) → (has_id ids b ≡ true) ↔ IsGiven (LeadsTo levels.now) entrances.now b) }
+    ensures each { IfOk result (λ ids. (b : ℕ) →
+        (has_id ids b ≡ true) ↔ IsGiven (LeadsTo levels.now) entrances.now b) }
 {
     prove!(levels.size() as usize <= 65536);
     let mut list = Vec::new(alloc);

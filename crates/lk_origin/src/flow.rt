@@ -46,7 +46,8 @@ pub fn origins(
 fn starts(alloc: Global, labels: &Labels) -> Result<BitRows, NoMemory>
     ensures size { IfOk result (λ rows. rows.size ≡ length labels.now.entries) }
     ensures origins { IfOk result (λ rows. (o : ℕ) → is_origin_at labels.now o ≡ true → has rows o o ≡ true) }
-    ensures alone { IfOk result (λ rows. (b o : ℕ) → has rows b o ≡ true → (is_origin_at labels.now b ≡ true) × (b ≡ o)) }
+    ensures alone { IfOk result (λ rows. (b o : ℕ) →
+        has rows b o ≡ true → (is_origin_at labels.now b ≡ true) × (b ≡ o)) }
 {
     let mut rows = BitRows::new(alloc, labels.count())?;
     for number in 0..labels.count() {
@@ -60,7 +61,8 @@ fn put_start(number: u32, labels: &Labels, rows: &mut BitRows)
     requires number { number < length labels.now.entries }
     requires size { rows.old.size ≡ length labels.now.entries }
     ensures size { rows.new.size ≡ rows.old.size }
-    ensures pairs { (b o : ℕ) → has rows.new b o ≡ (has rows.old b o || (b == number && is_origin_at labels.now b && b == o)) }
+    ensures pairs { (b o : ℕ) →
+        has rows.new b o ≡ (has rows.old b o || (b == number && is_origin_at labels.now b && b == o)) }
 {
     if labels.is_origin(Label(number)) {
         rows.put(number, number);
@@ -82,7 +84,8 @@ fn flow(
     requires inner { inner.old.size ≡ length labels.now.entries }
     requires all { all.old.size ≡ length labels.now.entries }
     ensures size { OnOk result (all.new.size ≡ all.old.size) }
-    ensures flowed { IfOk result (λ changed. (es : List Edge) → Flowed es labels.now rising.now falling.now inner.old all.old inner.new all.new changed) }
+    ensures flowed { IfOk result (λ changed. (es : List Edge) →
+        Flowed es labels.now rising.now falling.now inner.old all.old inner.new all.new changed) }
 {
     inner.spread_marked(alloc, rising)?;
     take_all(inner, all);

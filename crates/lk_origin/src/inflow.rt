@@ -30,7 +30,8 @@ pub(crate) fn inflows(
     levels: &BitRows,
 ) -> Result<Vec<Inflow>, NoMemory>
     requires { All (IsPassageWithin levels.now.size) entrances.now }
-    ensures each { IfOk result (λ all. (x : Inflow) → Contains all.items x ↔ IsGiven (Enters levels.now) entrances.now x) }
+    ensures each { IfOk result (λ all. (x : Inflow) →
+        Contains all.items x ↔ IsGiven (Enters levels.now) entrances.now x) }
     ensures sorted { IfOk result (λ all. IsNonDecreasingBy (λ inflow. inflow.inside) all.items) }
 {
     let mut all = unsorted(alloc, entrances, levels)?;
@@ -41,7 +42,8 @@ pub(crate) fn inflows(
 /// What flows through the site that these edges enter, edge by edge.
 fn unsorted(alloc: Global, entrances: &[Passage], levels: &BitRows) -> Result<Vec<Inflow>, NoMemory>
     requires { All (IsPassageWithin levels.now.size) entrances.now }
-    ensures { IfOk result (λ all. (x : Inflow) → Contains all.items x ↔ IsGiven (Enters levels.now) entrances.now x) }
+    ensures { IfOk result (λ all. (x : Inflow) →
+        Contains all.items x ↔ IsGiven (Enters levels.now) entrances.now x) }
 {
     let mut all = Vec::new(alloc);
     for entrance in entrances {
@@ -86,7 +88,8 @@ fn of_label(all: &[Inflow], label: u32) -> &[Inflow]
 pub(crate) fn outside_at(alloc: Global, all: &[Inflow], label: u32) -> Result<IdSet, NoMemory>
     requires { IsNonDecreasingBy (λ inflow. inflow.inside) all.now }
     ensures sorted { IfOk result IsStrictlyIncreasing }
-    ensures each { IfOk result (λ ids. (m : ℕ) → (has_id ids m ≡ true) ↔ Contains all.now (inflow_of label m)) }
+    ensures each { IfOk result (λ ids. (m : ℕ) →
+        (has_id ids m ≡ true) ↔ Contains all.now (inflow_of label m)) }
 {
     let mut list = Vec::new(alloc);
     for inflow in of_label(all, label) {

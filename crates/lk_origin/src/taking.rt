@@ -11,7 +11,8 @@ use lk_sets::BitRows;
 fn take_row(from: &BitRows, a: u32, into: &mut BitRows) -> bool
     requires a { a < into.old.size }
     requires size { from.now.size ≡ into.old.size }
-    ensures pairs { (x y : ℕ) → (has into.new x y ≡ true) ↔ ((has into.old x y ≡ true) ⊎ ((x ≡ a) × (has from.now x y ≡ true))) }
+    ensures pairs { (x y : ℕ) → (has into.new x y ≡ true)
+        ↔ ((has into.old x y ≡ true) ⊎ ((x ≡ a) × (has from.now x y ≡ true))) }
     ensures grows { Grows into.old into.new result }
 {
     let mut changed = false;
@@ -24,7 +25,8 @@ fn take_row(from: &BitRows, a: u32, into: &mut BitRows) -> bool
 /// Lets all pairs of one relation stand in the other, and answers whether a pair was new.
 pub(crate) fn take_all(from: &BitRows, into: &mut BitRows) -> bool
     requires { from.now.size ≡ into.old.size }
-    ensures pairs { (x y : ℕ) → (has into.new x y ≡ true) ↔ ((has into.old x y ≡ true) ⊎ (has from.now x y ≡ true)) }
+    ensures pairs { (x y : ℕ) → (has into.new x y ≡ true)
+        ↔ ((has into.old x y ≡ true) ⊎ (has from.now x y ≡ true)) }
     ensures grows { Grows into.old into.new result }
 {
     let mut changed = false;
@@ -39,7 +41,9 @@ fn take_if_global(from: &BitRows, label: Label, labels: &Labels, into: &mut BitR
     requires label { label < length labels.now.entries }
     requires from { from.now.size ≡ length labels.now.entries }
     requires into { into.old.size ≡ length labels.now.entries }
-    ensures pairs { (x y : ℕ) → (has into.new x y ≡ true) ↔ ((has into.old x y ≡ true) ⊎ ((is_global_at labels.now x ≡ true) × (x ≡ label) × (has from.now x y ≡ true))) }
+    ensures pairs { (x y : ℕ) → (has into.new x y ≡ true)
+        ↔ ((has into.old x y ≡ true) ⊎ ((is_global_at labels.now x ≡ true) × (x ≡ label)
+        × (has from.now x y ≡ true))) }
     ensures grows { Grows into.old into.new result }
 {
     if !labels.is_global(label) {
@@ -52,7 +56,8 @@ fn take_if_global(from: &BitRows, label: Label, labels: &Labels, into: &mut BitR
 pub(crate) fn take_globals(from: &BitRows, labels: &Labels, into: &mut BitRows) -> bool
     requires from { from.now.size ≡ length labels.now.entries }
     requires into { into.old.size ≡ length labels.now.entries }
-    ensures pairs { (x y : ℕ) → (has into.new x y ≡ true) ↔ ((has into.old x y ≡ true) ⊎ ((is_global_at labels.now x ≡ true) × (has from.now x y ≡ true))) }
+    ensures pairs { (x y : ℕ) → (has into.new x y ≡ true)
+        ↔ ((has into.old x y ≡ true) ⊎ ((is_global_at labels.now x ≡ true) × (has from.now x y ≡ true))) }
     ensures grows { Grows into.old into.new result }
 {
     let mut changed = false;
