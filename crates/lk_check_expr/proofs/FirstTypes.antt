@@ -8,7 +8,7 @@ use Rattle.lk_types.specs.Predeclared.{predeclared, kind_id}
 use Rattle.lk_types.specs.Table.{Table, IsKnown}
 use Rattle.lk_types.specs.declared.c_type.CType.{CType}
 use Rattle.lk_types.specs.declared.c_type.CType.TheVariants as forms
-use Rattle.lk_typed.specs.Ty.{Int}
+use Rattle.lk_typed.specs.Ty.{Void, Int}
 use Rattle.lk_check_expr.specs.Meaning.{meaning, IsReady}
 use Rattle.lk_check_expr.proofs.Meanings.{meaning_by}
 
@@ -38,3 +38,12 @@ module _ (table : Table) (ready : IsReady table) where
 
   pub kind_means : (k : Kind) → meaning table (kind_id k) ≡ Int k
   kind_means k = meaning_by table ready.table_is (kind_id k) (forms.Int k) (kind_known k) (kind_got k)
+
+  void_got : slice_get table.types 0 ≡ Some forms.Void
+  void_got = first_got 0 forms.Void refl
+
+  pub void_known : IsKnown table 0
+  void_known = slice_get_within table.types 0 forms.Void void_got
+
+  pub void_means : meaning table 0 ≡ Void
+  void_means = meaning_by table ready.table_is 0 forms.Void void_known void_got

@@ -31,3 +31,12 @@ operand_code is_lock is_taken = if is_lock then Some MutexValue else if is_taken
 -- a code, unless something is there
 abbrev pub code_unless : Bool → Code → Option Code
 code_unless exists code = if exists then None else Some code
+
+-- the code of the arms of ?:, by whether one is a mutex or condition variable, and whether a line takes them
+abbrev pub arm_code : Bool → Bool → Option Code
+arm_code has_lock taken = if taken then None else if has_lock then Some MutexValue else Some Mismatch
+
+-- a code, or else that of a rule behind it
+abbrev pub or_behind : Option Code → Option Code → Option Code
+or_behind None behind = behind
+or_behind (Some code) behind = Some code

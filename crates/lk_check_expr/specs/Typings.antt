@@ -80,6 +80,10 @@ told_by_row None None = verdict.Broken Mismatch
 told_by_row None (Some t) = verdict.Typed t
 told_by_row (Some code) row = verdict.Broken code
 
+abbrev pub told_unless : Option Code → Typed → Verdict
+told_unless None t = verdict.Typed t
+told_unless (Some code) t = verdict.Broken code
+
 -- ---- what is said of operands, whatever the addresses of their typings
 
 abbrev pub ForEach : Table → Typed → (Typing → Type 0) → Type 0

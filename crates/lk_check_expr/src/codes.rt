@@ -1,7 +1,8 @@
 //! The code that is told where several hold at one node.
 ghost use Rattle.std.specs.Prelude.{◌≡◌};
+ghost use Rattle.lk_typed.specs.Typing.{if_so};
 ghost use Rattle.lk_check_expr.specs.Codes as spec;
-ghost use Rattle.lk_check_expr.specs.Typings.{told_by_row};
+ghost use Rattle.lk_check_expr.specs.Typings.{told_by_row, told_unless};
 
 use crate::typed::Typed;
 use crate::verdict::Verdict;
@@ -49,5 +50,22 @@ pub(crate) fn by_row(code: Option<Code>, row: Option<Typed>) -> Verdict
             Some(typed) => Verdict::Typed(typed),
             None => Verdict::Broken(Code::Mismatch),
         },
+    }
+}
+
+/// A code where something holds.
+pub(crate) fn code_if(holds: bool, code: Code) -> Option<Code>
+    ensures { result ≡ spec.least_code (if_so holds code) }
+{
+    if holds { Some(code) } else { None }
+}
+
+/// The typing, unless a code holds.
+pub(crate) fn unless(code: Option<Code>, typed: Typed) -> Verdict
+    ensures { result ≡ told_unless code typed }
+{
+    match code {
+        Some(code) => Verdict::Broken(code),
+        None => Verdict::Typed(typed),
     }
 }

@@ -4,7 +4,7 @@ ghost use Rattle.lk_arith.specs.Operators.{is_shift, Outcome};
 ghost use Rattle.lk_typed.specs.Constants as spec;
 ghost use Rattle.lk_typed.specs.Typing.{is_null_value};
 
-use lk_arith::{Op, Undefined, convert, outcome};
+use lk_arith::{Op, UnaryOp, Undefined, convert, outcome, unary_outcome};
 use lk_base::Kind;
 use lk_typed::Constant;
 
@@ -95,5 +95,38 @@ pub(crate) fn logical_constant(decides: bool, a: Constant, b: Constant) -> Const
                 truth_of(b)
             }
         }
+    }
+}
+
+/// A unary operator at a kind, to which its operand is converted.
+pub(crate) fn unary_constant(op: UnaryOp, kind: Kind, a: Constant) -> Constant
+    ensures { result ≡ spec.unary_constant op kind a }
+{
+    match a {
+        Constant::NotConstant => Constant::NotConstant,
+        Constant::Undefined => Constant::Undefined,
+        Constant::Known(x) => computed(unary_outcome(op, kind, convert(kind, x))),
+    }
+}
+
+/// The arm of `?:` that is evaluated, beside the other one.
+fn chosen(first: bool, a: Constant, b: Constant) -> Constant
+    ensures { result ≡ spec.chosen first a b }
+{
+    if first { beside(b, a) } else { beside(a, b) }
+}
+
+/// `?:` at the kind of both arms, one of which is evaluated (C99 6.5.15, 4 and 5).
+pub(crate) fn choice_constant(kind: Kind, c: Constant, a: Constant, b: Constant) -> Constant
+    ensures { result ≡ spec.choice_constant kind c a b }
+{
+    match c {
+        Constant::NotConstant => Constant::NotConstant,
+        Constant::Undefined => beside(a, beside(b, Constant::Undefined)),
+        Constant::Known(x) => match chosen(x != 0, a, b) {
+            Constant::NotConstant => Constant::NotConstant,
+            Constant::Undefined => Constant::Undefined,
+            Constant::Known(y) => Constant::Known(convert(kind, y)),
+        },
     }
 }

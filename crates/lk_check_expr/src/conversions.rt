@@ -158,7 +158,7 @@ fn are_different_pointers(types: &TypeTable, target: &ExprType, ty: &ExprType) -
 }
 
 /// Whether one of two types is a mutex or a condition variable.
-fn has_lock(types: &TypeTable, a: &ExprType, b: &ExprType) -> bool
+pub(crate) fn has_lock(types: &TypeTable, a: &ExprType, b: &ExprType) -> bool
     requires a { IsKnownType types.now a.now }
     requires b { IsKnownType types.now b.now }
     ensures { result ≡ spec_is_lock (meaning_of types.now a.now) || spec_is_lock (meaning_of types.now b.now) }

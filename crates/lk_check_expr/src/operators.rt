@@ -5,6 +5,7 @@ ghost use Rattle.lk_types.specs.Table.{Table};
 ghost use Rattle.lk_typed.specs.declared.binary_row.BinaryRow.TheVariants.{Shift};
 ghost use Rattle.lk_typed.specs.Operators as spec;
 ghost use Rattle.lk_typed.specs.Operators.{is_scalar, must_be};
+ghost use Rattle.lk_typed.specs.Ty.{is_integer, is_pointer};
 ghost use Rattle.lk_typed.specs.Typing.{Typing, Address};
 ghost use Rattle.lk_check_expr.specs.Codes.{least_code};
 ghost use Rattle.lk_check_expr.specs.Meaning.{meaning_of, IsKnownType, IsReady};
@@ -51,6 +52,46 @@ pub(crate) fn scalar_code(types: &TypeTable, ty: &ExprType) -> Option<Code>
     operand_code(lock, taken)
 }
 
+/// The code of an operand that must be a condition.
+pub(crate) fn condition_code(types: &TypeTable, ty: &ExprType) -> Option<Code>
+    requires { IsKnownType types.now ty.now }
+    ensures { result ≡ least_code (must_be spec.is_condition (meaning_of types.now ty.now)) }
+{
+    let lock = is_lock(types, ty);
+    let taken = is_condition(types, ty);
+    operand_code(lock, taken)
+}
+
+/// The code of an operand that must be a pointer to a complete object type.
+pub(crate) fn steppable_code(types: &TypeTable, structs: &[Members], ty: &ExprType) -> Option<Code>
+    requires { IsKnownType types.now ty.now }
+    ensures { result ≡ least_code (must_be (spec.is_steppable (structs_in types.now structs.now)) (meaning_of types.now ty.now)) }
+{
+    let lock = is_lock(types, ty);
+    let taken = is_steppable(types, structs, ty);
+    operand_code(lock, taken)
+}
+
+/// The code of an operand that must be an integer.
+pub(crate) fn integer_code(types: &TypeTable, ty: &ExprType) -> Option<Code>
+    requires { IsKnownType types.now ty.now }
+    ensures { result ≡ least_code (must_be is_integer (meaning_of types.now ty.now)) }
+{
+    let lock = is_lock(types, ty);
+    let taken = is_integer(types, ty);
+    operand_code(lock, taken)
+}
+
+/// The code of an operand that must be a pointer.
+pub(crate) fn pointer_code(types: &TypeTable, ty: &ExprType) -> Option<Code>
+    requires { IsKnownType types.now ty.now }
+    ensures { result ≡ least_code (must_be is_pointer (meaning_of types.now ty.now)) }
+{
+    let lock = is_lock(types, ty);
+    let taken = is_pointer(types, ty);
+    operand_code(lock, taken)
+}
+
 /// Whether it is a pointer to a complete object type, which arithmetic asks for (C99 6.5.6, 2).
 pub(crate) fn is_steppable(types: &TypeTable, structs: &[Members], ty: &ExprType) -> bool
     requires { IsKnownType types.now ty.now }
@@ -63,7 +104,7 @@ pub(crate) fn is_steppable(types: &TypeTable, structs: &[Members], ty: &ExprType
 }
 
 /// The row of each operator.
-fn row_of(op: BinaryOperator) -> BinaryRow
+pub(crate) fn row_of(op: BinaryOperator) -> BinaryRow
     ensures value { result ≡ spec.row_of op }
     ensures shifts { IsOfShifts result }
 {
@@ -183,7 +224,7 @@ fn truth_if(taken: bool) -> Option<Typed>
 }
 
 /// Whether it is a pointer beside a null pointer constant (C99 6.5.9, 2; 6.5.15, 3).
-fn is_pointer_beside_null(types: &TypeTable, a: &Typed, b: &Typed) -> bool
+pub(crate) fn is_pointer_beside_null(types: &TypeTable, a: &Typed, b: &Typed) -> bool
     requires { IsOperand types.now a.now }
     ensures { ForBoth types.now a.now b.now (λ x y. result ≡ spec.is_pointer_beside_null x y) }
 {
@@ -212,7 +253,7 @@ fn are_comparable(types: &TypeTable, a: &Typed, b: &Typed) -> bool
 }
 
 /// The first of two results that is there.
-fn either(first: Option<Typed>, second: Option<Typed>) -> Option<Typed>
+pub(crate) fn either(first: Option<Typed>, second: Option<Typed>) -> Option<Typed>
     ensures { (table : Table) (x y : Option Typing) → IsResult table first x → IsResult table second y → IsResult table result (spec.either x y) }
 {
     match first {
@@ -274,7 +315,7 @@ fn equality(types: &TypeTable, op: Op, a: &Typed, b: &Typed) -> Option<Typed>
 }
 
 /// What a row gives, or nothing where it doesn't take the operands.
-fn result_of(
+pub(crate) fn result_of(
     types: &TypeTable,
     structs: &[Members],
     row: BinaryRow,

@@ -25,8 +25,11 @@ use Rattle.lk_typed.specs.Operators.{is_condition, is_steppable, must_be, by_row
 abbrev pub address_of : Typing → Typing
 address_of e = record { type = Pointer e.type; is_place = false; constant = NotConstant; is_null = false; address = e.address }
 
+abbrev pub is_addressable : Typing → Bool
+is_addressable e = e.is_place || is_function e.type
+
 abbrev pub address_rule : Typing → Verdict
-address_rule e = unless (if_so (not (e.is_place || is_function e.type)) NotAPlace) (address_of e)
+address_rule e = unless (if_so (not (is_addressable e)) NotAPlace) (address_of e)
 
 -- what * gives: a function from a pointer to one, else a place, of any type but void; & of it gives the address back (C99 6.5.3.2, 3)
 abbrev pub pointed : Typing → Ty → Option Typing
@@ -58,14 +61,26 @@ not_of e (Some k) = integer kind.Int (unary_constant u.Not (promoted k) e.consta
 abbrev pub not_rule : Typing → Verdict
 not_rule e = unless (must_be is_condition e.type) (not_of e (kind_of e.type))
 
--- the operators before an operand; & alone takes it as it is, the others take its value
+-- & alone takes its operand as it is, the others take its value
+abbrev pub operand_of : PrefixOperator → Typing → Typing
+operand_of prefix.Address e = e
+operand_of prefix.Indirection e = value e
+operand_of prefix.Plus e = value e
+operand_of prefix.Minus e = value e
+operand_of prefix.Complement e = value e
+operand_of prefix.Not e = value e
+
+abbrev pub rule_of : PrefixOperator → Typing → Verdict
+rule_of prefix.Address e = address_rule e
+rule_of prefix.Indirection e = indirection_rule e
+rule_of prefix.Plus e = arithmetic_rule u.Plus e
+rule_of prefix.Minus e = arithmetic_rule u.Negate e
+rule_of prefix.Complement e = arithmetic_rule u.Complement e
+rule_of prefix.Not e = not_rule e
+
+-- the operators before an operand
 abbrev pub prefix_rule : PrefixOperator → Typing → Verdict
-prefix_rule prefix.Address e = address_rule e
-prefix_rule prefix.Indirection e = indirection_rule (value e)
-prefix_rule prefix.Plus e = arithmetic_rule u.Plus (value e)
-prefix_rule prefix.Minus e = arithmetic_rule u.Negate (value e)
-prefix_rule prefix.Complement e = arithmetic_rule u.Complement (value e)
-prefix_rule prefix.Not e = not_rule (value e)
+prefix_rule o e = rule_of o (operand_of o e)
 
 -- ---- e[i] (C99 6.5.2.1): *(e + i), with the pointer on the left
 

@@ -1,0 +1,5 @@
+use Rattle.lk_check_expr.proofs.LeastCodes.{told_operand}
+use Rattle.lk_check_expr.proofs.operators.steppable_code.Goals as goal
+
+pub returns : goal.returns
+returns c = told_operand c.is_lock-lock.ensures c.is_steppable-taken.ensures c.operand_code.ensures
