@@ -1,5 +1,8 @@
 pub mod AgainLemmas
-pub mod Arrows
 pub mod FoundLemmas
+pub mod GraphLemmas
 pub mod OrderLemmas
+pub mod PassingLemmas
+pub mod SearchLemmas
 pub mod SingleLemmas
+pub mod StepLemmas

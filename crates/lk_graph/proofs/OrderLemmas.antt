@@ -4,6 +4,8 @@ use Rattle.std.specs.Prelude.{slice_set}
 use Rattle.std.proofs.Math.Bool.{or-false}
 use Rattle.std.proofs.lemmas.Bool.{cases_eq, cases_lt, both_ways, eq-eqb, ne_eqb, or_right}
 use Rattle.std.proofs.lemmas.List.{get_or-set_same, get_or-set_other, get_or_past}
+use Rattle.std.specs.List.Sorted.{IsPermutation}
+use Rattle.std.proofs.lemmas.List.Sorted.{list_any-IsPermutation}
 use Rattle.lk_graph.specs.Order.{AreMarked}
 use Rattle.lk_sets.specs.Ids.{has_id}
 use Rattle.lk_sets.proofs.Rising.{has_id-append}
@@ -61,3 +63,11 @@ all_below seen order n point long end before x = (
   ],
   λ within. before.below x (omega arith),
 )
+
+-- and the other way round too
+pub reversed_all : (n m : ℕ) (order new : List ℕ) → IsPermutation order new → m ≡ n → ((x : ℕ) → (has_id order x ≡ true) ↔ (x < m)) → (x : ℕ) → (has_id new x ≡ true) ↔ (x < n)
+reversed_all n m order new moved same all x =
+    let answer : has_id order x ≡ has_id new x = list_any-IsPermutation (λ y. eqb y x) order new moved in (
+      λ there. subst (λ k. x < k) same ((all x).0 (answer ∙ there)),
+      λ below. sym answer ∙ (all x).1 (subst (λ k. x < k) (sym same) below),
+    )

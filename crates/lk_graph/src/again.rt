@@ -9,7 +9,7 @@ ghost use Rattle.lk_sets.specs.Adding.{Adds, IsGiven};
 ghost use Rattle.lk_sets.specs.Ids.{has_id};
 
 use crate::found::Found;
-use crate::reach::cycles;
+use crate::loops::cycles;
 use lk_base::NoMemory;
 use lk_facts::Points;
 use lk_sets::IdSet;
@@ -122,7 +122,8 @@ fn put_sites(
     requires size { again.old.size ≡ length points.now.functions }
     requires cycles { (p : ℕ) → (has_id cycles.now p ≡ true) ↔ IsOnCycle points.now p }
     ensures size { OnOk result (again.new.size ≡ length points.now.functions) }
-    ensures sites { OnOk result ((f : ℕ) → Contains again.new.list f ↔ (Contains again.old.list f ⊎ HasSites points.now (length points.now.points) f)) }
+    ensures sites { OnOk result ((f : ℕ) → Contains again.new.list f
+        ↔ (Contains again.old.list f ⊎ HasSites points.now (length points.now.points) f)) }
 {
     let mut once = Found::new(alloc, points.functions())?;
     for point in 0..points.count() {
@@ -214,7 +215,8 @@ fn push_entering(points: &Points, point: u32, found: &mut Vec<Entering>) -> Resu
 /// Puts the functions behind the others that are entered from those that were found, each found function after the other.
 fn grow(enterings: &[Entering], again: &mut Found) -> Result<(), NoMemory>
     requires { All (λ e. e.below < again.old.size) enterings.now }
-    ensures { OnOk result ((f : ℕ) → Contains again.new.list f ↔ IsReachedFrom again.old.list enterings.now f) }
+    ensures { OnOk result ((f : ℕ) →
+        Contains again.new.list f ↔ IsReachedFrom again.old.list enterings.now f) }
 {
     for k in 0..usize::MAX {
         if k >= again.list().len() {

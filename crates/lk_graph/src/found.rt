@@ -1,6 +1,7 @@
 //! Numbers in the order in which they were found.
 ghost use Rattle.std.specs.Prelude.{◌≡◌, ◌<◌, ◌^◌, [], All, length, IfOk, OnOk};
 ghost use Rattle.lk_graph.specs.Found.{IsPutTo};
+ghost use Rattle.lk_graph.specs.Order.{AreMarked};
 ghost use Rattle.lk_sets.specs.Ids.{has_id};
 
 use lk_base::NoMemory;
@@ -45,6 +46,14 @@ impl Found {
         ensures { result ≡ has_id self.now.list x }
     {
         self.seen.get(x as usize).copied().unwrap_or(false)
+    }
+
+    /// For each number whether it was found.
+    pub(crate) fn marks(&self) -> &[bool]
+        ensures size { length result.now ≡ self.now.size }
+        ensures value { AreMarked result.now self.now.list }
+    {
+        self.seen.as_slice()
     }
 
     /// Those that were found, each once.

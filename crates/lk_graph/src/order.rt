@@ -1,98 +1,58 @@
-//! An order of points in which loops over them end after few rounds.
-ghost use Rattle.std.specs.Prelude.{◌≡◌, ◌<◌, ◌↔◌, ℕ, true, All, IfOk, OnOk, length};
-ghost use Rattle.lk_graph.specs.Order.{AreMarked};
-ghost use Rattle.lk_sets.specs.Ids.{has_id};
+//! Orders of points in which loops over them end after few rounds.
+ghost use Rattle.std.specs.Prelude.{◌<◌, All, IfOk, length};
+ghost use Rattle.lk_graph.specs.Graph.{AreAllBelow};
 
+use crate::steps::Steps;
 use lk_base::NoMemory;
 use lk_facts::Points;
 use std::alloc::Global;
 
-/// Each point, in an order in which control may come to them: the points of each function from its entry on, one way of a
-/// branch before the other, and behind them those to which no entry leads. Their order serves speed alone.
+/// Each point, in an order in which control may come to them, the functions in the order of their numbers.
 pub fn in_order(alloc: Global, points: &Points) -> Result<Vec<u32>, NoMemory>
-    ensures { IfOk result (λ order. (p : ℕ) → (has_id order.items p ≡ true) ↔ (p < length points.now.points)) }
+    ensures { IfOk result (λ order. AreAllBelow (length points.now.points) order.items) }
 {
-    let mut seen = vec![in alloc; false; points.count() as usize]?;
-    let mut order = Vec::new(alloc);
-    for function in 0..points.functions() {
-        walk(alloc, points, points.entry(function), &mut seen, &mut order)?;
-    }
-    push_others(points, &seen, &mut order)?;
+    let functions = all_functions(alloc, points)?;
+    let order = in_order_of(alloc, points, &functions)?;
     Ok(order)
 }
 
-/// Puts the points that were not seen behind the others.
-fn push_others(points: &Points, seen: &[bool], order: &mut Vec<u32>) -> Result<(), NoMemory>
-    requires seen { length seen.now ≡ length points.now.points }
-    requires marked { AreMarked seen.now order.old.items }
-    ensures { OnOk result ((p : ℕ) → (has_id order.new.items p ≡ true) ↔ (p < length points.now.points)) }
+/// All functions, in the order of their numbers.
+pub fn all_functions(alloc: Global, points: &Points) -> Result<Vec<u32>, NoMemory>
+    ensures { IfOk result (λ functions. All (λ f. f < length points.now.functions) functions.items) }
 {
-    for point in 0..points.count() {
-        if !seen[point as usize] {
-            order.push(point)?;
-        }
+    let mut functions = Vec::new(alloc);
+    for function in 0..points.functions() {
+        functions.push(function)?;
     }
-    Ok(())
+    Ok(functions)
 }
 
-/// Puts the points to which successors lead from this one, and which were not seen yet, behind the others.
-fn walk(
+/// Each point, in an order in which control may come to them: those of one of these functions behind the other, each point
+/// behind those that lead to it, cycles apart. Points to which no entry of these leads stand first. Their order serves
+/// speed alone.
+pub fn in_order_of(alloc: Global, points: &Points, functions: &[u32]) -> Result<Vec<u32>, NoMemory>
+    requires { All (λ f. f < length points.now.functions) functions.now }
+    ensures { IfOk result (λ order. AreAllBelow (length points.now.points) order.items) }
+{
+    let steps = Steps::All.graph(alloc, points)?;
+    let entries = entries(alloc, points, functions)?;
+    let mut order = steps.ends_first(alloc, &entries)?;
+    order.reverse();
+    Ok(order)
+}
+
+/// The entries of functions.
+pub(crate) fn entries(
     alloc: Global,
     points: &Points,
-    entry: u32,
-    seen: &mut Vec<bool>,
-    order: &mut Vec<u32>,
-) -> Result<(), NoMemory>
-    requires entry { entry < length points.now.points }
-    requires seen { length seen.old.items ≡ length points.now.points }
-    requires marked { AreMarked seen.old.items order.old.items }
-    ensures seen { OnOk result (length seen.new.items ≡ length points.now.points) }
-    ensures marked { OnOk result (AreMarked seen.new.items order.new.items) }
+    functions: &[u32],
+) -> Result<Vec<u32>, NoMemory>
+    requires { All (λ f. f < length points.now.functions) functions.now }
+    ensures { IfOk result (λ entries. All (λ p. p < length points.now.points) entries.items) }
 {
-    let mut pending = vec![in alloc; entry]?;
-    for _ in 0..u64::MAX {
-        let Some(point) = pending.pop() else {
-            return Ok(());
-        };
-        visit(points, point, seen, order, &mut pending)?;
+    let mut entries = Vec::new(alloc);
+    for function in functions {
+        entries.push(points.entry(*function))?;
     }
-    Ok(())
-}
-
-/// Puts a point behind the others, and its successors behind those that are still to be walked to, where it was not seen
-/// yet.
-fn visit(
-    points: &Points,
-    point: u32,
-    seen: &mut Vec<bool>,
-    order: &mut Vec<u32>,
-    pending: &mut Vec<u32>,
-) -> Result<(), NoMemory>
-    requires point { point < length points.now.points }
-    requires seen { length seen.old.items ≡ length points.now.points }
-    requires marked { AreMarked seen.old.items order.old.items }
-    requires pending { All (λ p. p < length points.now.points) pending.old.items }
-    ensures seen { OnOk result (length seen.new.items ≡ length points.now.points) }
-    ensures marked { OnOk result (AreMarked seen.new.items order.new.items) }
-    ensures pending { OnOk result (All (λ p. p < length points.now.points) pending.new.items) }
-{
-    if seen[point as usize] {
-        return Ok(());
-    }
-    seen[point as usize] = true;
-    order.push(point)?;
-    push_next(points, point, pending)
-}
-
-/// Puts the successors of a point behind those that are still to be walked to, the first one last, so that it is next.
-fn push_next(points: &Points, point: u32, pending: &mut Vec<u32>) -> Result<(), NoMemory>
-    requires point { point < length points.now.points }
-    requires pending { All (λ p. p < length points.now.points) pending.old.items }
-    ensures { OnOk result (All (λ p. p < length points.now.points) pending.new.items) }
-{
-    let next = points.next(point);
-    for index in (0..next.len()).rev() {
-        pending.push(next[index])?;
-    }
-    Ok(())
+    Ok(entries)
 }

@@ -1,13 +1,12 @@
-//! The steps of a program, as arrows along which what can come after a point is passed back to it.
-ghost use Rattle.std.specs.Prelude.{◌≡◌, ◌<◌, ◌++◌, ◌↔◌, ℕ, true, All, Contains, IfOk, OnOk, length};
+//! The steps of a program, as arrows between its points.
+ghost use Rattle.std.specs.Prelude.{◌≡◌, ◌<◌, ◌↔◌, ◌||◌, ◌&&◌, ◌==◌, ℕ, true, IfOk, OnOk, length};
+ghost use Rattle.lk_graph.specs.Graph.{leads};
+ghost use Rattle.lk_graph.specs.Steps.{counts, IsStep, steps_at};
 ghost use Rattle.lk_sets.specs.Ids.{has_id};
-ghost use Rattle.lk_sets.specs.Spread.{IsWithin};
-ghost use Rattle.lk_graph.specs.Steps.{counts, IsStep, arrows_at, arrow_of};
 
-use crate::order::in_order;
-use lk_base::{MOST_POINTS, NoMemory};
+use crate::graph::Graph;
+use lk_base::NoMemory;
 use lk_facts::Points;
-use lk_sets::Arrow;
 use std::alloc::Global;
 
 /// Which successors of a point control may go on to.
@@ -31,53 +30,32 @@ impl Steps {
         }
     }
 
-    /// Puts an arrow to a point from each successor that counts behind the arrows.
-    fn push_arrows(
-        self,
-        points: &Points,
-        point: u32,
-        arrows: &mut Vec<Arrow>,
-    ) -> Result<(), NoMemory>
-        requires { point < length points.now.points }
-        ensures { OnOk result (arrows.new.items ≡ arrows.old.items ++ arrows_at self points.now point) }
+    /// Puts an arrow from a point to each successor that counts.
+    fn put_at(self, points: &Points, point: u32, graph: &mut Graph) -> Result<(), NoMemory>
+        requires point { point < length points.now.points }
+        requires size { length graph.old ≡ length points.now.points }
+        ensures size { OnOk result (length graph.new ≡ length points.now.points) }
+        ensures arrows { OnOk result ((p q : ℕ) → leads graph.new p q
+            ≡ (leads graph.old p q || p == point && has_id (steps_at self points.now point) q)) }
     {
         for next in points.next(point) {
             if self.counts(points, *next) {
-                arrows.push(Arrow {
-                    from: *next,
-                    into: point,
-                })?;
+                graph.put(point, *next)?;
             }
         }
         Ok(())
     }
 
-    /// An arrow for each step, from the last of the points in the order to the first.
-    fn arrows_in_order(
-        self,
-        alloc: Global,
-        points: &Points,
-        order: &[u32],
-    ) -> Result<Vec<Arrow>, NoMemory>
-        requires { (p : ℕ) → (has_id order.now p ≡ true) ↔ (p < length points.now.points) }
-        ensures { IfOk result (λ arrows. (p q : ℕ) → Contains arrows.items (arrow_of p q) ↔ IsStep self points.now p q) }
+    /// An arrow for each step.
+    pub(crate) fn graph(self, alloc: Global, points: &Points) -> Result<Graph, NoMemory>
+        ensures size { IfOk result (λ graph. length graph ≡ length points.now.points) }
+        ensures steps { IfOk result (λ graph. (p q : ℕ) →
+            (leads graph p q ≡ true) ↔ IsStep self points.now p q) }
     {
-        prove!(points.count() <= MOST_POINTS);
-        let mut arrows = Vec::new(alloc);
-        for index in (0..order.len()).rev() {
-            self.push_arrows(points, order[index], &mut arrows)?;
+        let mut graph = Graph::new(alloc, points.count())?;
+        for point in 0..points.count() {
+            self.put_at(points, point, &mut graph)?;
         }
-        Ok(arrows)
-    }
-
-    /// An arrow for each step, in an order in which a straight line of code has its rows passed on in one round.
-    pub(crate) fn arrows(self, alloc: Global, points: &Points) -> Result<Vec<Arrow>, NoMemory>
-        ensures within { IfOk result (λ arrows. All (IsWithin (length points.now.points)) arrows.items) }
-        ensures steps { IfOk result (λ arrows. (p q : ℕ) → Contains arrows.items (arrow_of p q) ↔ IsStep self points.now p q) }
-    {
-        prove!(points.count() <= MOST_POINTS);
-        let order = in_order(alloc, points)?;
-        let arrows = self.arrows_in_order(alloc, points, &order)?;
-        Ok(arrows)
+        Ok(graph)
     }
 }

@@ -1,21 +1,19 @@
 -- A point has one effect, in one function: what it takes, frees and runs is one kind of thing, and its links run what it runs.
-use Rattle.std.proofs.Common.{◌≡◌, ◌<◌, ◌||◌, ◌↔◌, ◌⊎◌, ◌+◌, ◌++◌, ◌∷◌, [], ℕ, Bool, true, false, List, length, take, get_or, ⊎_elim, Some, Option, None, Contains, refl, sym, ap, ◌∙◌, subst, inl, inr, arith}
+use Rattle.std.proofs.Common.{◌≡◌, ◌<◌, ◌||◌, ◌↔◌, ◌⊎◌, ◌+◌, ◌∷◌, [], ℕ, Bool, true, false, List, length, take, get_or, ⊎_elim, Some, Option, None, Contains, refl, sym, ap, ◌∙◌, subst, inl, inr, arith}
 use Rattle.std.specs.Option.{option_map}
 use Rattle.std.proofs.lemmas.Bool.{false≢true, both_ways, or_cases, or_left, or_right}
 use Rattle.std.proofs.lemmas.List.Elements.{All-contains, Contains-append_left, Contains-push, Contains-push_cases}
 use Rattle.std.proofs.lemmas.List.{take_more}
 use Rattle.std.proofs.lemmas.Option.{slice_get_cases}
 use Rattle.lk_facts.specs.Basis.{Basis}
-use Rattle.lk_facts.specs.Doing.{Does, Takes, Frees, Runs}
+use Rattle.lk_facts.specs.Doing.{Takes, Frees, Runs}
 use Rattle.lk_facts.specs.Doing.Takes.{takes}
 use Rattle.lk_facts.specs.Doing.Frees.{frees}
 use Rattle.lk_facts.specs.Doing.Runs.{call, pointer}
-use Rattle.lk_facts.specs.Effects.{effect_of}
 use Rattle.lk_facts.specs.Items.{Rises}
 use Rattle.lk_facts.specs.Items.Rises.{run, start}
 use Rattle.lk_facts.specs.Labels.{target_at}
 use Rattle.lk_facts.specs.Program.{effect_at, live_at, function_at}
-use Rattle.lk_facts.specs.declared.effect.Effect.{Effect}
 use Rattle.lk_facts.specs.declared.effect.Effect.TheVariants as effect
 use Rattle.lk_facts.specs.declared.point.Point.{Point}
 use Rattle.lk_facts.specs.declared.program.Program.{Program}

@@ -1,15 +1,14 @@
 -- Which locks a point adds, and which are held once it has run.
-use Rattle.std.proofs.Common.{◌≡◌, ◌<◌, ◌&&◌, ◌||◌, ◌+◌, ◌↔◌, ℕ, Bool, true, false, List, [], ◌∷◌, length, take, get_or, All, Contains, Option, Some, None, refl, sym, ap, ◌∙◌, subst, ⊎_elim, inl, inr, arith}
+use Rattle.std.proofs.Common.{◌≡◌, ◌<◌, ◌&&◌, ◌||◌, ◌+◌, ℕ, Bool, true, false, List, [], ◌∷◌, length, take, get_or, All, Contains, Option, Some, None, refl, sym, ◌∙◌, subst, ⊎_elim, inl, inr, arith}
 use Rattle.std.specs.Bool.{⊤}
 use Rattle.std.proofs.lemmas.Bool.{and_cases, and_parts, both_ways, cases_Bool, false≢true, false_from_ne_true, or_cases, or_parts}
 use Rattle.lk_facts.specs.Basis.{Basis}
-use Rattle.lk_facts.specs.Flow.{IsOnly, IsHeldAs, RisesAs}
+use Rattle.lk_facts.specs.Flow.{IsOnly, IsHeldAs}
 use Rattle.lk_facts.specs.Held.{Adds, IsBrought}
 use Rattle.lk_facts.specs.Labels.{is_lock_at}
 use Rattle.lk_facts.specs.Program.{exit_of}
 use Rattle.lk_facts.proofs.Ranges.{lock_within}
-use Rattle.lk_facts.specs.declared.way.Way.{Way}
-use Rattle.lk_sets.specs.Ids.{has_id, IsSetOf}
+use Rattle.lk_sets.specs.Ids.{has_id}
 use Rattle.lk_held.specs.Acts.{IsTaken, OneRuns}
 use Rattle.lk_held.specs.declared.states.States.{States}
 use Rattle.lk_held.specs.States.{set_of}

@@ -1,5 +1,6 @@
 pub mod ActLemmas
 pub mod AddLemmas
+pub mod CallLemmas
 pub mod HoldLemmas
 pub mod KeepLemmas
 pub mod LockSetLemmas

@@ -55,7 +55,8 @@ impl Acts<'_, '_> {
         requires below { link.now.below < length self.now.points.now.functions }
         requires states { AreStates (basis_in self.now) states.now }
         ensures starts { OnOk result (link.now.starts ≡ true → all.new ≡ all.old) }
-        ensures runs { OnOk result (link.now.starts ≡ false → Meets (basis_in self.now) (holds states.now) link.now all.old all.new) }
+        ensures runs { OnOk result (link.now.starts ≡ false
+            → Meets (basis_in self.now) (holds states.now) link.now all.old all.new) }
     {
         if link.starts {
             return Ok(());
@@ -73,7 +74,8 @@ impl Acts<'_, '_> {
         requires linked { AreLinks (basis_in self.now) self.now.links.now }
         requires point { point < length self.now.points.now.points }
         requires states { AreStates (basis_in self.now) states.now }
-        ensures { IfOk result (AreBrought (basis_in self.now) (holds states.now) (links_at self.now.links.now point)) }
+        ensures { IfOk result (AreBrought (basis_in self.now) (holds states.now)
+            (links_at self.now.links.now point)) }
     {
         let mut all = None;
         for link in self.links.at(point) {

@@ -3,6 +3,7 @@ ghost use Rattle.std.specs.Prelude.{◌≡◌, ◌<◌, ◌↔◌, ℕ, true, So
 ghost use Rattle.std.specs.List.{range_with_len};
 ghost use Rattle.std.specs.List.Sorted.{IsStrictlyIncreasing};
 ghost use Rattle.lk_facts.specs.Program.{live_at, entry_of};
+ghost use Rattle.lk_graph.specs.Graph.{AreAllBelow};
 ghost use Rattle.lk_held.specs.Acts.{basis_in};
 ghost use Rattle.lk_held.specs.Holding.{AreStates, Sheds, AreWithin, Loses, HasPassed, AreHeld, AreLost, first_set};
 ghost use Rattle.lk_held.specs.Progress.{Progress};
@@ -14,7 +15,6 @@ ghost use Rattle.lk_sets.specs.Ids.{has_id};
 use crate::acts::Acts;
 use crate::states::States;
 use lk_base::NoMemory;
-use lk_graph::in_order;
 use lk_links::empty_set;
 use lk_sets::IdSet;
 use std::alloc::Global;
@@ -29,7 +29,8 @@ fn narrow_each(
     requires points { All (λ p. p < length states.old.sets.items) points.now }
     requires sorted { IsStrictlyIncreasing states.old.locks }
     requires within { (x : ℕ) → has_id set.now x ≡ true → has_id states.old.locks x ≡ true }
-    ensures { IfOk result (Progress weight (Sheds points.now set.now) (AreWithin points.now set.now) states.old states.new) }
+    ensures { IfOk result (Progress weight (Sheds points.now set.now)
+        (AreWithin points.now set.now) states.old states.new) }
 {
     let mut changed = false;
     for point in points {
@@ -53,7 +54,8 @@ impl Acts<'_, '_> {
         requires live { live_at self.now.points.now point ≡ true }
         requires states { AreStates (basis_in self.now) states.old }
         requires dropped { AreDropped (basis_in self.now) (length self.now.points.now.points) dropped.now }
-        ensures { IfOk result (Progress weight (Loses (basis_in self.now)) (HasPassed (basis_in self.now) point) states.old states.new) }
+        ensures { IfOk result (Progress weight (Loses (basis_in self.now))
+            (HasPassed (basis_in self.now) point) states.old states.new) }
     {
         let after = self.after(alloc, point, states, dropped)?;
         narrow_each(alloc, self.points.next(point), states, &after)
@@ -71,7 +73,8 @@ impl Acts<'_, '_> {
         requires point { point < length self.now.points.now.points }
         requires states { AreStates (basis_in self.now) states.old }
         requires dropped { AreDropped (basis_in self.now) (length self.now.points.now.points) dropped.now }
-        ensures { IfOk result (Progress weight (Loses (basis_in self.now)) (HasPassed (basis_in self.now) point) states.old states.new) }
+        ensures { IfOk result (Progress weight (Loses (basis_in self.now))
+            (HasPassed (basis_in self.now) point) states.old states.new) }
     {
         if !self.points.live(point) {
             return Ok(false);
@@ -89,11 +92,13 @@ impl Acts<'_, '_> {
         dropped: &[IdSet],
     ) -> Result<bool, NoMemory>
         requires linked { AreLinks (basis_in self.now) self.now.links.now }
-        requires order { (p : ℕ) → (has_id order.now p ≡ true) ↔ (p < length self.now.points.now.points) }
+        requires order { AreAllBelow (length self.now.points.now.points) order.now }
         requires states { AreStates (basis_in self.now) states.old }
         requires dropped { AreDropped (basis_in self.now) (length self.now.points.now.points) dropped.now }
         ensures { IfOk result (Progress weight (Loses (basis_in self.now))
-            (λ states. (p : ℕ) → p < length self.now.points.now.points → HasPassed (basis_in self.now) p states) states.old states.new) }
+            (λ states. (p : ℕ) → p < length self.now.points.now.points
+            → HasPassed (basis_in self.now) p states)
+            states.old states.new) }
     {
         let mut changed = false;
         for point in order {
@@ -104,7 +109,8 @@ impl Acts<'_, '_> {
 
     /// The points at which functions begin.
     fn entries(&self, alloc: Global) -> Result<IdSet, NoMemory>
-        ensures { IfOk result (λ ids. (p : ℕ) → (has_id ids p ≡ true) ↔ ((f : ℕ) × (entry_of self.now.points.now f ≡ Some p))) }
+        ensures { IfOk result (λ ids. (p : ℕ) →
+            (has_id ids p ≡ true) ↔ ((f : ℕ) × (entry_of self.now.points.now f ≡ Some p))) }
     {
         let mut ids = Vec::new(alloc);
         for function in 0..self.points.functions() {
@@ -133,7 +139,8 @@ impl Acts<'_, '_> {
 
     /// The first set of each point.
     fn first_sets(&self, alloc: Global, entries: &IdSet) -> Result<Vec<Option<IdSet>>, NoMemory>
-        ensures { IfOk result (λ sets. sets.items ≡ map (first_set self.now.points.now entries.now) (range_with_len 0 (length self.now.points.now.points))) }
+        ensures { IfOk result (λ sets. sets.items ≡ map (first_set self.now.points.now entries.now)
+            (range_with_len 0 (length self.now.points.now.points))) }
     {
         let mut sets = Vec::new(alloc);
         for point in 0..self.points.count() {
@@ -154,14 +161,19 @@ impl Acts<'_, '_> {
     }
 
     /// The locks that are held at each point, where the sets say what each releases.
-    pub(crate) fn states(&self, alloc: Global, dropped: &[IdSet]) -> Result<States, NoMemory>
+    pub(crate) fn states(
+        &self,
+        alloc: Global,
+        order: &[u32],
+        dropped: &[IdSet],
+    ) -> Result<States, NoMemory>
         requires linked { AreLinks (basis_in self.now) self.now.links.now }
+        requires order { AreAllBelow (length self.now.points.now.points) order.now }
         requires dropped { AreDropped (basis_in self.now) (length self.now.points.now.points) dropped.now }
         ensures { IfOk result (AreHeld (basis_in self.now)) }
     {
-        let order = in_order(alloc, self.points)?;
         let mut states = self.first_states(alloc)?;
-        while self.round(alloc, &order, &mut states, dropped)? {}
+        while self.round(alloc, order, &mut states, dropped)? {}
         Ok(states)
     }
 }

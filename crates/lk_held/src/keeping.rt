@@ -30,7 +30,8 @@ impl Acts<'_, '_> {
     fn apart(&self, alloc: Global, locks: &[u32], others: &[u32]) -> Result<Vec<u32>, NoMemory>
         requires locks { All (λ x. x < length self.now.labels.now.entries) locks.now }
         requires others { All (λ x. x < length self.now.labels.now.entries) others.now }
-        ensures { IfOk result (λ ids. ids.items ≡ apart_from self.now.facts.now.origins others.now locks.now) }
+        ensures { IfOk result (λ ids. ids.items
+            ≡ apart_from self.now.facts.now.origins others.now locks.now) }
     {
         let mut ids = Vec::new(alloc);
         for x in locks {

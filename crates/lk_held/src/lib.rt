@@ -3,6 +3,7 @@
 
 mod acts;
 mod adding;
+mod calls;
 mod holding;
 mod keeping;
 mod lock_sets;

@@ -55,9 +55,10 @@ impl Acts<'_, '_> {
         requires linked { AreLinks (basis_in self.now) self.now.links.now }
         ensures { IfOk result (AreLockSets (basis_in self.now)) }
     {
-        let released = self.released(alloc)?;
+        let order = self.order(alloc)?;
+        let released = self.released(alloc, &order)?;
         let dropped = self.dropped(alloc, &released)?;
-        let states = self.states(alloc, &dropped)?;
+        let states = self.states(alloc, &order, &dropped)?;
         let at = self.at_points(alloc, &states)?;
         let keep = self.kept(alloc, &states, &dropped)?;
         let out = self.at_exits(alloc, &states)?;
@@ -79,8 +80,10 @@ impl Acts<'_, '_> {
     /// The locks that are held at each point.
     fn at_points(&self, alloc: Global, states: &States) -> Result<Vec<IdSet>, NoMemory>
         requires { AreStates (basis_in self.now) states.now }
-        ensures sets { IfOk result (λ sets. sets.items ≡ map (set_of states.now) (range_with_len 0 (length self.now.points.now.points))) }
-        ensures in_range { IfOk result (λ sets. AreSetsBelow (length self.now.labels.now.entries) sets.items) }
+        ensures sets { IfOk result (λ sets. sets.items
+            ≡ map (set_of states.now) (range_with_len 0 (length self.now.points.now.points))) }
+        ensures in_range { IfOk result (λ sets.
+            AreSetsBelow (length self.now.labels.now.entries) sets.items) }
     {
         let mut sets = Vec::new(alloc);
         for point in 0..self.points.count() {
@@ -92,8 +95,11 @@ impl Acts<'_, '_> {
     /// The locks that are held at the exit of each function.
     fn at_exits(&self, alloc: Global, states: &States) -> Result<Vec<IdSet>, NoMemory>
         requires { AreStates (basis_in self.now) states.now }
-        ensures sets { IfOk result (λ sets. sets.items ≡ map (out_set self.now.points.now states.now) (range_with_len 0 (length self.now.points.now.functions))) }
-        ensures in_range { IfOk result (λ sets. AreSetsBelow (length self.now.labels.now.entries) sets.items) }
+        ensures sets { IfOk result (λ sets. sets.items
+            ≡ map (out_set self.now.points.now states.now)
+            (range_with_len 0 (length self.now.points.now.functions))) }
+        ensures in_range { IfOk result (λ sets.
+            AreSetsBelow (length self.now.labels.now.entries) sets.items) }
     {
         let mut sets = Vec::new(alloc);
         for function in 0..self.points.functions() {
@@ -111,8 +117,10 @@ impl Acts<'_, '_> {
     ) -> Result<Vec<IdSet>, NoMemory>
         requires states { AreStates (basis_in self.now) states.now }
         requires dropped { AreDropped (basis_in self.now) (length self.now.points.now.points) dropped.now }
-        ensures sets { IfOk result (λ sets. AreKept (basis_in self.now) states.now (length self.now.points.now.points) sets.items) }
-        ensures in_range { IfOk result (λ sets. AreSetsBelow (length self.now.labels.now.entries) sets.items) }
+        ensures sets { IfOk result (λ sets.
+            AreKept (basis_in self.now) states.now (length self.now.points.now.points) sets.items) }
+        ensures in_range { IfOk result (λ sets.
+            AreSetsBelow (length self.now.labels.now.entries) sets.items) }
     {
         let mut sets = Vec::new(alloc);
         for point in 0..self.points.count() {

@@ -1,6 +1,7 @@
 //! Which locks each function may release.
 ghost use Rattle.std.specs.Prelude.{◌≡◌, ◌<◌, ℕ, true, ◌↔◌, [], length, replicate, ◌⊎◌, false, All, IfOk, OnOk};
 ghost use Rattle.lk_facts.specs.Held.{Drops, Released};
+ghost use Rattle.lk_graph.specs.Graph.{AreAllBelow};
 ghost use Rattle.lk_held.specs.Acts.{basis_in, OneRuns};
 ghost use Rattle.lk_held.specs.Progress.{Progress};
 ghost use Rattle.lk_held.specs.Releasing.{AreSets, Joins, Releases, Gains, HasReleased, AreReleased, AreDropped, IsOutside, room};
@@ -51,7 +52,8 @@ impl Acts<'_, '_> {
         requires sets { AreSets (basis_in self.now) released.now }
         requires all { All (λ x. x < length self.now.labels.now.entries) all.old }
         ensures members { OnOk result ((x : ℕ) → (has_id all.new x ≡ true)
-            ↔ ((has_id all.old x ≡ true) ⊎ ((link.now.starts ≡ false) × IsOutside (basis_in self.now).flow (Releases released.now) x link.now))) }
+            ↔ ((has_id all.old x ≡ true) ⊎ ((link.now.starts ≡ false)
+            × IsOutside (basis_in self.now).flow (Releases released.now) x link.now))) }
         ensures in_range { OnOk result (All (λ x. x < length self.now.labels.now.entries) all.new) }
     {
         if link.starts {
@@ -74,7 +76,8 @@ impl Acts<'_, '_> {
         requires point { point < length self.now.points.now.points }
         requires sets { AreSets (basis_in self.now) released.now }
         ensures members { IfOk result (λ ids. (x : ℕ) → (has_id ids x ≡ true)
-            ↔ OneRuns (links_at self.now.links.now point) (IsOutside (basis_in self.now).flow (Releases released.now) x)) }
+            ↔ OneRuns (links_at self.now.links.now point)
+            (IsOutside (basis_in self.now).flow (Releases released.now) x)) }
         ensures in_range { IfOk result (λ ids. All (λ x. x < length self.now.labels.now.entries) ids) }
     {
         let mut all = empty_set(alloc)?;
@@ -89,7 +92,8 @@ impl Acts<'_, '_> {
         requires linked { AreLinks (basis_in self.now) self.now.links.now }
         requires point { point < length self.now.points.now.points }
         requires released { AreSets (basis_in self.now) released.now }
-        ensures members { IfOk result (λ ids. (x : ℕ) → (has_id ids x ≡ true) ↔ Drops (basis_in self.now) (Releases released.now) point x) }
+        ensures members { IfOk result (λ ids. (x : ℕ) →
+            (has_id ids x ≡ true) ↔ Drops (basis_in self.now) (Releases released.now) point x) }
         ensures in_range { IfOk result (λ ids. All (λ x. x < length self.now.labels.now.entries) ids) }
     {
         match self.frees(point) {
@@ -112,7 +116,8 @@ impl Acts<'_, '_> {
         requires point { point < length self.now.points.now.points }
         requires released { AreSets (basis_in self.now) released.old.items }
         ensures { IfOk result (Progress (room (length self.now.labels.now.entries))
-            (Gains (basis_in self.now)) (HasReleased (basis_in self.now) point) released.old.items released.new.items) }
+            (Gains (basis_in self.now)) (HasReleased (basis_in self.now) point)
+            released.old.items released.new.items) }
     {
         if !self.points.live(point) {
             return Ok(false);
@@ -121,28 +126,37 @@ impl Acts<'_, '_> {
         add(released, self.points.function(point), &ids)
     }
 
-    /// Lets each point add what it releases, and answers whether something was new.
-    fn release_each(&self, alloc: Global, released: &mut Vec<IdSet>) -> Result<bool, NoMemory>
+    /// Lets each point add what it releases, and answers whether something was new. In an order in which each function
+    /// stands behind those that it runs, one round does it, recursion apart.
+    fn release_each(
+        &self,
+        alloc: Global,
+        order: &[u32],
+        released: &mut Vec<IdSet>,
+    ) -> Result<bool, NoMemory>
         requires linked { AreLinks (basis_in self.now) self.now.links.now }
+        requires order { AreAllBelow (length self.now.points.now.points) order.now }
         requires sets { AreSets (basis_in self.now) released.old.items }
-        ensures { IfOk result (Progress (room (length self.now.labels.now.entries)) (Gains (basis_in self.now))
+        ensures { IfOk result (Progress (room (length self.now.labels.now.entries))
+            (Gains (basis_in self.now))
             (λ sets. (p : ℕ) → p < length self.now.points.now.points → HasReleased (basis_in self.now) p sets)
             released.old.items released.new.items) }
     {
         let mut changed = false;
-        for point in 0..self.points.count() {
-            changed |= self.release(alloc, point, released)?;
+        for point in order {
+            changed |= self.release(alloc, *point, released)?;
         }
         Ok(changed)
     }
 
     /// For each function the labels that it may release, itself or in what it runs.
-    pub(crate) fn released(&self, alloc: Global) -> Result<Vec<IdSet>, NoMemory>
+    pub(crate) fn released(&self, alloc: Global, order: &[u32]) -> Result<Vec<IdSet>, NoMemory>
         requires linked { AreLinks (basis_in self.now) self.now.links.now }
+        requires order { AreAllBelow (length self.now.points.now.points) order.now }
         ensures { IfOk result (λ sets. AreReleased (basis_in self.now) sets.items) }
     {
         let mut released = empty_sets(alloc, self.points.functions())?;
-        while self.release_each(alloc, &mut released)? {}
+        while self.release_each(alloc, order, &mut released)? {}
         Ok(released)
     }
 
@@ -150,7 +164,8 @@ impl Acts<'_, '_> {
     pub(crate) fn dropped(&self, alloc: Global, released: &[IdSet]) -> Result<Vec<IdSet>, NoMemory>
         requires linked { AreLinks (basis_in self.now) self.now.links.now }
         requires released { AreReleased (basis_in self.now) released.now }
-        ensures { IfOk result (λ sets. AreDropped (basis_in self.now) (length self.now.points.now.points) sets.items) }
+        ensures { IfOk result (λ sets.
+            AreDropped (basis_in self.now) (length self.now.points.now.points) sets.items) }
     {
         let mut dropped = Vec::new(alloc);
         for point in 0..self.points.count() {

@@ -128,7 +128,8 @@ fn links_to_values(
     functions: &IdSet,
 ) -> Result<Vec<Link>, NoMemory>
     requires { All (λ g. g < length facts.now.program.functions) functions.now }
-    ensures { IfOk result (λ links. links.items ≡ filter_map (value_link facts.now.program point above) functions.now) }
+    ensures { IfOk result (λ links. links.items
+        ≡ filter_map (value_link facts.now.program point above) functions.now) }
 {
     let mut links = Vec::new(alloc);
     for below in functions.ids() {
@@ -147,7 +148,8 @@ fn links_to_values(
 
 /// The functions that an operand may point to.
 fn functions_at(alloc: Global, facts: &Facts<'_>, a: u32) -> Result<IdSet, NoMemory>
-    ensures members { IfOk result (λ ids. (g : ℕ) → (has_id ids g ≡ true) ↔ MayPointTo (basis_of facts.now) a g) }
+    ensures members { IfOk result (λ ids. (g : ℕ) →
+        (has_id ids g ≡ true) ↔ MayPointTo (basis_of facts.now) a g) }
     ensures in_range { IfOk result (λ ids. All (λ g. g < length facts.now.program.functions) ids) }
 {
     let Some(target) = facts.labels().target(a) else {
@@ -161,7 +163,8 @@ fn functions_at(alloc: Global, facts: &Facts<'_>, a: u32) -> Result<IdSet, NoMem
 /// The functions that are named by the origins of a label.
 fn functions_named(alloc: Global, facts: &Facts<'_>, target: Label) -> Result<Vec<u32>, NoMemory>
     requires { target < length facts.now.labels.entries }
-    ensures members { IfOk result (λ ids. ids.items ≡ filter_map (function_named (basis_of facts.now)) (row_of facts.now.origins.all target)) }
+    ensures members { IfOk result (λ ids. ids.items
+        ≡ filter_map (function_named (basis_of facts.now)) (row_of facts.now.origins.all target)) }
     ensures in_range { IfOk result (λ ids. All (λ g. g < length facts.now.program.functions) ids.items) }
 {
     let mut ids = Vec::new(alloc);

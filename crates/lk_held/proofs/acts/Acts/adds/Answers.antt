@@ -1,4 +1,4 @@
-use Rattle.std.proofs.Common.{◌≡◌, ℕ, [], ◌∷◌, ap, subst, sym, ◌∙◌}
+use Rattle.std.proofs.Common.{[], ◌∷◌, subst, sym}
 use Rattle.std.proofs.lemmas.Result.{IfOk-weaker}
 use Rattle.lk_facts.specs.Flow.{IsOnly, IsHeldAs}
 use Rattle.lk_held.specs.Acts.{basis_in}
@@ -6,7 +6,6 @@ use Rattle.lk_held.specs.Holding.{AreAdded, AreBrought}
 use Rattle.lk_held.specs.States.{holds}
 use Rattle.lk_held.proofs.AddLemmas.{added_one, added_same, added_brought, added_none}
 use Rattle.lk_links.specs.Links.{links_at}
-use Rattle.lk_sets.specs.Ids.{has_id}
 use Rattle.lk_held.proofs.acts.Acts.adds.Goals as goal
 
 pub returns-in-Some : goal.returns-in-Some

@@ -1,4 +1,4 @@
-use Rattle.std.proofs.Common.{◌≡◌, ◌<◌, ◌&&◌, ◌||◌, All, length, ap, subst, sym, ◌∙◌}
+use Rattle.std.proofs.Common.{◌<◌, ◌&&◌, ◌||◌, All, length, ap, subst, sym, ◌∙◌}
 use Rattle.lk_held.specs.Acts.{basis_in}
 use Rattle.lk_held.specs.States.{holds}
 use Rattle.lk_held.proofs.AddLemmas.{after_is, states_within}

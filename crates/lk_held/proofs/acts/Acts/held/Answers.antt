@@ -1,4 +1,4 @@
-use Rattle.std.proofs.Common.{◌≡◌, ap, subst, sym, ◌∙◌}
+use Rattle.std.proofs.Common.{ap, subst, sym, ◌∙◌}
 use Rattle.lk_facts.specs.Held.{AreLockSets}
 use Rattle.lk_facts.specs.LockSets.{sets_of, AreLockSetsInRange}
 use Rattle.lk_held.specs.Acts.{basis_in}

@@ -1,7 +1,7 @@
-use Rattle.std.proofs.Common.{◌≡◌, ◌<◌, ◌↔◌, ℕ, [], true, All, length, ap, refl, subst, sym, ◌∙◌, arith}
+use Rattle.std.proofs.Common.{◌≡◌, ◌↔◌, [], true, ap, refl, subst, sym, ◌∙◌, arith}
 use Rattle.lk_facts.specs.Held.{Drops, Released}
 use Rattle.lk_held.specs.Acts.{basis_in}
-use Rattle.lk_held.specs.Holding.{IsKept, apart_from}
+use Rattle.lk_held.specs.Holding.{apart_from}
 use Rattle.lk_held.proofs.KeepLemmas.{kept_is}
 use Rattle.lk_sets.specs.Ids.{has_id, IsSetOf}
 use Rattle.std.proofs.lemmas.List.{get_or_read}

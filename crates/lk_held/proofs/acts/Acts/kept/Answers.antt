@@ -1,4 +1,4 @@
-use Rattle.std.proofs.Common.{◌≡◌, ◌<◌, All, length, subst, sym}
+use Rattle.std.proofs.Common.{◌<◌, All, length, subst, sym}
 use Rattle.lk_held.specs.Acts.{basis_in}
 use Rattle.lk_held.specs.Holding.{IsKept}
 use Rattle.lk_held.proofs.AddLemmas.{states_within}

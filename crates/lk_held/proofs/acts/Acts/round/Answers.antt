@@ -1,8 +1,7 @@
-use Rattle.std.proofs.Common.{◌≡◌, ℕ, true, take, subst, sym}
+use Rattle.std.proofs.Common.{◌≡◌, true, subst, sym}
 use Rattle.std.proofs.lemmas.List.{take_all}
 use Rattle.lk_held.specs.Acts.{basis_in}
 use Rattle.lk_held.specs.Holding.{Loses, HasPassed}
-use Rattle.lk_held.specs.Progress.{Progress}
 use Rattle.lk_held.specs.States.{weight}
 use Rattle.lk_sets.specs.Ids.{has_id}
 use Rattle.lk_held.proofs.HoldLemmas.{loses_more}
