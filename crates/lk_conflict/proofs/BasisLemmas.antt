@@ -1,14 +1,18 @@
 -- What racing items begin with.
-use Rattle.std.proofs.Common.{◌≡◌, ◌<◌, ◌+◌, ◌++◌, ◌⊎◌, ◌↔◌, ℕ, true, List, [], ◌∷◌, length, get_or, take, Contains, refl, sym, ◌∙◌, subst, ⊎_elim, inl, inr}
+use Rattle.std.specs.List.{list_any}
+use Rattle.std.proofs.lemmas.Bool.{and_parts, false≢true, or_cases}
+use Rattle.lk_facts.specs.Program.{writes_at}
+use Rattle.std.proofs.Common.{◌≡◌, ◌<◌, ◌+◌, ◌++◌, ◌&&◌, ◌||◌, ◌⊎◌, ◌↔◌, ℕ, true, false, List, [], ◌∷◌, length, get_or, take, Contains, refl, sym, ◌∙◌, subst, ⊎_elim, inl, inr}
 use Rattle.std.proofs.lemmas.List.{take_more}
 use Rattle.std.proofs.lemmas.List.Elements.{Contains-append_left, Contains-push, Contains-push_cases}
 use Rattle.lk_facts.specs.Facts.{FactTable, basis_of}
 use Rattle.lk_facts.specs.Racing.{Setting}
 use Rattle.lk_conflict.specs.Bases.{MayBeAt, IsInConflict, IsBasis, Adds}
-use Rattle.lk_conflict.specs.Facts.{IsItemOf, are_in_conflict}
-use Rattle.lk_conflict.specs.Listing.{at_location, is_in_conflict}
-use Rattle.lk_conflict.specs.declared.item_at.ItemAt.{ItemAt}
-use Rattle.lk_rise.proofs.ListLemmas.{in_filter, passes_there, some_passes}
+use Rattle.lk_conflict.specs.Kinds.{IsRacingKind, are_in_conflict, kind_of, may_meet}
+use Rattle.lk_conflict.specs.Listing.{at_location}
+use Rattle.lk_rise.proofs.ListLemmas.{in_filter, passes_there}
+use Rattle.lk_rise.specs.PointItems.{IsItemOf}
+use Rattle.lk_rise.specs.declared.point_items.ItemAt.{ItemAt}
 use Rattle.lk_rise.specs.declared.correlations.Correlation.{Correlation}
 use Rattle.lk_sets.specs.Rows.{has}
 
@@ -66,19 +70,6 @@ module _ (facts : FactTable) (setting : Setting) where
     );
   }
 
--- what a list has, one element more
-pub there_more : {X : Type 0} (xs : List X) (k : ℕ) (x y : X) → k < length xs → x ≡ get_or xs k x → Contains (take (k + 1) xs) y ↔ (Contains (take k xs) y ⊎ (y ≡ x))
-there_more xs k x y within is =
-    let more = take_more xs k x within in (
-      λ there. ⊎_elim (λ before. inl before) (λ same. inr (sym (is ∙ same))) (Contains-push_cases (take k xs) (get_or xs k x) y (subst (λ zs. Contains zs y) more there)),
-      λ either.
-          subst (λ zs. Contains zs y) (sym more)
-          (elim either [
-            | inl before ↦ Contains-append_left (take k xs) (get_or xs k x ∷ []) y before
-            | inr same ↦ subst (λ z. Contains (take k xs ++ get_or xs k x ∷ []) z) (sym (same ∙ is)) (Contains-push (take k xs) (get_or xs k x))
-          ]),
-    )
-
 -- the items of a function that may be at a location, and are in conflict there
 module _ (facts : FactTable) (setting : Setting) (f o : ℕ) (list here : List ItemAt) (location : o < facts.program.locations)
     (all : (i : ItemAt) → Contains list i ↔ IsItemOf (basis_of facts) setting.has f i) (is : here ≡ at_location facts.origins o list) where
@@ -89,10 +80,31 @@ module _ (facts : FactTable) (setting : Setting) (f o : ℕ) (list here : List I
         λ may. subst (λ xs. Contains xs i) (sym is) (passes.1 ((all i).1 may.item, may.may)),
       )
 
-  pub in_conflict : (i : ItemAt) → (Contains here i × (is_in_conflict facts.program setting.after here i ≡ true)) ↔ IsInConflict facts setting f o i
+  pub in_conflict : (i : ItemAt) → (Contains here i × IsRacingKind facts.program setting.after here (kind_of facts.program i)) ↔ IsInConflict facts setting f o i
   in_conflict i = (
     λ both.
-        let found = some_passes (λ (j : ItemAt). are_in_conflict facts.program setting.after i j) here both.1 in
-        record { location = location; here = (may_be i).0 both.0; other = found.0; there = (may_be found.0).0 found.1; conflict = found.2 },
-    λ conflict. ((may_be i).1 conflict.here, passes_there (λ (j : ItemAt). are_in_conflict facts.program setting.after i j) here conflict.other ((may_be conflict.other).1 conflict.there) conflict.conflict),
+        let is = both.1 in
+        record {
+          location = location;
+          here = (may_be i).0 both.0;
+          other = is.has.0;
+          there = (may_be is.has.0).0 is.has.1;
+          conflict = subst (λ k. are_in_conflict setting.after (kind_of facts.program i) k ≡ true) (sym is.has.2) is.conflict;
+        },
+    λ conflict. (
+      (may_be i).1 conflict.here,
+      record { is = (i, (may_be i).1 conflict.here, refl); other = kind_of facts.program conflict.other; has = (conflict.other, (may_be conflict.other).1 conflict.there, refl); conflict = conflict.conflict },
+    ),
   )
+
+-- a function none of whose items is a child's has no conflict
+pub none_meet : (facts : FactTable) (setting : Setting) (f o : ℕ) (i : ItemAt) (list : List ItemAt) → ((i : ItemAt) → Contains list i ↔ IsItemOf (basis_of facts) setting.has f i) →
+    list_any (λ (j : ItemAt). j.child) list ≡ false → IsInConflict facts setting f o i → ⊥
+none_meet facts setting f o i list all none is =
+    let children : (j : ItemAt) → Contains list j → j.child ≡ true → ⊥ = λ j there child. false≢true (sym none ∙ passes_there (λ (k : ItemAt). k.child) list j there child) in
+    let a = kind_of facts.program i in
+    let b = kind_of facts.program is.other in
+    elim (or_cases (may_meet setting.after a b) (may_meet setting.after b a) is.conflict) [
+      | inl meets ↦ children i ((all i).1 is.here.item) (and_parts i.child (setting.after i.point is.other.point && (writes_at facts.program i.access || writes_at facts.program is.other.access)) meets).0
+      | inr meets ↦ children is.other ((all is.other).1 is.there.item) (and_parts is.other.child (setting.after is.other.point i.point && (writes_at facts.program is.other.access || writes_at facts.program i.access)) meets).0
+    ]

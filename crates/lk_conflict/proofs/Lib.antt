@@ -1,6 +1,6 @@
 pub mod BasisLemmas
 pub mod EntryLemmas
+pub mod KindLemmas
 pub mod PlaceLemmas
-pub mod PointLemmas
 pub mod RaceLemmas
 pub mod VerdictLemmas

@@ -9,17 +9,17 @@ use Rattle.lk_facts.specs.Racing.Conflicts.{first, second}
 use Rattle.lk_facts.specs.Racing.Races.{conflict, risen}
 use Rattle.lk_facts.specs.declared.source.Source.{Source}
 use Rattle.lk_conflict.specs.Bases.{MayBeAt, IsInConflict, IsBasis, Adds}
-use Rattle.lk_conflict.specs.Facts.{may_meet}
-use Rattle.lk_conflict.specs.declared.item_at.ItemAt.{ItemAt}
+use Rattle.lk_conflict.specs.Kinds.{kind_of, may_meet}
 use Rattle.lk_rise.proofs.ListLemmas.{none_there}
 use Rattle.lk_rise.specs.Correlations.{item_of, has_of, locks_of}
 use Rattle.lk_rise.specs.Rising.{Carries, Risen, AreRisen}
 use Rattle.lk_rise.specs.declared.correlations.Correlation.{Correlation}
+use Rattle.lk_rise.specs.declared.point_items.ItemAt.{ItemAt}
 use Rattle.lk_rise.specs.declared.rising.Subjects.TheVariants.{AsTheyAre}
 
 module _ (facts : FactTable) (setting : Setting) where
   -- an item that may meet a later one is the first of a conflict
-  is_first : (f o : ℕ) (i j : ItemAt) → o < facts.program.locations → MayBeAt facts setting f o i → MayBeAt facts setting f o j → may_meet facts.program setting.after i j ≡ true →
+  is_first : (f o : ℕ) (i j : ItemAt) → o < facts.program.locations → MayBeAt facts setting f o i → MayBeAt facts setting f o j → may_meet setting.after (kind_of facts.program i) (kind_of facts.program j) ≡ true →
       Conflict (basis_of facts) setting f o i.point i.source i.subject i.access j.point j.source j.child j.subject j.access
   is_first f o i j location here there meets =
       let parts = and_parts i.child (setting.after i.point j.point && (writes_at facts.program i.access || writes_at facts.program j.access)) meets in
@@ -36,7 +36,7 @@ module _ (facts : FactTable) (setting : Setting) where
 
   to_conflicts : (f o : ℕ) (i : ItemAt) → IsInConflict facts setting f o i → Conflicts (basis_of facts) setting f o i.point i.source i.child i.access
   to_conflicts f o i is =
-      elim (or_cases (may_meet facts.program setting.after i is.other) (may_meet facts.program setting.after is.other i) is.conflict) [
+      elim (or_cases (may_meet setting.after (kind_of facts.program i) (kind_of facts.program is.other)) (may_meet setting.after (kind_of facts.program is.other) (kind_of facts.program i)) is.conflict) [
         | inl meets ↦
             let child = (and_parts i.child (setting.after i.point is.other.point && (writes_at facts.program i.access || writes_at facts.program is.other.access)) meets).0 in
             subst (λ c. Conflicts (basis_of facts) setting f o i.point i.source c i.access) (sym child) (first (is_first f o i is.other is.location is.here is.there meets))
@@ -64,7 +64,7 @@ module _ (facts : FactTable) (setting : Setting) where
       here = record { item = is.second; may = is.second_may };
       other = record { point = p; source = other; child = true; subject = s; access = a };
       there = record { item = is.first; may = is.first_may };
-      conflict = or_right (may_meet facts.program setting.after (record { point = q; source = source; child = child; subject = t; access = b }) (record { point = p; source = other; child = true; subject = s; access = a })) _
+      conflict = or_right (may_meet setting.after (kind_of facts.program (record { point = q; source = source; child = child; subject = t; access = b })) (kind_of facts.program (record { point = p; source = other; child = true; subject = s; access = a }))) _
           (and_from _ _ refl (and_from _ _ is.later (wrote a b is.write)));
     },
   )

@@ -3,10 +3,11 @@ use Rattle.std.specs.Prelude.{◌≡◌, ◌<◌, ◌⊎◌, ◌↔◌, ℕ, tru
 use Rattle.lk_facts.specs.Facts.{FactTable, basis_of}
 use Rattle.lk_facts.specs.Items.{HasLock}
 use Rattle.lk_facts.specs.Racing.{Setting}
-use Rattle.lk_conflict.specs.Facts.{IsItemOf, are_in_conflict}
-use Rattle.lk_conflict.specs.declared.item_at.ItemAt.{ItemAt}
+use Rattle.lk_conflict.specs.Kinds.{are_in_conflict, kind_of}
 use Rattle.lk_rise.specs.Correlations.{IsEntryInRange, item_of}
+use Rattle.lk_rise.specs.PointItems.{IsItemOf}
 use Rattle.lk_rise.specs.declared.correlations.Correlation.{Correlation}
+use Rattle.lk_rise.specs.declared.point_items.ItemAt.{ItemAt}
 use Rattle.lk_sets.specs.Ids.{has_id}
 
 module _ (facts : FactTable) (setting : Setting) where
@@ -21,7 +22,7 @@ module _ (facts : FactTable) (setting : Setting) where
     pub here : MayBeAt f o i
     pub other : ItemAt
     pub there : MayBeAt f o other
-    pub conflict : are_in_conflict facts.program setting.after i other ≡ true
+    pub conflict : are_in_conflict setting.after (kind_of facts.program i) (kind_of facts.program other) ≡ true
 
   -- what a racing item of f for the location begins with, from an item of a point: the item, with the locks of the point's item
   pub record IsBasis (f o : ℕ) (i : ItemAt) (basis : Correlation × List ℕ) : Type 0 where

@@ -4,4 +4,4 @@ use Rattle.lk_conflict.specs.Facts.{setting_of}
 use Rattle.lk_conflict.specs.declared.grounds.Grounds.{Grounds}
 
 abbrev pub setting : Grounds → Setting
-setting grounds = setting_of grounds.after.now grounds.items.now grounds.held.now
+setting grounds = setting_of grounds.after.now grounds.items.now.entries grounds.items.now.held

@@ -1,96 +1,31 @@
 //! What racing items begin with.
+ghost use Rattle.std.specs.Prelude.{◌≡◌, ◌<◌, ◌↔◌, Contains, length, All, OnOk};
+ghost use Rattle.std.specs.List.{list_any};
+ghost use Rattle.lk_conflict.specs.Bases.{Adds, IsInConflict};
+ghost use Rattle.lk_conflict.specs.Kinds.{IsRacingKind, kind_of};
 ghost use Rattle.lk_conflict.specs.Settings.{setting};
 ghost use Rattle.lk_facts.specs.Facts.{basis_of};
-ghost use Rattle.std.specs.Prelude.{◌≡◌, ◌<◌, ◌⊎◌, ◌↔◌, ℕ, Bool, false, true, Contains, length, All, IfOk, OnOk};
-ghost use Rattle.lk_conflict.specs.Bases.{IsInConflict, MayBeAt, IsBasis, Adds};
-ghost use Rattle.lk_conflict.specs.Facts.{IsItemOf, IsItemInRange};
-ghost use Rattle.lk_conflict.specs.Listing.{is_in_conflict};
-ghost use Rattle.lk_conflict.specs.declared.item_at.ItemAt.{ItemAt};
-ghost use Rattle.lk_facts.specs.Analysis.{held_table};
-ghost use Rattle.lk_facts.specs.Flow.{RisesAs};
-ghost use Rattle.lk_facts.specs.Items.{HasLock};
-ghost use Rattle.lk_facts.specs.LockSets.{keep_of};
-ghost use Rattle.lk_facts.specs.Origins.{flow_of, IsSetBelow};
-ghost use Rattle.lk_links.specs.Links.{AreLinks};
-ghost use Rattle.lk_rise.specs.Correlations.{has_of, has_lock, locks_of};
-ghost use Rattle.lk_sets.specs.Ids.{has_id};
+ghost use Rattle.lk_rise.specs.Correlations.{has_of};
+ghost use Rattle.lk_rise.specs.PointItems.{IsItemInRange, IsItemOf};
+ghost use Rattle.lk_rise.specs.declared.point_items.ItemAt.{ItemAt};
 ghost use Rattle.lk_sets.specs.Rows.{has};
 
 use crate::grounds::Grounds;
-use crate::item_at::ItemAt;
+use crate::pairs::Kind;
+use indexmap::IndexSet;
 use lk_base::NoMemory;
-use lk_facts::{Source, Way};
-use lk_links::risen;
-use lk_rise::Correlation;
+use lk_rise::{Correlation, ItemAt};
 use lk_sets::IdSet;
 use std::alloc::Global;
 
+/// Whether an access of one of the items is made by a thread that is started at its point or below.
+fn has_child(items: &[ItemAt]) -> bool
+    ensures { result ≡ list_any (λ i. i.child) items.now }
+{
+    items.iter().any(|item| item.child)
+}
+
 impl Grounds<'_> {
-    /// The locks that are held at an item of a function, and none where it has no such item.
-    fn locks_below(&self, item: Correlation) -> &[u32]
-        ensures members { (x : ℕ) → has_id result.now x ≡ has_lock self.now.items.now item x }
-        ensures in_range { All (λ x. x < length self.now.facts.now.labels.entries) result.now }
-    {
-        match self.items.find(item) {
-            Some(locks) => locks,
-            None => &[],
-        }
-    }
-
-    /// The locks with which an item below rises to a point that goes into its function by this way.
-    fn risen_locks(
-        &self,
-        alloc: Global,
-        point: u32,
-        way: &Way,
-        below: Correlation,
-        child: bool,
-    ) -> Result<IdSet, NoMemory>
-        requires { point < length self.now.facts.now.program.points }
-        ensures members { IfOk result (λ set. (x : ℕ) → (has_id set x ≡ true)
-            ↔ (((y : ℕ) × (has_lock self.now.items.now below y ≡ true) × RisesAs (flow_of self.now.facts.now.origins) way.now y x)
-            ⊎ ((child ≡ false) × (has_id (keep_of self.now.held.now point) x ≡ true)))) }
-        ensures in_range { IfOk result (IsSetBelow (length self.now.facts.now.labels.entries)) }
-    {
-        let risen = risen(alloc, self.facts, way, self.locks_below(below))?;
-        if child {
-            return Ok(risen);
-        }
-        let all = risen.union(self.held.keep(point))?;
-        Ok(all)
-    }
-
-    /// The locks that are held at an item of a point.
-    fn locks(&self, alloc: Global, function: u32, item: &ItemAt) -> Result<IdSet, NoMemory>
-        requires in_range { IsItemInRange self.now.facts.now item.now }
-        requires item { IsItemOf (basis_of self.now.facts.now) (has_of self.now.items.now) function item.now }
-        ensures members { IfOk result (λ set. (x : ℕ) → (has_id set x ≡ true)
-            ↔ HasLock (basis_of self.now.facts.now) (setting self.now).held (setting self.now).locks item.now.point item.now.source item.now.child item.now.access x) }
-        ensures in_range { IfOk result (IsSetBelow (length self.now.facts.now.labels.entries)) }
-    {
-        match item.source {
-            Source::OwnAccess => {
-                let set = self.held.at(item.point).copy()?;
-                Ok(set)
-            }
-            Source::ItemBelow {
-                way,
-                function,
-                child,
-                subject,
-            } => {
-                let below = Correlation {
-                    function,
-                    child,
-                    subject,
-                    access: item.access,
-                };
-                let set = self.risen_locks(alloc, item.point, &way, below, item.child)?;
-                Ok(set)
-            }
-        }
-    }
-
     /// Puts the racing item of a function for a location that an item of a point begins behind the others.
     fn push_basis(
         &self,
@@ -100,14 +35,15 @@ impl Grounds<'_> {
         item: &ItemAt,
         based: &mut Vec<(Correlation, IdSet)>,
     ) -> Result<(), NoMemory>
-        requires function { function < length self.now.facts.now.program.functions }
-        requires location { location < self.now.facts.now.program.locations }
-        requires in_range { IsItemInRange self.now.facts.now item.now }
-        requires item { IsItemOf (basis_of self.now.facts.now) (has_of self.now.items.now) function item.now }
-        ensures { OnOk result (Adds self.now.facts.now (setting self.now)
+        requires function { function < length self.now.items.now.facts.program.functions }
+        requires location { location < self.now.items.now.facts.program.locations }
+        requires in_range { IsItemInRange self.now.items.now.facts item.now }
+        requires item { IsItemOf (basis_of self.now.items.now.facts)
+            (has_of self.now.items.now.entries) function item.now }
+        ensures { OnOk result (Adds self.now.items.now.facts (setting self.now)
             (λ f o i. (f ≡ function) × (o ≡ location) × (i ≡ item.now)) based.old.items based.new.items) }
     {
-        let locks = self.locks(alloc, function, item)?;
+        let locks = self.items.locks(alloc, item)?;
         let racing = Correlation {
             function,
             child: item.child,
@@ -118,32 +54,34 @@ impl Grounds<'_> {
         Ok(())
     }
 
-    /// Does so where the item is in conflict with one of the others.
+    /// Does so where the item is of one of the kinds.
     fn push_conflict(
         &self,
         alloc: Global,
         function: u32,
         location: u32,
         item: &ItemAt,
-        others: &[ItemAt],
+        racing: &IndexSet<Kind>,
         based: &mut Vec<(Correlation, IdSet)>,
     ) -> Result<(), NoMemory>
-        requires function { function < length self.now.facts.now.program.functions }
-        requires location { location < self.now.facts.now.program.locations }
-        requires in_range { IsItemInRange self.now.facts.now item.now }
-        requires item { IsItemOf (basis_of self.now.facts.now) (has_of self.now.items.now) function item.now }
-        requires others { All (IsItemInRange self.now.facts.now) others.now }
-        ensures { OnOk result (Adds self.now.facts.now (setting self.now)
-            (λ f o i. (f ≡ function) × (o ≡ location) × (i ≡ item.now) × (is_in_conflict self.now.facts.now.program (has self.now.after.now) others.now i ≡ true)) based.old.items based.new.items) }
+        requires function { function < length self.now.items.now.facts.program.functions }
+        requires location { location < self.now.items.now.facts.program.locations }
+        requires in_range { IsItemInRange self.now.items.now.facts item.now }
+        requires item { IsItemOf (basis_of self.now.items.now.facts)
+            (has_of self.now.items.now.entries) function item.now }
+        ensures { OnOk result (Adds self.now.items.now.facts (setting self.now)
+            (λ f o i. (f ≡ function) × (o ≡ location) × (i ≡ item.now)
+            × Contains racing.now.keys (kind_of self.now.items.now.facts.program i))
+            based.old.items based.new.items) }
     {
-        if !self.is_in_conflict(item, others) {
+        if !racing.contains(&self.kind(item)) {
             return Ok(());
         }
         self.push_basis(alloc, function, location, item, based)?;
         Ok(())
     }
 
-    /// Does so for each of the items.
+    /// Does so for each of the items that is in conflict with one of them.
     fn push_each(
         &self,
         alloc: Global,
@@ -152,15 +90,19 @@ impl Grounds<'_> {
         items: &[ItemAt],
         based: &mut Vec<(Correlation, IdSet)>,
     ) -> Result<(), NoMemory>
-        requires function { function < length self.now.facts.now.program.functions }
-        requires location { location < self.now.facts.now.program.locations }
-        requires in_range { All (IsItemInRange self.now.facts.now) items.now }
-        requires items { All (IsItemOf (basis_of self.now.facts.now) (has_of self.now.items.now) function) items.now }
-        ensures { OnOk result (Adds self.now.facts.now (setting self.now)
-            (λ f o i. (f ≡ function) × (o ≡ location) × Contains items.now i × (is_in_conflict self.now.facts.now.program (has self.now.after.now) items.now i ≡ true)) based.old.items based.new.items) }
+        requires function { function < length self.now.items.now.facts.program.functions }
+        requires location { location < self.now.items.now.facts.program.locations }
+        requires in_range { All (IsItemInRange self.now.items.now.facts) items.now }
+        requires items { All (IsItemOf (basis_of self.now.items.now.facts)
+            (has_of self.now.items.now.entries) function) items.now }
+        ensures { OnOk result (Adds self.now.items.now.facts (setting self.now)
+            (λ f o i. (f ≡ function) × (o ≡ location) × Contains items.now i
+            × IsRacingKind self.now.items.now.facts.program (has self.now.after.now) items.now
+            (kind_of self.now.items.now.facts.program i)) based.old.items based.new.items) }
     {
+        let racing = self.racing_kinds(alloc, items)?;
         for item in items {
-            self.push_conflict(alloc, function, location, item, items, based)?;
+            self.push_conflict(alloc, function, location, item, &racing, based)?;
         }
         Ok(())
     }
@@ -174,16 +116,42 @@ impl Grounds<'_> {
         items: &[ItemAt],
         based: &mut Vec<(Correlation, IdSet)>,
     ) -> Result<(), NoMemory>
-        requires function { function < length self.now.facts.now.program.functions }
-        requires location { location < self.now.facts.now.program.locations }
-        requires in_range { All (IsItemInRange self.now.facts.now) items.now }
-        requires label { location < length self.now.facts.now.labels.entries }
-        requires items { (i : ItemAt) → Contains items.now i ↔ IsItemOf (basis_of self.now.facts.now) (has_of self.now.items.now) function i }
-        ensures { OnOk result (Adds self.now.facts.now (setting self.now)
-            (λ f o i. (f ≡ function) × (o ≡ location) × IsInConflict self.now.facts.now (setting self.now) f o i) based.old.items based.new.items) }
+        requires function { function < length self.now.items.now.facts.program.functions }
+        requires location { location < self.now.items.now.facts.program.locations }
+        requires in_range { All (IsItemInRange self.now.items.now.facts) items.now }
+        requires label { location < length self.now.items.now.facts.labels.entries }
+        requires items { (i : ItemAt) → Contains items.now i
+            ↔ IsItemOf (basis_of self.now.items.now.facts) (has_of self.now.items.now.entries) function i }
+        ensures { OnOk result (Adds self.now.items.now.facts (setting self.now)
+            (λ f o i. (f ≡ function) × (o ≡ location)
+            × IsInConflict self.now.items.now.facts (setting self.now) f o i)
+            based.old.items based.new.items) }
     {
         let here = self.at_location(alloc, location, items)?;
         self.push_each(alloc, function, location, &here, based)?;
+        Ok(())
+    }
+
+    /// Puts the racing items that a function's conflicts between these items begin behind the others.
+    fn push_at_locations(
+        &self,
+        alloc: Global,
+        function: u32,
+        items: &[ItemAt],
+        based: &mut Vec<(Correlation, IdSet)>,
+    ) -> Result<(), NoMemory>
+        requires function { function < length self.now.items.now.facts.program.functions }
+        requires in_range { All (IsItemInRange self.now.items.now.facts) items.now }
+        requires items { (i : ItemAt) → Contains items.now i
+            ↔ IsItemOf (basis_of self.now.items.now.facts) (has_of self.now.items.now.entries) function i }
+        ensures { OnOk result (Adds self.now.items.now.facts (setting self.now)
+            (λ f o i. (f ≡ function) × IsInConflict self.now.items.now.facts (setting self.now) f o i)
+            based.old.items based.new.items) }
+    {
+        let locations = self.items.facts().points().locations();
+        for location in 0..locations {
+            self.push_at_location(alloc, function, location, items, based)?;
+        }
         Ok(())
     }
 
@@ -194,16 +162,16 @@ impl Grounds<'_> {
         function: u32,
         based: &mut Vec<(Correlation, IdSet)>,
     ) -> Result<(), NoMemory>
-        requires links { AreLinks (basis_of self.now.facts.now) self.now.links.now }
-        requires function { function < length self.now.facts.now.program.functions }
-        ensures { OnOk result (Adds self.now.facts.now (setting self.now)
-            (λ f o i. (f ≡ function) × IsInConflict self.now.facts.now (setting self.now) f o i) based.old.items based.new.items) }
+        requires { function < length self.now.items.now.facts.program.functions }
+        ensures { OnOk result (Adds self.now.items.now.facts (setting self.now)
+            (λ f o i. (f ≡ function) × IsInConflict self.now.items.now.facts (setting self.now) f o i)
+            based.old.items based.new.items) }
     {
-        let items = self.items_in(alloc, function)?;
-        let locations = self.facts.points().locations();
-        for location in 0..locations {
-            self.push_at_location(alloc, function, location, &items, based)?;
+        let items = self.items.items_in(alloc, function)?;
+        if !has_child(&items) {
+            return Ok(());
         }
+        self.push_at_locations(alloc, function, &items, based)?;
         Ok(())
     }
 }

@@ -24,7 +24,8 @@ pub fn verdicts(
     linear: &IdSet,
 ) -> Result<Vec<Verdict>, NoMemory>
     requires { AreRacingLists (basis_of facts.now) conflicts.now.entries conflicts.now.racing }
-    ensures { IfOk result (λ v. AreVerdicts (basis_of facts.now) (has_of conflicts.now.entries) (locks_of conflicts.now.entries) (has_id linear.now) v.items) }
+    ensures { IfOk result (λ v. AreVerdicts (basis_of facts.now) (has_of conflicts.now.entries)
+        (locks_of conflicts.now.entries) (has_id linear.now) v.items) }
 {
     let judging = Judging {
         facts,
@@ -93,9 +94,11 @@ impl Judging<'_> {
     /// The racing accesses of `main` for a location, each with its lock set.
     fn racing(&self, alloc: Global, location: u32) -> Result<Vec<Racing>, NoMemory>
         requires location { location < self.now.facts.now.program.locations }
-        requires racing { AreRacingLists (basis_of self.now.facts.now) self.now.conflicts.now.entries self.now.conflicts.now.racing }
+        requires racing { AreRacingLists
+            (basis_of self.now.facts.now) self.now.conflicts.now.entries self.now.conflicts.now.racing }
         ensures { IfOk result (λ v. AreRacing (basis_of self.now.facts.now)
-            (has_of self.now.conflicts.now.entries) (locks_of self.now.conflicts.now.entries) (has_id self.now.linear.now) location v.items) }
+            (has_of self.now.conflicts.now.entries) (locks_of self.now.conflicts.now.entries)
+            (has_id self.now.linear.now) location v.items) }
     {
         let mut racing = Vec::new(alloc);
         for access in self.conflicts.racing(location) {
@@ -111,9 +114,11 @@ impl Judging<'_> {
     /// The verdict of a location.
     fn verdict(&self, alloc: Global, location: u32) -> Result<Verdict, NoMemory>
         requires location { location < self.now.facts.now.program.locations }
-        requires racing { AreRacingLists (basis_of self.now.facts.now) self.now.conflicts.now.entries self.now.conflicts.now.racing }
+        requires racing { AreRacingLists
+            (basis_of self.now.facts.now) self.now.conflicts.now.entries self.now.conflicts.now.racing }
         ensures { IfOk result (IsVerdictOf (basis_of self.now.facts.now)
-            (has_of self.now.conflicts.now.entries) (locks_of self.now.conflicts.now.entries) (has_id self.now.linear.now) location) }
+            (has_of self.now.conflicts.now.entries) (locks_of self.now.conflicts.now.entries)
+            (has_id self.now.linear.now) location) }
     {
         let accesses = self.racing(alloc, location)?;
         let locks = common(alloc, &accesses)?;

@@ -3,7 +3,6 @@
 
 mod bases;
 mod grounds;
-mod item_at;
 mod judging;
 mod pairs;
 mod places;

@@ -1,20 +1,21 @@
 //! The racing accesses of `main`, and the lock places that are held there.
 ghost use Rattle.lk_facts.specs.Facts.{basis_of};
 ghost use Rattle.std.specs.Prelude.{◌≡◌, ◌<◌, ◌↔◌, ◌⊎◌, ◌++◌, ℕ, true, All, IfOk, IsTrue, OnOk, length};
-ghost use Rattle.lk_conflict.specs.Listing.{access_in};
+ghost use Rattle.lk_conflict.specs.Listing.{access_at, access_of, subjects_of};
 ghost use Rattle.lk_conflict.specs.Places.{AreLocksBelow, IsPlaceBy, IsPlaceOf};
 ghost use Rattle.lk_facts.specs.Lists.{Lists};
 ghost use Rattle.lk_facts.specs.Program.{IsLockPlace};
 ghost use Rattle.lk_facts.specs.Verdicts.{AreRacing, IsRacing, InLockSet};
 ghost use Rattle.lk_rise.specs.Conflicts.{every_place};
 ghost use Rattle.lk_rise.specs.Correlations.{has_of, locks_of};
+ghost use Rattle.lk_rise.specs.Groups.{AreGroups};
 ghost use Rattle.lk_links.specs.Only.{IsTheOne};
 ghost use Rattle.lk_sets.specs.Ids.{has_id};
 
 use lk_base::NoMemory;
 use lk_facts::{Facts, Racing};
 use lk_links::only_in_row;
-use lk_rise::{Correlation, Correlations};
+use lk_rise::{Correlation, Correlations, Groups};
 use lk_sets::IdSet;
 use std::alloc::Global;
 
@@ -25,19 +26,16 @@ pub(crate) struct Races<'a> {
     pub facts: &'a Facts<'a>,
     /// Its racing items, with the locks that are held at each.
     pub items: &'a Correlations,
+    /// Their numbers, for each location.
+    pub numbers: &'a Groups,
     ghost in_range: { AreLocksBelow (length facts.now.labels.entries) items.now },
 }
 
-/// Puts the access of an item behind the numbers, where it is one of the function for the location.
-fn push_access(
-    item: Correlation,
-    function: u32,
-    location: u32,
-    accesses: &mut Vec<u32>,
-) -> Result<(), NoMemory>
-    ensures { OnOk result (accesses.new.items ≡ accesses.old.items ++ access_in function location item) }
+/// Puts the access of an item behind the numbers, where it is one of the function.
+fn push_access(item: Correlation, function: u32, accesses: &mut Vec<u32>) -> Result<(), NoMemory>
+    ensures { OnOk result (accesses.new.items ≡ accesses.old.items ++ access_of function item) }
 {
-    if item.function == function && item.subject == location {
+    if item.function == function {
         accesses.push(item.access)?;
     }
     Ok(())
@@ -68,7 +66,8 @@ impl Races<'_> {
     fn push_place(&self, lock: u32, places: &mut Vec<u32>) -> Result<(), NoMemory>
         requires { lock < length self.now.facts.now.labels.entries }
         ensures { OnOk result ((q : ℕ) → (has_id places.new.items q ≡ true)
-            ↔ ((has_id places.old.items q ≡ true) ⊎ IsPlaceBy (basis_of self.now.facts.now) every_place lock q)) }
+            ↔ ((has_id places.old.items q ≡ true)
+            ⊎ IsPlaceBy (basis_of self.now.facts.now) every_place lock q)) }
     {
         if let Some(place) = self.place(lock) {
             places.push(place)?;
@@ -91,8 +90,10 @@ impl Races<'_> {
 
     /// The lock places that are held at a racing access of `main`.
     fn lock_set(&self, alloc: Global, location: u32, access: u32) -> Result<IdSet, NoMemory>
-        requires { IsRacing (basis_of self.now.facts.now) (has_of self.now.items.now) (locks_of self.now.items.now) location access }
-        ensures { IfOk result (Lists (InLockSet (basis_of self.now.facts.now) (has_of self.now.items.now) (locks_of self.now.items.now) every_place location access)) }
+        requires { IsRacing (basis_of self.now.facts.now) (has_of self.now.items.now)
+            (locks_of self.now.items.now) location access }
+        ensures { IfOk result (Lists (InLockSet (basis_of self.now.facts.now)
+            (has_of self.now.items.now) (locks_of self.now.items.now) every_place location access)) }
     {
         let item = Correlation {
             function: self.facts.points().main(),
@@ -124,14 +125,32 @@ impl Races<'_> {
         }
     }
 
+    /// Puts the access of the item with a number behind the numbers, where it is one of the function.
+    fn push_item(
+        &self,
+        number: usize,
+        function: u32,
+        accesses: &mut Vec<u32>,
+    ) -> Result<(), NoMemory>
+        requires { number < length self.now.items.now }
+        ensures { OnOk result
+            (accesses.new.items ≡ accesses.old.items ++ access_at function self.now.items.now number) }
+    {
+        push_access(self.items.item(number), function, accesses)?;
+        Ok(())
+    }
+
     /// The racing accesses of `main` for a location.
     fn accesses(&self, alloc: Global, location: u32) -> Result<IdSet, NoMemory>
-        ensures { IfOk result (Lists (IsRacing (basis_of self.now.facts.now) (has_of self.now.items.now) (locks_of self.now.items.now) location)) }
+        requires numbers { AreGroups (subjects_of self.now.items.now) self.now.numbers.now }
+        requires location { location < length self.now.numbers.now }
+        ensures { IfOk result (Lists (IsRacing (basis_of self.now.facts.now)
+            (has_of self.now.items.now) (locks_of self.now.items.now) location)) }
     {
         let main = self.facts.points().main();
         let mut accesses = Vec::new(alloc);
-        for i in 0..self.items.count() {
-            push_access(self.items.item(i), main, location, &mut accesses)?;
+        for number in self.numbers.at(location) {
+            self.push_item(*number, main, &mut accesses)?;
         }
         let set = IdSet::from_list(alloc, &accesses)?;
         Ok(set)
@@ -139,7 +158,10 @@ impl Races<'_> {
 
     /// The racing accesses of `main` for a location, each with its lock set.
     pub(crate) fn racing(&self, alloc: Global, location: u32) -> Result<Vec<Racing>, NoMemory>
-        ensures { IfOk result (λ v. AreRacing (basis_of self.now.facts.now) (has_of self.now.items.now) (locks_of self.now.items.now) every_place location v.items) }
+        requires numbers { AreGroups (subjects_of self.now.items.now) self.now.numbers.now }
+        requires location { location < length self.now.numbers.now }
+        ensures { IfOk result (λ v. AreRacing (basis_of self.now.facts.now) (has_of self.now.items.now)
+            (locks_of self.now.items.now) every_place location v.items) }
     {
         let accesses = self.accesses(alloc, location)?;
         let mut racing = Vec::new(alloc);

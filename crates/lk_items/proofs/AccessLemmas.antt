@@ -1,17 +1,15 @@
 -- A point makes one access at most, and the accesses of all points are told one by one.
 use Rattle.std.proofs.Common.{◌≡◌, ◌<◌, ◌+◌, ◌++◌, ℕ, true, false, List, [], ◌∷◌, Contains, length, Some, refl, sym, ap, ◌∙◌, subst, inl, inr, arith}
-use Rattle.std.specs.Option.{unwrap_or}
 use Rattle.std.proofs.lemmas.Bool.{cases_lt}
+use Rattle.std.proofs.lemmas.Option.{same_Some}
 use Rattle.std.proofs.lemmas.List.Elements.{All-nil, All-push, Contains-append_left, Contains-push}
-use Rattle.lk_facts.specs.Doing.{Does, Accesses}
-use Rattle.lk_facts.specs.Effects.{accessed}
+use Rattle.lk_facts.specs.Doing.{Accesses}
 use Rattle.lk_facts.specs.Facts.{FactTable, basis_of}
-use Rattle.lk_facts.specs.Labels.{target_at}
 use Rattle.lk_facts.specs.LockSets.{LockSets, at_of}
 use Rattle.lk_facts.specs.Origins.{IsSetBelow}
-use Rattle.lk_facts.specs.Program.{live_at, function_at, effect_at}
-use Rattle.lk_facts.specs.declared.effect.Effect.{Effect}
-use Rattle.lk_rise.proofs.DoingLemmas.{accessing, accessed_by}
+use Rattle.lk_facts.specs.Program.{live_at, function_at}
+use Rattle.lk_links.specs.Only.{IsTheOne}
+use Rattle.lk_rise.proofs.DoingLemmas.{accessed_by}
 use Rattle.lk_rise.specs.declared.correlations.Correlation.{Correlation}
 use Rattle.lk_rise.specs.Correlations.{item_of, IsEntryInRange}
 use Rattle.lk_links.proofs.SetLemmas.{All-from_has_id, All-has_id}
@@ -19,25 +17,19 @@ use Rattle.lk_sets.specs.Ids.{has_id, IsSetOf}
 use Rattle.lk_items.specs.Accesses.{IsAccess, IsOwn, AreAccessesBelow}
 
 module _ (facts : FactTable) where
-  -- what a live point accesses
-  pub access_is : (p f x a : ℕ) (done : Effect) → live_at facts.program p ≡ true → function_at facts.program p ≡ Some f → f < length facts.program.functions → effect_at facts.program p ≡ Some done →
-      accessed done ≡ Some a → target_at facts.labels a ≡ Some x → x < length facts.labels.entries → IsAccess facts p (record { function = f; child = false; subject = x; access = p })
-  access_is p f x a done live of within is by at below = record {
-    accesses = accessing (basis_of facts) p f x a done (record { live = live; of = of; is = is }) by at;
-    own = refl;
-    access = refl;
-    function = within;
-    subject = below;
-    only = λ g y other. one g y (accessed_by (basis_of facts) p g y other);
-  }
-    where
-      one : (g y : ℕ) → ((b : ℕ) × (does : Effect) × Does facts.program p g does × (accessed does ≡ Some b) × (target_at facts.labels b ≡ Some y)) → (g ≡ f) × (y ≡ x)
-      one g y other =
-          let does = other.2 in
-          let same : g ≡ f = ap (λ o. unwrap_or o f) (sym does.of ∙ of) in
-          let effects : other.1 ≡ done = ap (λ o. unwrap_or o done) (sym does.is ∙ is) in
-          let operands : other.0 ≡ a = ap (λ o. unwrap_or o a) (sym other.3 ∙ ap accessed effects ∙ by) in
-          (same, ap (λ o. unwrap_or o x) (sym other.4 ∙ ap (target_at facts.labels) operands ∙ at))
+  -- what a point accesses
+  pub access_is : (p f x : ℕ) → function_at facts.program p ≡ Some f → (live_at facts.program p ≡ true → f < length facts.program.functions) →
+      IsTheOne (λ y. (g : ℕ) × Accesses (basis_of facts) p g y) (Some x) → x < length facts.labels.entries → IsAccess facts p (record { function = f; child = false; subject = x; access = p })
+  access_is p f x of within is below =
+      let by = accessed_by (basis_of facts) p is.holds.0 x is.holds.1 in
+      record {
+        accesses = subst (λ g. Accesses (basis_of facts) p g x) (same_Some is.holds.0 f (sym by.2.of ∙ of)) is.holds.1;
+        own = refl;
+        access = refl;
+        function = within by.2.live;
+        subject = below;
+        only = λ g y other. (same_Some g f (sym (accessed_by (basis_of facts) p g y other).2.of ∙ of), is.only y (g, other));
+      }
 
   module _ (held : LockSets) where
     pub accesses_none : AreAccessesBelow facts held 0 []

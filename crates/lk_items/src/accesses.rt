@@ -4,7 +4,7 @@ ghost use Rattle.lk_items.specs.Accesses.{IsAccessOf, AreAccessesBelow};
 
 use lk_base::NoMemory;
 use lk_facts::{Facts, Held};
-use lk_rise::Correlation;
+use lk_rise::{Correlation, accessed};
 use lk_sets::IdSet;
 use std::alloc::Global;
 
@@ -13,14 +13,9 @@ fn access(facts: &Facts<'_>, point: u32) -> Option<Correlation>
     requires { point < length facts.now.program.points }
     ensures { IsAccessOf facts.now point result }
 {
-    let points = facts.points();
-    if !points.live(point) {
-        return None;
-    }
-    let operand = points.effect(point).accessed()?;
-    let subject = facts.labels().target(operand)?;
+    let subject = accessed(facts, point)?;
     Some(Correlation {
-        function: points.function(point),
+        function: facts.points().function(point),
         child: false,
         subject: subject.0,
         access: point,
@@ -57,7 +52,8 @@ pub(crate) fn accesses(
 ) -> Result<Vec<(Correlation, IdSet)>, NoMemory>
     requires held_points { length held.now.at ≡ length facts.now.program.points }
     requires held_labels { held.now.labels ≡ length facts.now.labels.entries }
-    ensures { IfOk result (λ base. AreAccessesBelow facts.now held.now (length facts.now.program.points) base.items) }
+    ensures { IfOk result (λ base.
+        AreAccessesBelow facts.now held.now (length facts.now.program.points) base.items) }
 {
     let mut base = Vec::new(alloc);
     for point in 0..facts.points().count() {

@@ -20,9 +20,11 @@ use std::alloc::Global;
 pub fn items(alloc: Global, facts: &Facts<'_>, held: &Held) -> Result<Items, NoMemory>
     requires held_points { length held.now.at ≡ length facts.now.program.points }
     requires held_labels { held.now.labels ≡ length facts.now.labels.entries }
-    ensures items { IfOk result (λ found. AreItems (basis_of facts.now) (held_table held.now) (has_of found.entries) (locks_of found.entries)) }
+    ensures items { IfOk result (λ found.
+        AreItems (basis_of facts.now) (held_table held.now) (has_of found.entries) (locks_of found.entries)) }
     ensures named { IfOk result (λ found. found.items ≡ map (item_in facts.now.labels) found.entries) }
-    ensures in_range { IfOk result (λ found. AreInRange facts.now (length facts.now.labels.entries) found.entries) }
+    ensures in_range { IfOk result (λ found.
+        AreInRange facts.now (length facts.now.labels.entries) found.entries) }
 {
     let links = Links::new(alloc, facts)?;
     let base = accesses(alloc, facts, held)?;

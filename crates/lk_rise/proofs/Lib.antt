@@ -1,9 +1,14 @@
+pub mod AboveLemmas
 pub mod DoingLemmas
+pub mod EntryLemmas
+pub mod GroupLemmas
 pub mod ItemLemmas
 pub mod LinkLemmas
 pub mod ListLemmas
 pub mod NamingLemmas
 pub mod PassLemmas
+pub mod PointLemmas
 pub mod RiseLemmas
 pub mod TableLemmas
+pub mod WayLemmas
 pub mod WorkLemmas

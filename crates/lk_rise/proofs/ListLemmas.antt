@@ -1,11 +1,12 @@
 -- What lists have that are filtered, mapped and joined.
-use Rattle.std.proofs.Common.{◌≡◌, ◌<◌, ◌++◌, ◌||◌, ◌⊎◌, ◌↔◌, ℕ, Bool, true, false, cond, List, [], ◌∷◌, map, Contains, All, refl, sym, ap, ◌∙◌, subst, ⊎_elim, inl, inr, arith}
+use Rattle.std.proofs.Common.{◌≡◌, ◌<◌, ◌+◌, ◌++◌, ◌||◌, ◌⊎◌, ◌↔◌, ℕ, Bool, true, false, cond, List, [], ◌∷◌, length, get_or, take, map, Contains, All, refl, sym, ap, ◌∙◌, subst, ⊎_elim, inl, inr, arith}
 use Rattle.std.specs.List.{filter, flat_map, list_any}
 use Rattle.lk_facts.specs.Origins.{IsSetBelow}
 use Rattle.lk_sets.specs.Ids.{has_id, IsSetOf}
 use Rattle.lk_sets.proofs.Rising.{has_id-append}
 use Rattle.lk_links.proofs.SetLemmas.{All-from_has_id, All-has_id}
 use Rattle.std.proofs.lemmas.Bool.{false≢true, or_cases, or_left, or_right}
+use Rattle.std.proofs.lemmas.List.{take_more}
 use Rattle.std.proofs.lemmas.List.Elements.{Contains-append_cases, Contains-append_left, Contains-append_right, Contains-push, Contains-push_cases}
 
 pub none_there : {X : Type 0} (x : X) → Contains [] x → ⊥
@@ -114,3 +115,23 @@ set_in_range n list set below made = record {
   sorted = made.sorted;
   below = All-from_has_id (λ x. x < n) set (λ x there. All-has_id (λ y. y < n) list x below (sym (made.members x) ∙ there));
 }
+
+-- what a list has, one element more
+pub there_more : {X : Type 0} (xs : List X) (k : ℕ) (x y : X) → k < length xs → x ≡ get_or xs k x → Contains (take (k + 1) xs) y ↔ (Contains (take k xs) y ⊎ (y ≡ x))
+there_more xs k x y within is =
+    let more = take_more xs k x within in (
+      λ there. ⊎_elim (λ before. inl before) (λ same. inr (sym (is ∙ same))) (Contains-push_cases (take k xs) (get_or xs k x) y (subst (λ zs. Contains zs y) more there)),
+      λ either.
+          subst (λ zs. Contains zs y) (sym more)
+          (elim either [
+            | inl before ↦ Contains-append_left (take k xs) (get_or xs k x ∷ []) y before
+            | inr same ↦ subst (λ z. Contains (take k xs ++ get_or xs k x ∷ []) z) (sym (same ∙ is)) (Contains-push (take k xs) (get_or xs k x))
+          ]),
+    )
+
+-- what a list has behind which others were put
+pub there_or : {X : Type 0} (Q : X → Type 0) (old mine new : List X) → new ≡ old ++ mine → ((x : X) → Contains mine x ↔ Q x) → (x : X) → Contains new x ↔ (Contains old x ⊎ Q x)
+there_or Q old mine new is mean x = (
+  λ there. ⊎_elim (λ before. inl before) (λ now. inr ((mean x).0 now)) (Contains-append_cases old mine x (subst (λ xs. Contains xs x) is there)),
+  λ either. subst (λ xs. Contains xs x) (sym is) (⊎_elim (λ before. Contains-append_left old mine x before) (λ now. Contains-append_right old mine x ((mean x).1 now)) either),
+)

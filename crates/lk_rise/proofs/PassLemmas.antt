@@ -16,9 +16,9 @@ use Rattle.lk_rise.specs.declared.correlations.Correlation.{Correlation}
 use Rattle.lk_links.specs.declared.link.Link.{Link}
 use Rattle.lk_rise.specs.Correlations.{item_of, set_of, has_item, has_lock, AreInRange, IsEntryInRange}
 use Rattle.lk_rise.specs.Rising.{Risen, subjects_below}
-use Rattle.lk_rise.specs.Tables.{Setting, Offered, HasRisen, IsCarried, IsOffer, IsSound, Grows, Works, HasLockAbove, AreAbove, AreAboveWithin, HasPassed, HasMet, HasPassedAll, HasMetAll, above_of, lock_in, item_at}
+use Rattle.lk_rise.specs.Tables.{Setting, Fits, Offered, HasRisen, IsCarried, IsOffer, IsSound, Grows, Works, HasLockAbove, AreAbove, AreAboveWithin, AreMet, HasPassed, HasMet, HasPassedAll, HasMetAll, above_of, lock_in, item_at}
 use Rattle.lk_links.proofs.SetLemmas.{place_of_id}
-use Rattle.lk_rise.proofs.WorkLemmas.{Fits, offered_works, works_as, works_below, works_not}
+use Rattle.lk_rise.proofs.WorkLemmas.{offered_works, works_as, works_below, works_not}
 use Rattle.lk_sets.specs.Ids.{has_id, IsSetOf}
 use Rattle.lk_sets.proofs.Members.{has_id-from_Contains}
 use Rattle.std.proofs.lemmas.List.Elements.{Contains-get_or}
@@ -72,66 +72,72 @@ module _ (s : Setting) (link : Link) (item : Correlation) (set subjects : List �
       done = λ none x y carried. let place = place_of x carried in subst (λ z. has_lock new (above_of link item z) y ≡ true → has_id set y ≡ true) place.2 (works.done none place.0 place.1 y);
     }
 
-module _ (s : Setting) (link : Link) (item : Correlation) (locks set : List ℕ) (entries : List (Correlation × List ℕ)) (k : ℕ)
-    (is_link : IsLink (basis_of s.facts) link.point link) (sound : IsSound s entries) (at : slice_get entries k ≡ Some (item, locks)) (found : set_of entries item ≡ Some locks)
-    (same : item.function ≡ link.below) where
-  present : has_item entries item ≡ true
-  present = ap is_some found
+-- an item of a sound table fits
+pub entry_fits : (s : Setting) (item : Correlation) (locks : List ℕ) (entries : List (Correlation × List ℕ)) (k : ℕ) → IsSound s entries → slice_get entries k ≡ Some (item, locks) → set_of entries item ≡ Some locks → Fits s item locks
+entry_fits s item locks entries k sound at found =
+    let present : has_item entries item ≡ true = ap is_some found in
+    let within = slice_get_within entries k (item, locks) at in
+    record {
+      risen = sound.items item present;
+      locks = λ other allowed y lock. sym (ap (λ o. option_map_or (λ set. has_id set y) o false) found) ∙ sound.locks other allowed item y present lock;
+      in_range = subst (IsEntryInRange s.facts (subjects_below s.facts s.subjects)) (get_or_from_slice_get entries k (item, locks) (item, locks) at) (sound.in_range k (item, locks) within);
+    }
 
-  entry_range : IsEntryInRange s.facts (subjects_below s.facts s.subjects) (item, locks)
-  entry_range =
-      let within = slice_get_within entries k (item, locks) at in
-      subst (IsEntryInRange s.facts (subjects_below s.facts s.subjects)) (get_or_from_slice_get entries k (item, locks) (item, locks) at) (sound.in_range k (item, locks) within)
+-- the locks with which an item rises may be offered above
+pub offer_fits : (s : Setting) (link : Link) (item : Correlation) (locks set : List ℕ) → IsLink (basis_of s.facts) link.point link → Fits s item locks → item.function ≡ link.below →
+    ((y : ℕ) → (has_id set y ≡ true) ↔ HasLockAbove s link item.child locks y) → IsSetBelow (length s.facts.labels.entries) set → IsOffer s link item set
+offer_fits s link item locks set is_link fits same members below =
+    let below_risen : HasRisen s (item_of link.below item.child item.subject item.access) = subst (λ f. HasRisen s (item_of f item.child item.subject item.access)) same fits.risen in
+    record {
+      risen = λ x carried. Risen.risen (is_link.rises item.child) below_risen carried;
+      locks = λ other allowed x y carried lock.
+          (members y).1
+          (⊎_elim
+          (λ from.
+          let lower : lock_in other item from.0 ≡ true = subst (λ f. other f item.child item.subject item.access from.0 ≡ true) (sym same) from.1 in
+          inl (from.0, fits.locks other allowed from.0 lower, from.2))
+          (λ kept. inr kept)
+          (allowed.risen link.point link.above link.below item.subject x item.access y link.way item.child (item.child || link.starts) (is_link.rises item.child) below_risen carried lock));
+      below = below;
+      function = is_link.above;
+      subject = fits.in_range.subject;
+      access = fits.in_range.access;
+    }
 
-  pub locks_range : IsSetBelow (length s.facts.labels.entries) locks
-  locks_range = entry_range.locks
+-- what is offered above is all that the items there keep
+pub met_up : (s : Setting) (link : Link) (item : Correlation) (locks set : List ℕ) (old new : List (Correlation × List ℕ)) (changed : Bool) → ((y : ℕ) → (has_id set y ≡ true) ↔ HasLockAbove s link item.child locks y) →
+    Works s (AreAbove s link item) (AreAboveWithin s link item set) old new changed → Works s (AreAbove s link item) (AreMet s link item locks) old new changed
+met_up s link item locks set old new changed members works =
+    works_as s (AreAbove s link item) (AreAbove s link item) (AreAboveWithin s link item set) (AreMet s link item locks) old new changed
+    (λ present. present) (λ present. present) (λ none within x y carried lock. (members y).0 (within x y carried lock)) works
 
-  below_risen : HasRisen s (item_of link.below item.child item.subject item.access)
-  below_risen = subst (λ f. HasRisen s (item_of f item.child item.subject item.access)) same (sound.items item present)
+-- the first n links, for an item with its locks
+module _ (s : Setting) (links : List Link) (item : Correlation) (locks : List ℕ) where
+  abbrev pub AreUpAt : ℕ → List (Correlation × List ℕ) → Type 0
+  AreUpAt j entries = (link : Link) → slice_get links j ≡ Some link → AreAbove s link item entries
 
-  -- the locks with which an item rises may be offered above
-  pub offer_fits : ((y : ℕ) → (has_id set y ≡ true) ↔ HasLockAbove s link item.child locks y) → IsSetBelow (length s.facts.labels.entries) set → IsOffer s link item set
-  offer_fits members below = record {
-    risen = λ x carried. Risen.risen (is_link.rises item.child) below_risen carried;
-    locks = λ other allowed x y carried lock.
-        (members y).1
-        (⊎_elim
-        (λ from.
-        let lower : lock_in other item from.0 ≡ true = subst (λ f. other f item.child item.subject item.access from.0 ≡ true) (sym same) from.1 in
-        let here : has_id locks from.0 ≡ true = sym (ap (λ o. option_map_or (λ set. has_id set from.0) o false) found) ∙ sound.locks other allowed item from.0 present lower in
-        inl (from.0, here, from.2))
-        (λ kept. inr kept)
-        (allowed.risen link.point link.above link.below item.subject x item.access y link.way item.child (item.child || link.starts) (is_link.rises item.child) below_risen carried lock));
-    below = below;
-    function = is_link.above;
-    subject = entry_range.subject;
-    access = entry_range.access;
-  }
+  abbrev pub AreMetAt : ℕ → List (Correlation × List ℕ) → Type 0
+  AreMetAt j entries = (link : Link) → slice_get links j ≡ Some link → AreMet s link item locks entries
 
--- an item that the link doesn't take up
-pub passed_by : (s : Setting) (link : Link) (item : Correlation) (entries : List (Correlation × List ℕ)) (k : ℕ) → item_at entries k ≡ Some item → (item.function ≡ link.below → ⊥) → Works s (HasPassed s link k) (HasMet s link k) entries entries false
-passed_by s link item entries k at other =
-    works_not s (HasPassed s link k) (HasMet s link k) entries (item, at, λ same. absurd (other same))
-    (λ found set there same. absurd (other (ap (λ (o : Option Correlation). option_map_or (λ (i : Correlation). i.function) o 0) (sym at ∙ item_at_known entries k found set there) ∙ same)))
+  abbrev pub RisesBelow : ℕ → List (Correlation × List ℕ) → List (Correlation × List ℕ) → Bool → Type 0
+  RisesBelow n old new changed = Works s (λ entries. (j : ℕ) → j < n → AreUpAt j entries) (λ entries. (j : ℕ) → j < n → AreMetAt j entries) old new changed
 
--- and one that it does
-pub passed_up : (s : Setting) (link : Link) (item : Correlation) (locks set : List ℕ) (old new : List (Correlation × List ℕ)) (k : ℕ) (changed : Bool) → slice_get old k ≡ Some (item, locks) → item.function ≡ link.below →
-    ((y : ℕ) → (has_id set y ≡ true) ↔ HasLockAbove s link item.child locks y) → Works s (AreAbove s link item) (AreAboveWithin s link item set) old new changed → Works s (HasPassed s link k) (HasMet s link k) old new changed
-passed_up s link item locks set old new k changed at same members works =
-    let here = item_at_known old k item locks at in
-    works_as s (AreAbove s link item) (HasPassed s link k) (AreAboveWithin s link item set) (HasMet s link k) old new changed
-    (λ passed.
-    let one : passed.0 ≡ item = ap (λ o. unwrap_or o item) (sym passed.1 ∙ here) in
-    subst (λ i. AreAbove s link i old) one (passed.2 (ap (λ (i : Correlation). i.function) one ∙ same)))
-    (λ above. (item, works.grows.places k item here, λ _. above))
-    (λ none within found its there _ x y carried lock.
-    let entry : (found, its) ≡ (item, locks) = ap (λ o. unwrap_or o (item, locks)) (sym there ∙ ap (λ e. slice_get e k) (works.same none) ∙ at) in
-    let first : found ≡ item = ap (λ e. e.0) entry in
-    let second : its ≡ locks = ap (λ e. e.1) entry in
-    let carried' : IsCarried s link item x = subst (λ i. IsCarried s link i x) first carried in
-    let lock' : has_lock new (above_of link item x) y ≡ true = subst (λ i. has_lock new (above_of link i x) y ≡ true) first lock in
-    subst (λ i. HasLockAbove s link i.child its y) (sym first) (subst (λ l. HasLockAbove s link item.child l y) (sym second) ((members y).0 (within x y carried' lock'))))
-    works
+  pub rises_none : (entries : List (Correlation × List ℕ)) → RisesBelow 0 entries entries false
+  rises_none entries =
+      works_not s (λ e. (j : ℕ) → j < 0 → AreUpAt j e) (λ e. (j : ℕ) → j < 0 → AreMetAt j e) entries (λ j below. absurd (omega arith)) (λ j below. absurd (omega arith))
+
+  pub rises_more : (j : ℕ) (link : Link) (old mid new : List (Correlation × List ℕ)) (b c : Bool) → slice_get links j ≡ Some link →
+      RisesBelow j old mid b → Works s (AreAbove s link item) (AreMet s link item locks) mid new c → RisesBelow (j + 1) old new (b || c)
+  rises_more j link old mid new b c at before works =
+      let one : (other : Link) → slice_get links j ≡ Some other → link ≡ other = λ other there. ap (λ o. unwrap_or o link) (sym at ∙ there) in
+      works_below s AreUpAt AreMetAt j old mid new b c
+      (λ i older newer grows up other there x carried. grows.kept (above_of other item x) (up other there x carried))
+      before
+      (works_as s (AreAbove s link item) (AreUpAt j) (AreMet s link item locks) (AreMetAt j) mid new c
+      (λ up. up link at)
+      (λ above other there. subst (λ l. AreAbove s l item new) (one other there) above)
+      (λ _ met other there. subst (λ l. AreMet s l item locks new) (one other there) met)
+      works)
 
 -- an item stays passed
 pub stays_passed : (s : Setting) (link : Link) (k : ℕ) (older newer : List (Correlation × List ℕ)) → Grows s older newer → HasPassed s link k older → HasPassed s link k newer
@@ -155,18 +161,28 @@ module _ (s : Setting) (links : List Link) (k : ℕ) where
   passes_none entries =
       works_not s (λ e. (j : ℕ) → j < 0 → PassesAt j e) (λ e. (j : ℕ) → j < 0 → MeetsAt j e) entries (λ j below. absurd (omega arith)) (λ j below. absurd (omega arith))
 
-  pub passes_more : (j : ℕ) (link : Link) (old mid new : List (Correlation × List ℕ)) (b c : Bool) → slice_get links j ≡ Some link →
-      PassesBelow j old mid b → Works s (HasPassed s link k) (HasMet s link k) mid new c → PassesBelow (j + 1) old new (b || c)
-  passes_more j link old mid new b c at before works =
-      let one : (other : Link) → slice_get links j ≡ Some other → link ≡ other = λ other there. ap (λ o. unwrap_or o link) (sym at ∙ there) in
-      works_below s PassesAt MeetsAt j old mid new b c
-      (λ i older newer grows passes other there. stays_passed s other k older newer grows (passes other there))
-      before
-      (works_as s (HasPassed s link k) (PassesAt j) (HasMet s link k) (MeetsAt j) mid new c
-      (λ passes. passes link at)
-      (λ passed other there. subst (λ l. HasPassed s l k new) (one other there) passed)
-      (λ _ met other there. subst (λ l. HasMet s l k new) (one other there) met)
-      works)
+  -- the item at the place has risen where it has with its locks
+  pub passes_up : (item : Correlation) (locks : List ℕ) (old new : List (Correlation × List ℕ)) (changed : Bool) → slice_get old k ≡ Some (item, locks) → ((link : Link) → Contains links link → item.function ≡ link.below) →
+      RisesBelow s links item locks (length links) old new changed → PassesBelow (length links) old new changed
+  passes_up item locks old new changed at into works =
+      let n : ℕ = length links in
+      let here = item_at_known old k item locks at in
+      works_as s (λ entries. (j : ℕ) → j < n → AreUpAt s links item locks j entries) (λ entries. (j : ℕ) → j < n → PassesAt j entries)
+      (λ entries. (j : ℕ) → j < n → AreMetAt s links item locks j entries) (λ entries. (j : ℕ) → j < n → MeetsAt j entries) old new changed
+      (λ passed j below link there.
+      let had = passed j below link there in
+      let one : had.0 ≡ item = ap (λ o. unwrap_or o item) (sym had.1 ∙ here) in
+      let contains : Contains links link = (j, below, get_or_from_slice_get links j link link there) in
+      subst (λ i. AreAbove s link i old) one (had.2 (ap (λ (i : Correlation). i.function) one ∙ into link contains)))
+      (λ up j below link there. (item, works.grows.places k item here, λ _. up j below link there))
+      (λ none met j below link place found its there _ x y carried lock.
+      let entry : (found, its) ≡ (item, locks) = ap (λ o. unwrap_or o (item, locks)) (sym there ∙ ap (λ e. slice_get e k) (works.same none) ∙ at) in
+      let first : found ≡ item = ap (λ e. e.0) entry in
+      let second : its ≡ locks = ap (λ e. e.1) entry in
+      let carried' : IsCarried s link item x = subst (λ i. IsCarried s link i x) first carried in
+      let lock' : has_lock new (above_of link item x) y ≡ true = subst (λ i. has_lock new (above_of link i x) y ≡ true) first lock in
+      subst (λ i. HasLockAbove s link i.child its y) (sym first) (subst (λ l. HasLockAbove s link item.child l y) (sym second) (met j below link place x y carried' lock')))
+      works
 
 -- the function of an item of a table is there
 pub item_within : (facts : FactTable) (n : ℕ) (entries : List (Correlation × List ℕ)) (k : ℕ) (item : Correlation) → AreInRange facts n entries → k < length entries → item_at entries k ≡ Some item → item.function < length facts.program.functions
@@ -212,24 +228,6 @@ module _ (s : Setting) (into : List (List Link)) (are : AreLinksInto (basis_of s
 -- an item stays passed by all
 pub stay_passed : (s : Setting) (into : List (List Link)) (k : ℕ) (older newer : List (Correlation × List ℕ)) → Grows s older newer → HasPassedAll s into k older → HasPassedAll s into k newer
 stay_passed s into k older newer grows all g link there = stays_passed s link k older newer grows (all g link there)
-
--- the locks with which an item rises: with those that the point keeps, where it is one of the thread itself
-module _ (s : Setting) (link : Link) (child : Bool) (locks risen : List ℕ) (lists : Lists (HaveRisen (flow_of s.facts.origins) link.way locks) risen) where
-  pub without_kept : (child || link.starts) ≡ true → (y : ℕ) → (has_id risen y ≡ true) ↔ HasLockAbove s link child locks y
-  without_kept is y = (
-    λ there. inl ((lists.members y).0 there),
-    λ either. ⊎_elim (λ from. (lists.members y).1 from) (λ kept. absurd (both_ways (child || link.starts) kept.0 is)) either,
-  )
-
-  pub with_kept : (kept all : List ℕ) → (child || link.starts) ≡ false → kept ≡ keep_of s.held link.point → IsSetOf (λ x. has_id risen x || has_id kept x) all →
-      (y : ℕ) → (has_id all y ≡ true) ↔ HasLockAbove s link child locks y
-  with_kept kept all is same both y = (
-    λ there.
-        ⊎_elim (λ here. inl ((lists.members y).0 here)) (λ here. inr (is, subst (λ ids. has_id ids y ≡ true) same here))
-        (or_cases (has_id risen y) (has_id kept y) (sym (both.members y) ∙ there)),
-    λ either.
-        both.members y ∙ ⊎_elim (λ from. or_left _ _ ((lists.members y).1 from)) (λ keeps. or_right (has_id risen y) _ (subst (λ ids. has_id ids y ≡ true) (sym same) keeps.1)) either,
-  )
 
 -- the first n items
 module _ (s : Setting) (into : List (List Link)) where

@@ -17,10 +17,10 @@ use Rattle.lk_rise.specs.Correlations.{is_same, item_of, set_of, has_item, has_l
 use Rattle.lk_rise.specs.Links.{AreLinksInto, links_into}
 use Rattle.lk_rise.specs.Rising.{Carries, AreRisen, subjects_below}
 use Rattle.lk_rise.specs.Rising.Risen.{based, risen}
-use Rattle.lk_rise.specs.Tables.{Setting, Offered, HasRisen, IsCarried, IsSound, Grows, HasPassedAll, HasMetAll, HasBased, above_of}
+use Rattle.lk_rise.specs.Tables.{Setting, Fits, Offered, HasRisen, IsCarried, IsSound, Grows, HasPassedAll, HasMetAll, HasBased, above_of}
 use Rattle.lk_rise.proofs.ItemLemmas.{same_item}
 use Rattle.lk_rise.proofs.TableLemmas.{item_at_known}
-use Rattle.lk_rise.proofs.WorkLemmas.{Fits, offered_works, offered_within}
+use Rattle.lk_rise.proofs.WorkLemmas.{offered_works, offered_within}
 use Rattle.lk_sets.specs.Ids.{has_id}
 
 -- a table of no items

@@ -7,7 +7,7 @@ use Rattle.lk_facts.specs.Items.{LockTest}
 use Rattle.lk_rise.specs.declared.correlations.Correlation.{Correlation}
 use Rattle.lk_rise.specs.Correlations.{is_same, set_of, has_item, has_lock, IsEntryInRange}
 use Rattle.lk_rise.specs.Rising.{subjects_below}
-use Rattle.lk_rise.specs.Tables.{Setting, Offered, Puts, HasRisen, IsAllowed, IsSound, Grows, Works, lock_in, item_at, weight}
+use Rattle.lk_rise.specs.Tables.{Setting, Fits, Offered, Puts, HasRisen, IsAllowed, IsSound, Grows, Works, lock_in, item_at, weight}
 use Rattle.lk_links.proofs.SetLemmas.{All-from_has_id, All-has_id}
 use Rattle.lk_rise.proofs.ItemLemmas.{same_item, same_itself}
 use Rattle.lk_rise.proofs.TableLemmas.{item_at-insert, All-insert, weight-insert, length-insert}
@@ -95,12 +95,6 @@ module _ (s : Setting) where
       (λ before here. below_more (λ k. Now k new) i before here)
       first second
 
-  -- an offer that each table of locks that the rules allow is within
-  pub record Fits (item : Correlation) (set : List ℕ) : Type 0 where
-    pub risen : HasRisen s item
-    pub locks : (other : LockTest) → IsAllowed s other → (y : ℕ) → lock_in other item y ≡ true → has_id set y ≡ true
-    pub in_range : IsEntryInRange s.facts (subjects_below s.facts s.subjects) (item, set)
-
   -- a table in which what is left was put
   module _ (old new : List (Correlation × List ℕ)) (item : Correlation) (set : List ℕ) (puts : Puts old new item set) where
     left_among : (y : ℕ) → has_id puts.left y ≡ true → (has_id set y ≡ true) × (option_map_or (λ had. has_id had y) (set_of old item) true ≡ true)
@@ -124,7 +118,7 @@ module _ (s : Setting) where
         known None present has = absurd (false≢true present)
         known (Some had) present has = has
 
-    put_range : Fits item set → IsEntryInRange s.facts (subjects_below s.facts s.subjects) (item, puts.left)
+    put_range : Fits s item set → IsEntryInRange s.facts (subjects_below s.facts s.subjects) (item, puts.left)
     put_range fits = record {
       function = fits.in_range.function;
       subject = fits.in_range.subject;
@@ -135,7 +129,7 @@ module _ (s : Setting) where
       };
     }
 
-    put_locks : Fits item set → (other : LockTest) → IsAllowed s other → IsSound s old → (z : Correlation) (y : ℕ) → has_item new z ≡ true → lock_in other z y ≡ true → has_lock new z y ≡ true
+    put_locks : Fits s item set → (other : LockTest) → IsAllowed s other → IsSound s old → (z : Correlation) (y : ℕ) → has_item new z ≡ true → lock_in other z y ≡ true → has_lock new z y ≡ true
     put_locks fits other allowed sound z y =
         by_item z (λ o. is_some o ≡ true → lock_in other z y ≡ true → option_map_or (λ had. has_id had y) o false ≡ true)
         (λ same present lock.
@@ -148,7 +142,7 @@ module _ (s : Setting) where
         known (Some had) is lock =
             subst (λ o. is_some o ≡ true → option_map_or (λ h. has_id h y) o false ≡ true) is (λ there. sound.locks other allowed item y there lock) refl
 
-    put_grows : Fits item set → Grows s old new
+    put_grows : Fits s item set → Grows s old new
     put_grows fits = record {
       places = λ i other at. subst (λ e. item_at e i ≡ Some other) (sym puts.is) (item_at-insert item puts.left old i other at);
       kept = λ other there. by_item other (λ o. is_some o ≡ true) (λ _. refl) there;
@@ -172,7 +166,7 @@ module _ (s : Setting) where
             omega (arith, sums, same, puts.is_left.lighter had is)
 
   -- an offer is a step
-  pub offered_works : (old new : List (Correlation × List ℕ)) (item : Correlation) (set : List ℕ) (changed : Bool) → Fits item set → Offered old new item set changed →
+  pub offered_works : (old new : List (Correlation × List ℕ)) (item : Correlation) (set : List ℕ) (changed : Bool) → Fits s item set → Offered old new item set changed →
       Works s (λ entries. has_item entries item ≡ true) (λ entries. (y : ℕ) → has_lock entries item y ≡ true → has_id set y ≡ true) old new changed
   offered_works old new item set true fits offered =
       let puts = offered.puts refl in

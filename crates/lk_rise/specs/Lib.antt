@@ -1,6 +1,10 @@
+pub mod Above
 pub mod Conflicts
 pub mod Correlations
+pub mod Groups
 pub mod Items
 pub mod Links
+pub mod Passing
+pub mod PointItems
 pub mod Rising
 pub mod Tables

@@ -1,18 +1,18 @@
 -- How a table of items grows and how its locks become fewer. Only the private calls of this crate speak of it.
-use Rattle.std.specs.Prelude.{◌≡◌, ℕ, ◌<◌, ◌&&◌, ◌||◌, ◌⊎◌, Bool, true, false, if◌then◌else◌, List, Option, Some, Contains, length, slice_get, sum_by}
+use Rattle.std.specs.Prelude.{◌≡◌, ℕ, ◌<◌, ◌&&◌, ◌||◌, Bool, true, false, if◌then◌else◌, List, Option, Some, Contains, length, slice_get, sum_by}
 use Rattle.std.specs.List.Sorted.{IsStrictlyIncreasing}
 use Rattle.std.specs.Map.{values_of}
 use Rattle.std.specs.Option.{option_map, option_map_or}
 use Rattle.indexmap.specs.IndexMap.{insert_entry}
 use Rattle.lk_facts.specs.Analysis.{held_table}
 use Rattle.lk_facts.specs.Facts.{FactTable, basis_of}
-use Rattle.lk_facts.specs.Flow.{RisesAs}
 use Rattle.lk_facts.specs.Items.{LockTest, Rises, HasLock}
 use Rattle.lk_facts.specs.LockSets.{LockSets, keep_of}
 use Rattle.lk_facts.specs.Origins.{flow_of, IsSetBelow}
 use Rattle.lk_facts.specs.declared.source.Source.TheVariants.{ItemBelow}
 use Rattle.lk_facts.specs.declared.way.Way.{Way}
-use Rattle.lk_rise.specs.Correlations.{item_of, is_same, set_of, has_item, has_lock, AreInRange}
+use Rattle.lk_rise.specs.Above.{HasRisenLock}
+use Rattle.lk_rise.specs.Correlations.{item_of, is_same, set_of, has_item, has_lock, AreInRange, IsEntryInRange}
 use Rattle.lk_rise.specs.Links.{links_into}
 use Rattle.lk_rise.specs.Rising.{Carries, Risen, subjects_below}
 use Rattle.lk_rise.specs.declared.correlations.Correlation.{Correlation}
@@ -112,10 +112,16 @@ module _ (s : Setting) where
     pub present : Present new
     pub done : changed ≡ false → Done new
 
+  -- an item that has risen, with locks among which are those of each table that the rules allow
+  pub record Fits (item : Correlation) (set : List ℕ) : Type 0 where
+    pub risen : HasRisen item
+    pub locks : (other : LockTest) → IsAllowed other → (y : ℕ) → lock_in other item y ≡ true → has_id set y ≡ true
+    pub in_range : IsEntryInRange s.facts (subjects_below s.facts s.subjects) (item, set)
+
   -- the locks with which an item below rises by the link
   abbrev pub HasLockAbove : Link → (child : Bool) → List ℕ → ℕ → Type 0
   HasLockAbove link child set y =
-      ((z : ℕ) × (has_id set z ≡ true) × RisesAs (flow_of s.facts.origins) link.way z y) ⊎ (((child || link.starts) ≡ false) × (has_id (keep_of s.held link.point) y ≡ true))
+      HasRisenLock (flow_of s.facts.origins) (keep_of s.held link.point) link.way (child || link.starts) set y
 
   -- the set may be met with the locks of each item above
   pub record IsOffer (link : Link) (item : Correlation) (set : List ℕ) : Type 0 where
@@ -133,6 +139,11 @@ module _ (s : Setting) where
   -- each item above has only locks of the set
   abbrev pub AreAboveWithin : Link → Correlation → List ℕ → List (Correlation × List ℕ) → Type 0
   AreAboveWithin link item set entries = (x y : ℕ) → IsCarried link item x → has_lock entries (above_of link item x) y ≡ true → has_id set y ≡ true
+
+  -- each item above has only the locks with which this one rises
+  abbrev pub AreMet : Link → Correlation → List ℕ → List (Correlation × List ℕ) → Type 0
+  AreMet link item locks entries =
+      (x y : ℕ) → IsCarried link item x → has_lock entries (above_of link item x) y ≡ true → HasLockAbove link item.child locks y
 
   -- the item at the place has risen by the link
   abbrev pub HasPassed : Link → ℕ → List (Correlation × List ℕ) → Type 0

@@ -86,6 +86,14 @@ impl Correlations {
         self.entry(i).1.ids()
     }
 
+    /// The set of the locks that are held at the item with this number.
+    pub(crate) fn set(&self, i: usize) -> &IdSet
+        requires { i < length self.now }
+        ensures { option_map (λ entry. entry.1) (slice_get self.now i) ≡ Some result.now }
+    {
+        self.entry(i).1
+    }
+
     /// The locks that are held at an item, in ascending order, or nothing where it isn't there.
     pub fn find(&self, item: Correlation) -> Option<&[u32]>
         ensures { option_copied result ≡ set_of self.now item }
@@ -99,7 +107,8 @@ impl Correlations {
     /// What is left of the locks of an item once they have met a set, or nothing where all are left. Of a new item
     /// all of the set is left.
     fn left(&self, alloc: Global, item: Correlation, set: &IdSet) -> Result<Option<IdSet>, NoMemory>
-        ensures { IfOk result (λ found. MatchOption found (IsWithin self.now item set.now) (IsLeft self.now item set.now)) }
+        ensures { IfOk result (λ found.
+            MatchOption found (IsWithin self.now item set.now) (IsLeft self.now item set.now)) }
     {
         match self.entries.get(&item) {
             None => {

@@ -1,16 +1,20 @@
 //! How items rise.
-ghost use Rattle.std.specs.Prelude.{◌≡◌, ◌<◌, ◌↔◌, ℕ, true, length, slice_get, Some, All, Contains, IfOk, OnOk};
+ghost use Rattle.std.specs.Prelude.{◌≡◌, ◌<◌, ◌||◌, ◌↔◌, ℕ, true, length, slice_get, Some, All, Contains, IfOk, OnOk, IsTrue};
 ghost use Rattle.lk_facts.specs.Facts.{basis_of};
 ghost use Rattle.lk_facts.specs.Lists.{Lists};
-ghost use Rattle.lk_facts.specs.Origins.{flow_of, IsSetBelow};
+ghost use Rattle.lk_facts.specs.Origins.{flow_of};
+ghost use Rattle.lk_facts.specs.declared.way.Way.{Way};
 ghost use Rattle.lk_links.specs.Links.{IsLink};
 ghost use Rattle.lk_links.specs.declared.link.Link.{Link};
-ghost use Rattle.lk_rise.specs.Links.{AreLinksInto};
-ghost use Rattle.lk_rise.specs.Rising.{Carries, subjects_below};
 ghost use Rattle.lk_rise.specs.Correlations.{AreInRange};
-ghost use Rattle.lk_rise.specs.Tables.{above_of, setting, HasLockAbove, IsOffer, IsSound, Works, Grows, AreAbove, AreAboveWithin, HasPassed, HasMet, HasPassedAll, HasMetAll, HasBased};
-ghost use Rattle.lk_sets.specs.Ids.{has_id};
+ghost use Rattle.lk_rise.specs.Links.{AreLinksInto};
+ghost use Rattle.lk_rise.specs.Passing.{IsPassage, IsUpBy};
+ghost use Rattle.lk_rise.specs.Rising.{Carries, subjects_below};
+ghost use Rattle.lk_rise.specs.Tables.{Fits, IsSound, Works, Grows, HasBased, above_of, item_at, setting};
+ghost use Rattle.lk_rise.specs.Tables.{AreAbove, AreAboveWithin, IsOffer, AreMet};
+ghost use Rattle.lk_rise.specs.Tables.{HasPassed, HasMet, HasPassedAll, HasMetAll};
 
+use crate::above::with_kept;
 use crate::correlations::{Correlation, Correlations};
 use crate::rising::{Rising, Subjects};
 use lk_base::{NoMemory, Seq};
@@ -19,15 +23,47 @@ use lk_links::{Link, outside, risen};
 use lk_sets::IdSet;
 use std::alloc::Global;
 
+/// An item with its locks, and what both are above by a way into its function.
+#[derive(Drop)]
+pub(crate) struct Passage {
+    /// The item.
+    pub item: Correlation,
+    /// Its locks.
+    pub locks: IdSet,
+    /// The way.
+    pub way: Way,
+    /// What the item's subject is above.
+    pub subjects: IdSet,
+    /// The locks with which it rises.
+    pub risen: IdSet,
+}
+
+/// Whether two ways are the same.
+fn are_same(a: Way, b: Way) -> bool
+    ensures { IsTrue result ↔ (a ≡ b) }
+{
+    a == b
+}
+
+/// Whether the item above is a child's, for an item below.
+fn is_child_above(link: Link, item: Correlation) -> bool
+    ensures { result ≡ (item.child || link.starts) }
+{
+    item.child || link.starts
+}
+
 /// The item above, for an item below and what its subject is above.
 fn above(link: Link, item: Correlation, subject: u32) -> Correlation
     ensures { result ≡ above_of link item subject }
 {
+    let function = link.above;
+    let child = is_child_above(link, item);
+    let access = item.access;
     Correlation {
-        function: link.above,
-        child: item.child || link.starts,
+        function,
+        child,
         subject,
-        access: item.access,
+        access,
     }
 }
 
@@ -35,8 +71,9 @@ impl Rising<'_> {
     /// What a subject below is above, by a way into its function.
     fn carried(&self, alloc: Global, way: &Way, subject: u32) -> Result<IdSet, NoMemory>
         requires { subject < subjects_below self.now.facts.now self.now.subjects }
-        ensures exact { IfOk result (Lists (Carries (flow_of self.now.facts.now.origins) self.now.subjects way.now subject)) }
-        ensures in_range { IfOk result (λ ids. All (λ x. x < subjects_below self.now.facts.now self.now.subjects) ids) }
+        ensures exact { IfOk result
+            (Lists (Carries (flow_of self.now.facts.now.origins) self.now.subjects way.now subject)) }
+        ensures in_range { IfOk result (All (λ x. x < subjects_below self.now.facts.now self.now.subjects)) }
     {
         match self.subjects {
             Subjects::AsTheyAre => {
@@ -50,26 +87,60 @@ impl Rising<'_> {
         }
     }
 
-    /// The locks with which an item with these locks rises by a link. An item of the thread itself has those too that
-    /// the point keeps while it runs the function.
-    fn risen(
+    /// What an item with these locks is above by a way into its function.
+    fn passage(
         &self,
         alloc: Global,
-        link: &Link,
-        child: bool,
-        locks: &[u32],
-    ) -> Result<IdSet, NoMemory>
-        requires point { link.now.point < length self.now.facts.now.program.points }
-        requires locks { IsSetBelow (length self.now.facts.now.labels.entries) locks.now }
-        ensures members { IfOk result (λ set. (y : ℕ) → (has_id set y ≡ true) ↔ HasLockAbove (setting self.now) link.now child locks.now y) }
-        ensures in_range { IfOk result (IsSetBelow (length self.now.facts.now.labels.entries)) }
+        item: Correlation,
+        locks: IdSet,
+        way: Way,
+    ) -> Result<Passage, NoMemory>
+        requires { Fits (setting self.now) item locks }
+        ensures { IfOk result (IsUpBy (setting self.now) item locks way) }
     {
-        let risen = risen(alloc, self.facts, &link.way, locks)?;
-        if child || link.starts {
-            return Ok(risen);
+        let subjects = self.carried(alloc, &way, item.subject)?;
+        let risen = risen(alloc, self.facts, &way, locks.ids())?;
+        Ok(Passage {
+            item,
+            locks,
+            way,
+            subjects,
+            risen,
+        })
+    }
+
+    /// Turns what an item is above by one way into what it is by another.
+    fn turn(&self, alloc: Global, passage: &mut Passage, way: Way) -> Result<(), NoMemory>
+        requires { IsPassage (setting self.now) passage.old }
+        ensures { OnOk result (IsUpBy (setting self.now) passage.old.item passage.old.locks way passage.new) }
+    {
+        if are_same(passage.way, way) {
+            return Ok(());
         }
-        let all = risen.union(self.held.keep(link.point))?;
-        Ok(all)
+        passage.subjects = self.carried(alloc, &way, passage.item.subject)?;
+        passage.risen = risen(alloc, self.facts, &way, passage.locks.ids())?;
+        passage.way = way;
+        Ok(())
+    }
+
+    /// What the item with this number is above by a way into its function.
+    fn passage_of(
+        &self,
+        alloc: Global,
+        k: usize,
+        way: Way,
+        table: &Correlations,
+    ) -> Result<Passage, NoMemory>
+        requires k { k < length table.now }
+        requires sound { IsSound (setting self.now) table.now }
+        ensures { IfOk result (λ passage. (slice_get table.now k ≡ Some (passage.item, passage.locks))
+            × IsUpBy (setting self.now) passage.item passage.locks way passage) }
+    {
+        prove!(k < table.count());
+        let item = table.item(k);
+        let locks = table.set(k).copy()?;
+        let passage = self.passage(alloc, item, locks, way)?;
+        Ok(passage)
     }
 
     /// Offers the set to the items above an item, and answers whether something changed.
@@ -77,47 +148,73 @@ impl Rising<'_> {
         &self,
         alloc: Global,
         link: &Link,
-        item: &Correlation,
+        passage: &Passage,
         set: &IdSet,
         table: &mut Correlations,
     ) -> Result<bool, NoMemory>
-        requires { IsOffer (setting self.now) link.now item.now set.now }
+        requires passage { IsPassage (setting self.now) passage.now }
+        requires way { passage.now.way ≡ link.now.way }
+        requires offer { IsOffer (setting self.now) link.now passage.now.item set.now }
         ensures { IfOk result (Works (setting self.now)
-            (AreAbove (setting self.now) link.now item.now)
-            (AreAboveWithin (setting self.now) link.now item.now set.now)
+            (AreAbove (setting self.now) link.now passage.now.item)
+            (AreAboveWithin (setting self.now) link.now passage.now.item set.now)
             table.old table.new) }
     {
-        let subjects = self.carried(alloc, &link.way, item.subject)?;
         let mut changed = false;
-        for subject in subjects.ids() {
-            changed |= table.offer(alloc, above(*link, *item, *subject), set)?;
+        for subject in passage.subjects.ids() {
+            changed |= table.offer(alloc, above(*link, passage.item, *subject), set)?;
         }
         Ok(changed)
     }
 
-    /// Lets the item with this number rise by a link, and answers whether something changed.
+    /// Lets an item rise by a link, and answers whether something changed.
     fn pass_link(
         &self,
         alloc: Global,
         link: &Link,
-        k: usize,
+        passage: &Passage,
         table: &mut Correlations,
     ) -> Result<bool, NoMemory>
         requires link { IsLink (basis_of self.now.facts.now) link.now.point link.now }
-        requires k { k < length table.old }
-        requires sound { IsSound (setting self.now) table.old }
+        requires below { passage.now.item.function ≡ link.now.below }
+        requires way { passage.now.way ≡ link.now.way }
+        requires passage { IsPassage (setting self.now) passage.now }
         ensures { IfOk result (Works (setting self.now)
-            (HasPassed (setting self.now) link.now k)
-            (HasMet (setting self.now) link.now k)
+            (AreAbove (setting self.now) link.now passage.now.item)
+            (AreMet (setting self.now) link.now passage.now.item passage.now.locks)
             table.old table.new) }
     {
-        prove!(k < table.count());
-        let item = table.item(k);
-        if item.function != link.below {
-            return Ok(false);
+        let child = is_child_above(*link, passage.item);
+        let set = with_kept(self.held, link.point, child, &passage.risen)?;
+        let changed = self.offer_above(alloc, link, passage, &set, table)?;
+        Ok(changed)
+    }
+
+    /// Lets an item rise by each of the links, and answers whether something changed.
+    fn pass_each_link(
+        &self,
+        alloc: Global,
+        links: &[Link],
+        mut passage: Passage,
+        table: &mut Correlations,
+    ) -> Result<bool, NoMemory>
+        requires links { (link : Link) → Contains links.now link →
+            IsLink (basis_of self.now.facts.now) link.point link }
+        requires below { (link : Link) → Contains links.now link → passage.item.function ≡ link.below }
+        requires passage { IsPassage (setting self.now) passage }
+        ensures { IfOk result (Works (setting self.now)
+            (λ entries. (j : ℕ) → j < length links.now → (link : Link) → slice_get links.now j ≡ Some link →
+            AreAbove (setting self.now) link passage.item entries)
+            (λ entries. (j : ℕ) → j < length links.now → (link : Link) → slice_get links.now j ≡ Some link →
+            AreMet (setting self.now) link passage.item passage.locks entries)
+            table.old table.new) }
+    {
+        let mut changed = false;
+        for link in links {
+            self.turn(alloc, &mut passage, link.way)?;
+            changed |= self.pass_link(alloc, link, &passage, table)?;
         }
-        let set = self.risen(alloc, link, item.child, table.locks(k))?;
-        self.offer_above(alloc, link, &item, &set, table)
+        Ok(changed)
     }
 
     /// Lets the item with this number rise by each of the links, and answers whether something changed.
@@ -128,18 +225,24 @@ impl Rising<'_> {
         k: usize,
         table: &mut Correlations,
     ) -> Result<bool, NoMemory>
-        requires links { (link : Link) → Contains links.now link → IsLink (basis_of self.now.facts.now) link.point link }
+        requires links { (link : Link) → Contains links.now link →
+            IsLink (basis_of self.now.facts.now) link.point link }
+        requires below { (link : Link) → Contains links.now link → (item : Correlation) →
+            item_at table.old k ≡ Some item → item.function ≡ link.below }
         requires k { k < length table.old }
         requires sound { IsSound (setting self.now) table.old }
         ensures { IfOk result (Works (setting self.now)
-            (λ entries. (j : ℕ) → j < length links.now → (link : Link) → slice_get links.now j ≡ Some link → HasPassed (setting self.now) link k entries)
-            (λ entries. (j : ℕ) → j < length links.now → (link : Link) → slice_get links.now j ≡ Some link → HasMet (setting self.now) link k entries)
+            (λ entries. (j : ℕ) → j < length links.now → (link : Link) → slice_get links.now j ≡ Some link →
+            HasPassed (setting self.now) link k entries)
+            (λ entries. (j : ℕ) → j < length links.now → (link : Link) → slice_get links.now j ≡ Some link →
+            HasMet (setting self.now) link k entries)
             table.old table.new) }
     {
-        let mut changed = false;
-        for link in links {
-            changed |= self.pass_link(alloc, link, k, table)?;
-        }
+        let Some(first) = links.first() else {
+            return Ok(false);
+        };
+        let passage = self.passage_of(alloc, k, first.way, table)?;
+        let changed = self.pass_each_link(alloc, links, passage, table)?;
         Ok(changed)
     }
 
@@ -199,7 +302,8 @@ impl Rising<'_> {
         requires into { AreLinksInto (basis_of self.now.facts.now) into.now }
         requires sound { IsSound (setting self.now) table.old }
         ensures grows { OnOk result (Grows (setting self.now) table.old table.new) }
-        ensures passed { OnOk result ((k : ℕ) → k < length table.new → HasPassedAll (setting self.now) into.now k table.new) }
+        ensures passed { OnOk result ((k : ℕ) → k < length table.new →
+            HasPassedAll (setting self.now) into.now k table.new) }
     {
         for k in 0..usize::MAX {
             if k >= table.count() {
@@ -212,9 +316,11 @@ impl Rising<'_> {
 
     /// Offers the given items to the table.
     pub(crate) fn put_base(&self, alloc: Global, table: &mut Correlations) -> Result<(), NoMemory>
-        requires { AreInRange self.now.facts.now (subjects_below self.now.facts.now self.now.subjects) self.now.base.now }
+        requires { AreInRange self.now.facts.now
+            (subjects_below self.now.facts.now self.now.subjects) self.now.base.now }
         ensures grows { OnOk result (Grows (setting self.now) table.old table.new) }
-        ensures based { OnOk result ((i : ℕ) → i < length self.now.base.now → HasBased (setting self.now) i table.new) }
+        ensures based { OnOk result ((i : ℕ) → i < length self.now.base.now →
+            HasBased (setting self.now) i table.new) }
     {
         for entry in self.base {
             table.offer(alloc, entry.0, &entry.1)?;

@@ -46,7 +46,8 @@ fn are_below(ids: &[u32], count: u32) -> bool
 /// Whether the numbers of an item are in range.
 fn item_fits(item: Correlation, points: &Points, subjects: u32) -> bool
     ensures { IsTrue result
-        ↔ ((item.function < length points.now.functions) × (item.subject < subjects) × (item.access < length points.now.points)) }
+        ↔ ((item.function < length points.now.functions) × (item.subject < subjects)
+        × (item.access < length points.now.points)) }
 {
     item.function < points.functions() && item.subject < subjects && item.access < points.count()
 }
@@ -102,7 +103,8 @@ pub fn rise(
     requires held_labels { held.now.labels ≡ length facts.now.labels.entries }
     requires links { AreLinks (basis_of facts.now) links.now }
     requires based { AreInRange facts.now (subjects_below facts.now subjects) based.now }
-    ensures risen { IfOk result (AreRisen (basis_of facts.now) (Carries (flow_of facts.now.origins) subjects) based.now (held_table held.now)) }
+    ensures risen { IfOk result (AreRisen (basis_of facts.now)
+        (Carries (flow_of facts.now.origins) subjects) based.now (held_table held.now)) }
     ensures in_range { IfOk result (AreInRange facts.now (subjects_below facts.now subjects)) }
 {
     let into = links_into(alloc, facts, links)?;

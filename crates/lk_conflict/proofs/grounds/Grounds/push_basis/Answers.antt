@@ -7,7 +7,7 @@ use Rattle.lk_conflict.proofs.grounds.Grounds.push_basis.Goals as goal
 pub returns : goal.returns
 returns c =
     let self = c.args.self.now in
-    adds_one self.facts.now (setting self)
+    adds_one self.items.now.facts (setting self)
     c.args.function c.args.location c.args.item.now (item_of c.args.function c.args.item.now.child c.args.location c.args.item.now.access, c.in_ok-locks.locks) c.args.based.now.items c.push.new.self.items
     (record {
       item = refl;

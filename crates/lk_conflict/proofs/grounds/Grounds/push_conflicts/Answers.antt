@@ -1,36 +1,27 @@
-use Rattle.lk_conflict.specs.Settings.{setting}
-use Rattle.std.proofs.Common.{◌≡◌, ◌<◌, ◌+◌, ◌∙◌, ℕ, arith, inl, inr, ap}
-use Rattle.std.proofs.lemmas.Bool.{cases_eq}
-use Rattle.lk_facts.specs.declared.program.Program.{Program}
+use Rattle.std.proofs.Common.{◌≡◌, ◌↔◌, ◌∙◌, false, Contains, All, sym, subst}
+use Rattle.std.specs.List.{list_any}
+use Rattle.lk_facts.specs.Facts.{basis_of}
+use Rattle.lk_rise.specs.Correlations.{has_of}
+use Rattle.lk_rise.specs.PointItems.{IsItemInRange, IsItemOf}
+use Rattle.lk_rise.specs.declared.point_items.ItemAt.{ItemAt}
 use Rattle.lk_conflict.specs.Bases.{IsInConflict}
-use Rattle.lk_conflict.specs.declared.item_at.ItemAt.{ItemAt}
-use Rattle.lk_conflict.proofs.BasisLemmas.{adds_as, adds_more}
+use Rattle.lk_conflict.specs.Settings.{setting}
+use Rattle.lk_conflict.proofs.BasisLemmas.{adds_none, none_meet}
 use Rattle.lk_conflict.proofs.grounds.Grounds.push_conflicts.Goals as goal
 
-pub loop-location-preserved : goal.loop-location-preserved
-loop-location-preserved c =
+pub returns-then-not-has_child : goal.returns-then-not-has_child
+returns-then-not-has_child c =
     let self = c.args.self.now in
-    let Conflict : ℕ → ℕ → ItemAt → Type 0 = IsInConflict self.facts.now (setting self) in
-    let n : ℕ = c.loop-location.location in
-    adds_more self.facts.now (setting self)
-    (λ f o i. (f ≡ c.args.function) × (o < n) × Conflict f o i) (λ f o i. (f ≡ c.args.function) × (o ≡ n) × Conflict f o i) (λ f o i. (f ≡ c.args.function) × (o < n + 1) × Conflict f o i)
-    c.args.based.now.items c.loop-location.based.items c.push_at_location.new.based.items c.loop-location.invariant c.in_ok-push_at_location.ensures
-    (λ f o i holds.
-    elim (cases_eq o n) [
-      | inl same ↦ inr (holds.0, same, holds.2)
-      | inr other ↦ inl (holds.0, omega (arith, holds.1, other), holds.2)
-    ])
-    (λ f o i holds. (holds.0, omega (arith, holds.1), holds.2))
-    (λ f o i holds. (holds.0, omega (arith, holds.1), holds.2))
+    let facts = self.items.now.facts in
+    let list = c.in_ok-items.items.items in
+    let none : list_any (λ (i : ItemAt). i.child) list ≡ false = subst (λ xs. list_any (λ (i : ItemAt). i.child) xs ≡ false) c.deref.ensures.value (sym c.has_child.ensures ∙ c.if-not-has_child.true) in
+    adds_none facts (setting self) _ _
+    (λ f o i holds. none_meet facts (setting self) c.args.function o i list c.in_ok-items.ensures.members none (subst (λ g. IsInConflict facts (setting self) g o i) holds.0 holds.1))
 
-pub returns : goal.returns
-returns c =
+pub push_at_locations-requires-clause-in_range : goal.push_at_locations-requires-clause-in_range
+push_at_locations-requires-clause-in_range c = subst (All (IsItemInRange c.args.self.now.items.now.facts)) (sym c.deref-2.ensures.value) c.in_ok-items.ensures.in_range
+
+pub push_at_locations-requires-clause-items : goal.push_at_locations-requires-clause-items
+push_at_locations-requires-clause-items c = λ i.
     let self = c.args.self.now in
-    let Conflict : ℕ → ℕ → ItemAt → Type 0 = IsInConflict self.facts.now (setting self) in
-    let n : ℕ = c.loop-location.location in
-    let count : c.locations-locations.result ≡ self.facts.now.program.locations = c.locations-locations.ensures.value ∙ ap (λ (q : Program). q.locations) c.points.ensures.value in
-    adds_as self.facts.now (setting self)
-    (λ f o i. (f ≡ c.args.function) × (o < n) × Conflict f o i) (λ f o i. (f ≡ c.args.function) × Conflict f o i)
-    c.args.based.now.items c.loop-location.based.items c.loop-location.invariant
-    (λ f o i holds. (holds.0, holds.2))
-    (λ f o i holds. (holds.0, omega (arith, holds.1.location, count, c.loop-location-test.false), holds.1))
+    subst (λ xs. Contains xs i ↔ IsItemOf (basis_of self.items.now.facts) (has_of self.items.now.entries) c.args.function i) (sym c.deref-2.ensures.value) (c.in_ok-items.ensures.members i)

@@ -1,6 +1,7 @@
 use Rattle.std.proofs.Common.{◌≡◌, take}
-use Rattle.lk_conflict.specs.Listing.{accesses_in}
+use Rattle.std.specs.List.{flat_map}
+use Rattle.lk_conflict.specs.Listing.{access_at}
 use Rattle.lk_conflict.proofs.places.Races.accesses.Given as goal
 
-abbrev pub invariant-loop-i : goal.invariant-loop-i
-invariant-loop-i l = l.accesses.items ≡ accesses_in l.main l.location (take l.i l.self.items.now)
+abbrev pub invariant-loop-number : goal.invariant-loop-number
+invariant-loop-number l = l.accesses.items ≡ flat_map (access_at l.main l.self.items.now) (take l.number-index l.number-items)

@@ -1,6 +1,0 @@
-use Rattle.std.proofs.Common.{◌≡◌, ◌++◌, map, take}
-use Rattle.lk_conflict.specs.Listing.{risen_item_of}
-use Rattle.lk_conflict.proofs.grounds.Grounds.push_risen.Given as goal
-
-abbrev pub invariant-loop-subject : goal.invariant-loop-subject
-invariant-loop-subject l = l.found.items ≡ l.initial.found.items ++ map (risen_item_of l.fn.link l.fn.item) (take l.subject-index l.subject-items)

@@ -1,6 +1,0 @@
-use Rattle.lk_rise.specs.Tables.{setting}
-use Rattle.lk_rise.proofs.PassLemmas.{PassesBelow}
-use Rattle.lk_rise.proofs.rising.Rising.pass_links.Given as goal
-
-abbrev pub invariant-loop-link : goal.invariant-loop-link
-invariant-loop-link l = PassesBelow (setting l.self) l.links l.k l.link-index l.initial.table l.table l.changed
