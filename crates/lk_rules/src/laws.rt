@@ -1,0 +1,7 @@
+//! Laws of the rules of C.
+ghost use Rattle.lk_rules.specs.Laws.{ExpressionsFollowTheirRules};
+
+/// What is found of an expression is what the rule of its form says of its parts.
+pub fn expressions_follow_their_rules()
+    ensures { ExpressionsFollowTheirRules }
+{}

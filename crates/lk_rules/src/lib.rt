@@ -1,0 +1,6 @@
+//! Laws of the rules of C.
+#![tactic(auto)]
+
+mod laws;
+
+pub use laws::expressions_follow_their_rules;
