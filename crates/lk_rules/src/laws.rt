@@ -1,7 +1,12 @@
 //! Laws of the rules of C.
-ghost use Rattle.lk_rules.specs.Laws.{ExpressionsFollowTheirRules};
+ghost use Rattle.lk_rules.specs.Laws.{ExpressionsFollowTheirRules, FaultsAreListed};
 
 /// What is found of an expression is what the rule of its form says of its parts.
 pub fn expressions_follow_their_rules()
     ensures { ExpressionsFollowTheirRules }
+{}
+
+/// The list of the faults of what stands in a node has these, and no others.
+pub fn faults_are_listed()
+    ensures { FaultsAreListed }
 {}
