@@ -1,16 +1,17 @@
 -- What the fold over expressions finds, node by node. Each law is the contract of a function.
-use Rattle.std.specs.Prelude.{ℕ, ◌≡◌, ◌↔◌, List}
+use Rattle.std.specs.Prelude.{ℕ, ◌≡◌, ◌↔◌, ◌++◌, Option, None, List, [], MatchOption}
 use Rattle.lk_tree.specs.declared.expression.Expr.{Expr}
 use Rattle.lk_tree.specs.declared.expression.ExprForm.{out-ExprForm}
 use Rattle.lk_typed.specs.Env.{Env}
 use Rattle.lk_typed.specs.ExprRules.{judged}
 use Rattle.lk_tree.specs.declared.expression.TypeName.{TypeName}
 use Rattle.lk_typed.specs.Expressions.{expression, named, type_found}
-use Rattle.lk_typed.specs.Faults.{Breach, Fault}
+use Rattle.lk_typed.specs.Faults.{Breach, Fault, IsLeast}
 use Rattle.lk_typed.specs.Nodes.{Node, Placed}
 use Rattle.lk_typed.specs.Stands.{IsIn, IsFault, Mark}
 use Rattle.lk_typed.specs.Typing.{Named}
 use Rattle.lk_rules.specs.FaultLists.{IsWithin, faults_in}
+use Rattle.lk_rules.specs.FirstFaults.{least_of}
 
 -- what is found of a type name
 abbrev pub name_found : TypeName → Env → Named
@@ -27,3 +28,11 @@ FaultsAreListed =
     ((env : Env) (node : Node) (part : Placed) → IsIn part (hiding env node) → IsIn part (parts env node)) →
     (n : ℕ) (env : Env) (node : Node) → IsWithin parts breaches hiding mark n env node →
     (f : Fault) → IsFault parts breaches hiding mark env node f ↔ IsIn f (faults_in parts breaches hiding mark n env node)
+
+-- the fold that keeps the least fault so far ends at a first fault of the list, and at none where the list is empty
+abbrev pub LeastIsFirst : Type 0
+LeastIsFirst = (fs : List Fault) → MatchOption (least_of None fs) (fs ≡ []) (λ f. IsLeast (λ g. IsIn g fs) f)
+
+-- it goes through two lists one after the other
+abbrev pub LeastOfBoth : Type 0
+LeastOfBoth = (least : Option Fault) (fs gs : List Fault) → least_of least (fs ++ gs) ≡ least_of (least_of least fs) gs

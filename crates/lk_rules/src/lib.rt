@@ -3,4 +3,4 @@
 
 mod laws;
 
-pub use laws::{expressions_follow_their_rules, faults_are_listed};
+pub use laws::{expressions_follow_their_rules, faults_are_listed, least_is_first, least_of_both};
