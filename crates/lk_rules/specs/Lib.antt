@@ -1,0 +1,3 @@
+pub mod FaultLists
+pub mod FirstFaults
+pub mod Laws

@@ -1,0 +1,6 @@
+//! Laws of the rules of C.
+#![tactic(auto)]
+
+mod laws;
+
+pub use laws::{expressions_follow_their_rules, faults_are_listed, least_is_first, least_of_both};
