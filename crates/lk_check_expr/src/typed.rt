@@ -11,7 +11,7 @@ use lk_typed::Constant;
 use lk_types::TypeId;
 
 /// The type of an expression. A pointer that arises in an expression need not be in the table.
-#[derive(Clone, Copy, Debug, PartialEq, Eq)]
+#[derive(Clone, Copy, PartialEq)]
 pub enum ExprType {
     /// A type of the table.
     Listed(TypeId),
@@ -20,7 +20,7 @@ pub enum ExprType {
 }
 
 /// What is known of an expression that has a type.
-#[derive(Clone, Copy, Debug, PartialEq, Eq)]
+#[derive(Clone, Copy, PartialEq)]
 pub struct Typed {
     /// Its type.
     pub ty: ExprType,

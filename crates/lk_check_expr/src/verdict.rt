@@ -4,7 +4,7 @@ use crate::typed::Typed;
 use lk_base::Code;
 
 /// What a rule says of a node.
-#[derive(Clone, Copy, Debug, PartialEq, Eq)]
+#[derive(Clone, Copy, PartialEq)]
 pub enum Verdict {
     /// No fault holds there, and this is its typing.
     Typed(Typed),

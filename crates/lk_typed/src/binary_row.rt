@@ -3,7 +3,7 @@
 use lk_arith::Op;
 
 /// A row of the table of the operators between two operands: which operands it takes (C99 6.5.5 to 6.5.14).
-#[derive(Clone, Copy, Debug, PartialEq, Eq)]
+#[derive(Clone, Copy)]
 pub enum BinaryRow {
     /// `&&` or `||`, with the truth value of its first operand that decides (C99 6.5.13, 6.5.14).
     Logical(bool),

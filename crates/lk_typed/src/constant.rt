@@ -1,7 +1,7 @@
 //! Integer constant expressions.
 
 /// What an expression is as an integer constant expression (C99 6.6, 6).
-#[derive(Clone, Copy, Debug, PartialEq, Eq)]
+#[derive(Clone, Copy, PartialEq)]
 pub enum Constant {
     /// It is none.
     NotConstant,
