@@ -1,5 +1,6 @@
 -- The readers of statements and units read each of them, of whatever depth.
-use Rattle.std.proofs.Common.{◌≡◌, ℕ, zero, suc, ◌+◌, ◌≤◌, min, max, Bool, true, false, List, [], Option, refl, arith}
+use Rattle.std.proofs.Common.{◌≡◌, ℕ, zero, suc, ◌+◌, ◌<◌, ◌≤◌, ◌==◌, min, max, Bool, true, false, not, ◌&&◌, List, [], Option, Ok, refl, arith}
+use Rattle.std.proofs.lemmas.Bool.Decides.{nat_tests}
 use Rattle.lk_lex.specs.declared.token.TokenKind.{TokenKind}
 use Rattle.lk_lex.specs.declared.token.TokenKind.TheVariants as k
 use Rattle.lk_lex.specs.declared.punct.Punct.{Punct}
@@ -10,8 +11,10 @@ use Rattle.lk_tree.specs.declared.expression.Expr.{Expr}
 use Rattle.lk_tree.specs.declared.expression.Specifier.{Specifier}
 use Rattle.lk_tree.specs.declared.expression.Declarator.{Declarator}
 use Rattle.lk_tree.specs.declared.statement.Stmt.{Stmt}
+use Rattle.lk_tree.specs.declared.statement.StmtForm.{StmtForm}
 use Rattle.lk_tree.specs.declared.statement.StmtForm.TheVariants as s
 use Rattle.lk_tree.specs.declared.statement.BlockItem.{BlockItem}
+use Rattle.lk_tree.specs.declared.statement.BlockItem.TheVariants as item
 use Rattle.lk_tree.specs.declared.statement.ForFirst.{ForFirst}
 use Rattle.lk_tree.specs.declared.statement.Decl.{Decl}
 use Rattle.lk_tree.specs.declared.statement.Decl.TheVariants as decl
@@ -19,12 +22,13 @@ use Rattle.lk_parse_expr.specs.Grammar.{ReadsExpr, ReadsSpecifiers, ReadsDeclara
 use Rattle.lk_parse_expr.specs.declared.found.Found.{Found}
 use Rattle.lk_parse_expr.specs.declared.naming.Head.TheVariants as head
 use Rattle.lk_parse_expr.specs.Input.{Input, Names, peek, here, next, declare, leave, with_names}
+use Rattle.lk_parse_expr.specs.Words.{is_word, begins_specifiers}
 use Rattle.lk_parse_expr.specs.Front.{start_of, is_start}
-use Rattle.lk_parse_expr.specs.Readers.{same_punct, same_keyword, Parser, ◌>>◌, exhausted, expect_key, is_key, sees, sees_key}
+use Rattle.lk_parse_expr.specs.Readers.{same_punct, same_keyword, Outcome, Parser, and_then, found, ◌>>◌, exhausted, expect_key, is_key, sees, sees_key}
 use Rattle.lk_parse_expr.specs.Statements as g
 use Rattle.lk_parse_expr.specs.Statements.{ReadsOptional, ReadsCondition, ReadsForFirst, ReadsStmt, ReadsScope, ReadsBlockItems, ReadsBlockItem, ReadsDecl, ReadsUnit, is_else, is_colon, begins_declaration, stmt_at}
 use Rattle.lk_parse_expr.specs.Reading.{readers}
-use Rattle.lk_parse_expr.proofs.Steps.{Answers, fits, deep, as_same, as_deep, and_so, around, needs, expects, reads_word, sees-same, sees_key-same}
+use Rattle.lk_parse_expr.proofs.Steps.{Answers, fits, deep, as_same, as_deep, and_so, around, needs, expects, reads_word, word-same, sees-same, sees_key-same}
 use Rattle.lk_parse_expr.proofs.Tables.{IsEnd, stops_end, paren, colon, semicolon}
 use Rattle.lk_parse_expr.proofs.Firsts.{positive, starts, unseen}
 use Rattle.lk_parse_expr.proofs.Lists.{Run, run_none, run_more, Members, repeat_read}
@@ -35,7 +39,9 @@ use Rattle.lk_parse_expr.proofs.Complete.{complete}
 use Rattle.lk_parse_decl.proofs.Complete.{declarations, first_of_list, semicolon_no_declarator}
 use Rattle.lk_parse_expr.specs.declared.naming.Naming.TheVariants as naming
 use Rattle.lk_parse_expr.specs.Declarations as d
-use Rattle.lk_parse_unit.specs.Reading.{optional, condition, scope, labelled, case_of, default_of, block_item, block_items, block, expression, if_behind, if_of, switch_of, while_of, until_of, for_first, for_of, goto_of, return_of, stmt_by, stmt_from, stmt, body_items, body, declared_behind, declared, external_from, external, is_end, unit}
+use Rattle.lk_lex.specs.TokenList.{is_end}
+use Rattle.lk_parse_unit.specs.Leads.{lead_of}
+use Rattle.lk_parse_unit.specs.Reading.{optional, condition, scope, labelled, case_of, default_of, is_late_label, block_item, block_items, block, expression, if_behind, if_of, switch_of, while_of, until_of, for_first, for_head, for_of, goto_of, return_of, stmt_by, stmt_from, stmt, body_items, body, declared_behind, declared, external_from, external, unit}
 use Rattle.lk_parse_unit.proofs.Left.{shorter-item, shorter-decl, stmt_begins, stmt_one, scope_one, item_begins, decl_begins, decl_one, decl_no_end, word_alone}
 
 -- reading a keyword that is there
@@ -55,6 +61,13 @@ no_else i e = by (peek i) e
 items_run : {h : ℕ} {list : List BlockItem} {from rest : Input} → ReadsBlockItems h list from rest → Run ReadsBlockItem h list from rest
 items_run (g.items_none is) = run_none
 items_run (g.items_more one others) = run_more one (items_run others)
+
+split : (a b c d : Bool) → a && b ≡ true → b && not (c && d) ≡ false → (a ≡ true) × (c ≡ true) × (d ≡ true)
+split true true true true e f = (refl, refl, refl)
+split true true true false e f = absurd cc
+split true true false d e f = absurd cc
+split true false c d e f = absurd cc
+split false b c d e f = absurd cc
 
 pub record StmtsRead (m : ℕ) (below : Parser (Found Stmt)) : Type 0 where
   pub reads : {h : ℕ} {one : Stmt} {from rest : Input} → ReadsStmt h one from rest → Answers m h one rest (below from)
@@ -76,10 +89,48 @@ module _ (m : ℕ) (below : Parser (Found Stmt)) (good : StmtsRead m below) wher
   unfolding scope
   scope_read (g.scope inner) = and_so _ (good.reads inner) (omega arith) (λ room same. fits room same refl)
 
+  no_label : {h : ℕ} {value : Expr} {from rest : Input} → ReadsExpr 0 h value from rest → peek rest ≡ k.Punct p.Semicolon → peek from ≡ k.Word → is_colon (peek (next from)) ≡ false
+  no_label {from = from} value is word = by (peek (next from)) refl
+    where
+      by : (kind : TokenKind) → peek (next from) ≡ kind → is_colon kind ≡ false
+      by (k.Punct p.Colon) e = let c = word_alone value word e in absurd cc
+      by _ e = refl
+
+  -- a label has a statement behind it
+  two_deep : {h : ℕ} {one : Stmt} {from rest : Input} → ReadsStmt h one from rest → peek from ≡ k.Word → is_colon (peek (next from)) ≡ true → 2 ≤ h
+  two_deep (g.label is so inner) word labels = omega (arith, stmt_one inner)
+  two_deep (g.case is value so inner) word labels = absurd cc
+  two_deep (g.default is so inner) word labels = absurd cc
+  two_deep (g.block is items so) word labels = absurd cc
+  two_deep (g.do_expr (g.optional_none is)) word labels = absurd cc
+  two_deep (g.do_expr (g.optional_some value is)) word labels = let none = no_label value is word in absurd cc
+  two_deep (g.if_alone is value inner shut) word labels = absurd cc
+  two_deep (g.if_else is value inner so last) word labels = absurd cc
+  two_deep (g.switch is value inner) word labels = absurd cc
+  two_deep (g.while is value inner) word labels = absurd cc
+  two_deep (g.until is inner so value last) word labels = absurd cc
+  two_deep (g.for is so start value step inner) word labels = absurd cc
+  two_deep (g.goto is so last) word labels = absurd cc
+  two_deep (g.continue is so) word labels = absurd cc
+  two_deep (g.break is so) word labels = absurd cc
+  two_deep (g.return is value) word labels = absurd cc
+
+  late_deep : {h : ℕ} {one : Stmt} {from rest : Input} → is_late_label m from ≡ true → begins_declaration from ≡ false → ReadsStmt h one from rest → m < h
+  late_deep {from = from} late is one =
+      let all = split (m == 1) (begins_specifiers from) (is_word (peek from)) (is_colon (peek (next from))) late is in
+      let least = two_deep one (word-same (peek from) all.1) all.2 in
+      let level : (m == 1) ≡ true = all.0 in
+      let so : m ≡ 1 = grind (arith, nat_tests) in
+      omega arith
+
   item_read : {h : ℕ} {one : BlockItem} {from rest : Input} → ReadsBlockItem h one from rest → Answers m h one rest (block_item m below from)
   unfolding block_item
   item_read (g.item_declare is one) = rw is (and_so _ (declarations m one) (omega arith) (λ room same. fits room same refl))
-  item_read (g.item_stmt is inner) = rw is (and_so _ (good.reads inner) (omega arith) (λ room same. fits room same refl))
+  item_read (g.item_stmt {h = h} {inner} {from} {rest} is one) = by (is_late_label m from) refl
+    where
+      by : (b : Bool) → is_late_label m from ≡ b → Answers m h (item.Stmt inner) rest (block_item m below from)
+      by true late = rw (is, late) (deep (late_deep late is one) (next from) refl)
+      by false early = rw (is, early) (and_so _ (good.reads one) (omega arith) (λ room same. fits room same refl))
 
   each_item : Members m ReadsBlockItem (sees p.CloseBrace) (block_item m below)
   each_item = record { reads = item_read; begins = item_begins; shorter = shorter-item }
@@ -94,7 +145,7 @@ module _ (m : ℕ) (below : Parser (Found Stmt)) (good : StmtsRead m below) wher
   first_read (g.first_declare is one) = rw is (and_so _ (declarations m one) (omega arith) (λ room same. fits room same refl))
 
   -- where an expression begins that is no label, the statement is an expression
-  expression_by : (from i : Input) (kind : TokenKind) → is_start (start_of kind) ≡ true → (kind ≡ k.Word → is_colon (peek (next i)) ≡ false) → stmt_by m below from kind i ≡ expression m below from i
+  expression_by : (from i : Input) (kind : TokenKind) → is_start (start_of kind) ≡ true → (kind ≡ k.Word → is_colon (peek (next i)) ≡ false) → stmt_by m below from (lead_of kind) i ≡ expression m below from i
   expression_by from i k.Word start word = rw (word refl) refl
   expression_by from i (k.Key w.Case) start word = absurd cc
   expression_by from i (k.Key w.Default) start word = absurd cc
@@ -110,12 +161,17 @@ module _ (m : ℕ) (below : Parser (Found Stmt)) (good : StmtsRead m below) wher
   expression_by from i (k.Punct p.OpenBrace) start word = absurd cc
   expression_by from i _ start word = refl
 
-  no_label : {h : ℕ} {value : Expr} {from rest : Input} → ReadsExpr 0 h value from rest → peek rest ≡ k.Punct p.Semicolon → peek from ≡ k.Word → is_colon (peek (next from)) ≡ false
-  no_label {from = from} value is word = by (peek (next from)) refl
-    where
-      by : (kind : TokenKind) → peek (next from) ≡ kind → is_colon kind ≡ false
-      by (k.Punct p.Colon) e = let c = word_alone value word e in absurd cc
-      by _ e = refl
+  formed : {h : ℕ} {form : StmtForm} {rest : Input} {o : Outcome (Found StmtForm)} (from : Input) → Answers m h form rest o
+      → Answers m h (stmt_at from form) (leave from rest) (and_then o (λ one. λ i. Ok (found (stmt_at from one.tree) one.room, leave from i)))
+  formed from read = and_so _ read (omega arith) (λ room same. fits room same refl)
+
+  head_read : (from : Input) {g h l : ℕ} {start : ForFirst} {value step : Option Expr} {second third body : Input} → peek from ≡ k.Punct p.OpenParen → ReadsForFirst g start (next from) second
+      → ReadsOptional (k.Punct p.Semicolon) h value second third → ReadsOptional (k.Punct p.CloseParen) l step third body
+      → Answers m (max g (max h l)) (start, value, step) body (for_head m below from)
+  unfolding for_head
+  head_read from so start value step =
+      expects from _ so (and_so _ (first_read start) (omega arith) (λ a same. and_so _ (optional_read semicolon refl value) (omega arith) (λ b also.
+      and_so _ (optional_read paren refl step) (omega arith) (λ c too. fits (min a (min b c)) (omega arith) refl))))
 
   expression_read : {h : ℕ} {value : Option Expr} (from : Input) {rest : Input} → ReadsOptional (k.Punct p.Semicolon) h value from rest
       → Answers (suc m) (1 + h) (stmt_at from (s.Do value)) rest (expression m below from from)
@@ -140,7 +196,7 @@ module _ (m : ℕ) (below : Parser (Found Stmt)) (good : StmtsRead m below) wher
       rw (no_else rest shut) (fits (min room more) (omega arith) refl))))))
   stmt_read (g.if_else {from = from} {mid} {other} is value inner so last) =
       rw is (around (needs 1 from _ (omega (arith, scope_one inner)) (λ some. and_so _ (condition_read value) (omega arith) (λ room same. and_so _ (scope_read inner) (omega arith) (λ more also.
-      rw (sees_key-same w.Else other so) (and_so _ (scope_read last) (omega arith) (λ left_ too. fits (min room (min more left_)) (omega arith) refl)))))))
+      rw (sees_key-same w.Else other so) (formed from (and_so _ (scope_read last) (omega arith) (λ left_ too. fits (min room (min more left_)) (omega arith) refl))))))))
   stmt_read (g.switch {from = from} is value inner) =
       rw is (around (needs 1 from _ (omega (arith, scope_one inner)) (λ some. and_so _ (condition_read value) (omega arith) (λ room same. and_so _ (scope_read inner) (omega arith) (λ more also.
       fits (min room more) (omega arith) refl)))))
@@ -151,9 +207,8 @@ module _ (m : ℕ) (below : Parser (Found Stmt)) (good : StmtsRead m below) wher
       rw is (around (needs 1 from _ (omega (arith, scope_one inner)) (λ some. and_so _ (scope_read inner) (omega arith) (λ room same. expects_key mid _ so
       (and_so _ (condition_read value) (omega arith) (λ more also. expects rest _ last (fits (min room more) (omega arith) refl)))))))
   stmt_read (g.for {from = from} is so start value step inner) =
-      rw is (around (needs 1 from _ (omega (arith, scope_one inner)) (λ some. expects (next from) _ so (and_so _ (first_read start) (omega arith) (λ a same.
-      and_so _ (optional_read semicolon refl value) (omega arith) (λ b also. and_so _ (optional_read paren refl step) (omega arith) (λ c too.
-      and_so _ (scope_read inner) (omega arith) (λ d last. fits (min a (min b (min c d))) (omega arith) refl))))))))
+      rw is (around (needs 1 from _ (omega (arith, scope_one inner)) (λ some. and_so _ (head_read (next from) so start value step) (omega arith) (λ room same. and_so _ (scope_read inner) (omega arith) (λ more also.
+      fits (min room more) (omega arith) refl)))))
   stmt_read (g.goto {from} is so last) = rw is (around {h = 0} (reads_word (next from) _ so (expects (next (next from)) _ last (fits m (omega arith) refl))))
   stmt_read (g.continue {from} is so) = rw is (around {h = 0} (expects (next from) _ so (fits m (omega arith) refl)))
   stmt_read (g.break {from} is so) = rw is (around {h = 0} (expects (next from) _ so (fits m (omega arith) refl)))
@@ -183,7 +238,7 @@ module _ (m : ℕ) where
       → ReadsBlockItems l items (next (with_names parameters (declare name typedef brace))) close → peek close ≡ k.Punct p.CloseBrace
       → Answers (suc m) (1 + max g (max h (1 + l)))
       (decl.Function (record { spot = here from; ordinal = 0; specifiers = specifiers; declarator = inner; body = stmt_at brace (s.Block items) }))
-      (leave (declare name typedef brace) (next close)) (external_from m from from)
+      (leave (declare name typedef brace) (next close)) (external_from m (here from) from)
   unfolding external_from declared body
   function_read {g} {h} {l} from mid brace {close} list inner is items so =
       rw (no_punct false p.Semicolon from (specifiers_begin list)) (around (and_so _ (specifiers_read m (readers m) (complete m) list) (omega arith) (λ a same.
@@ -191,7 +246,7 @@ module _ (m : ℕ) where
       rw (sees-same p.OpenBrace brace is) (and_so _ (body_read m (omega (arith, declarator_one inner)) items so) (omega arith) (λ c too.
       expects close _ so (fits (min a (min b c)) (omega arith) refl))))))))
 
-  decl_read : {h : ℕ} {one : Decl} {from rest : Input} → ReadsDecl h one from rest → Answers (suc m) h one rest (external_from m from from)
+  decl_read : {h : ℕ} {one : Decl} {from rest : Input} → ReadsDecl h one from rest → Answers (suc m) h one rest (external_from m (here from) from)
   unfolding external_from declared declared_behind
   decl_read (g.empty {from} is) = rw (sees-same p.Semicolon from is) (fits m (omega arith) refl)
   decl_read (g.declared {from = from} (d.declare_none {rest = rest} list is)) =

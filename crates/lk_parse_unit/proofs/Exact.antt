@@ -1,21 +1,26 @@
 -- The reader of units is exact: it reads the tree of the tokens where it is not too deep, and its refusals tell why there is none.
-use Rattle.std.proofs.Common.{◌≡◌, ℕ, max, List, [], Ok, Err, refl, sym, ap, subst, ◌∙◌, arith}
+use Rattle.std.proofs.Common.{◌≡◌, ◌≢◌, ℕ, ◌≤◌, max, ◌⊎◌, inl, inr, List, [], drop, Ok, Err, refl, sym, ap, subst, ◌∙◌, arith}
 use Rattle.lk_base.specs.declared.code.Code.{Code}
 use Rattle.lk_base.specs.declared.code.Code.TheVariants as code
+use Rattle.lk_base.specs.declared.fault.Fault.{Fault}
 use Rattle.lk_base.specs.declared.fault.Fault.TheVariants as fault
+use Rattle.lk_base.specs.declared.refusal.Refusal.{Refusal}
+use Rattle.lk_base.specs.declared.spot.Spot.{Spot}
 use Rattle.lk_lex.specs.declared.token.Token.{Token}
 use Rattle.lk_tree.specs.declared.statement.Decl.{Decl}
 use Rattle.lk_tree.specs.declared.statement.Unit as tree
 use Rattle.lk_tree.specs.Numbers.{numbered}
 use Rattle.lk_parse_expr.specs.declared.found.Found.{Found}
-use Rattle.lk_parse_expr.specs.Input.{Input}
-use Rattle.lk_parse_expr.specs.Readers.{Outcome, syntax_at, too_deep_at}
-use Rattle.lk_parse_expr.specs.Statements.{ReadsUnit, start}
-use Rattle.lk_parse_expr.specs.Tree.{IsTree, HasOneTree}
+use Rattle.lk_parse_expr.specs.Input.{Input, spot_of, here}
+use Rattle.lk_parse_expr.specs.Readers.{Outcome}
+use Rattle.lk_parse_expr.specs.Statements.{ReadsUnit}
 use Rattle.lk_parse_expr.proofs.Steps.{Answers, fits, deep}
 use Rattle.lk_parse_expr.proofs.Yielding.{Yields, Has}
 use Rattle.lk_parse_unit.specs.Reading.{unit}
+use Rattle.lk_parse_unit.specs.Parsing.{IsRefusal, IsRefused}
+use Rattle.lk_parse_unit.specs.Tree.{IsTree, HasOneTree, start}
 use Rattle.lk_parse_unit.proofs.Complete.{unit_read}
+use Rattle.lk_parse_unit.proofs.Placing.{IsPlaced, syntax_there, deep_there, Places, unit_at}
 use Rattle.lk_parse_unit.proofs.Sound.{unit_has}
 
 tree_of : Outcome (Found (List Decl)) → List Decl
@@ -40,25 +45,62 @@ pub read_tree : (most : ℕ) (source : List ℕ) (tokens : List Token) (list : F
 read_tree most source tokens list rest is = let has = subst (Yields (Has most (λ h list rest. ReadsUnit h list (start source tokens)))) is (unit_has most (start source tokens)) in
     record { depth = has.depth; externals = list.tree; reads = has.reads; within = (let a = has.all in omega arith); ordinals = refl }
 
-code_of : Outcome (Found (List Decl)) → Code
-code_of (Ok p) = code.Byte
-code_of (Err (fault.Refused refusal)) = refusal.code
-code_of (Err fault.NoMemory) = code.Byte
+code_of_fault : Fault → Code
+code_of_fault (fault.Refused refusal) = refusal.code
+code_of_fault fault.NoMemory = code.Byte
 
--- where a token is one with which no tree goes on, there is none of any depth
-pub no_tree : (most : ℕ) (source : List ℕ) (tokens : List Token) (i : Input) → unit most (start source tokens) ≡ Err (syntax_at i) → (n : ℕ) (u : tree.Unit) → IsTree n source tokens u → ⊥
-unfolding code_of
-no_tree most source tokens i is n u t = by (unit_read most t.reads)
-  where
-    by : (rest : Input) × Answers most t.depth t.externals rest (unit most (start source tokens)) → ⊥
-    by (rest, fits room same so) = let e : code.Syntax ≡ code.Byte = ap code_of (sym is ∙ so) in cc
-    by (rest, deep past j so) = let e : code.Syntax ≡ code.TooDeep = ap code_of (sym is ∙ so) in cc
+spot_of_fault : Fault → Spot
+spot_of_fault (fault.Refused refusal) = refusal.spot
+spot_of_fault fault.NoMemory = spot_of []
 
--- where only trees that are too deep go on, there is none that is not
-pub no_shallow_tree : (most : ℕ) (source : List ℕ) (tokens : List Token) (i : Input) → unit most (start source tokens) ≡ Err (too_deep_at i) → (u : tree.Unit) → IsTree most source tokens u → ⊥
-unfolding code_of
-no_shallow_tree most source tokens i is u t = by (unit_read most t.reads)
+name_of_fault : Fault → List ℕ
+name_of_fault (fault.Refused refusal) = refusal.name
+name_of_fault fault.NoMemory = []
+
+fault_of : Outcome (Found (List Decl)) → Fault
+fault_of (Ok p) = fault.NoMemory
+fault_of (Err e) = e
+
+-- a refusal by its code, its place and its name
+record IsTold (tokens : List Token) (refusal : Refusal) : Type 0 where
+  cause : (refusal.code ≡ code.Syntax) ⊎ (refusal.code ≡ code.TooDeep)
+  place : (n : ℕ) × (refusal.spot ≡ spot_of (drop n tokens))
+  nameless : refusal.name ≡ []
+
+told : (from : Input) (e : Fault) (refusal : Refusal) → IsPlaced from e → e ≡ fault.Refused refusal → IsTold from.tokens refusal
+unfolding code_of_fault spot_of_fault name_of_fault here
+told from _ refusal (syntax_there i at) same =
+    let so = sym same in
+    record { cause = inl (ap code_of_fault so); place = (at.0, ap spot_of_fault so ∙ ap spot_of at.1); nameless = ap name_of_fault so }
+told from _ refusal (deep_there i at) same =
+    let so = sym same in
+    record { cause = inr (ap code_of_fault so); place = (at.0, ap spot_of_fault so ∙ ap spot_of at.1); nameless = ap name_of_fault so }
+
+-- what a refusal tells
+pub refusal_tells : (most : ℕ) (source : List ℕ) (tokens : List Token) (refusal : Refusal) → unit most (start source tokens) ≡ Err (fault.Refused refusal)
+    → IsRefusal most source tokens refusal
+unfolding code_of_fault fault_of
+refusal_tells most source tokens refusal is = record { cause = known.cause; none = none_; deeper = deeper_; place = known.place; nameless = known.nameless }
   where
-    by : (rest : Input) × Answers most t.depth t.externals rest (unit most (start source tokens)) → ⊥
-    by (rest, fits room same so) = let e : code.TooDeep ≡ code.Byte = ap code_of (sym is ∙ so) in cc
-    by (rest, deep past j so) = let a = t.within in omega arith
+    known : IsTold tokens refusal
+    known = told (start source tokens) (fault.Refused refusal) refusal (subst (Places (start source tokens)) is (unit_at (start source tokens) most (start source tokens) (0, refl))) refl
+
+    none_by : (h : ℕ) (list : List Decl) → h ≤ most → (rest : Input) × Answers most h list rest (unit most (start source tokens)) → ⊥
+    none_by h list within (rest, fits room same so) = let e : fault.Refused refusal ≡ fault.NoMemory = ap fault_of (sym is ∙ so) in cc
+    none_by h list within (rest, deep past j so) = absurd (omega arith)
+
+    none_ : (u : tree.Unit) → IsTree most source tokens u → ⊥
+    none_ u t = none_by t.depth t.externals t.within (unit_read most t.reads)
+
+    deeper_by : (h : ℕ) (list : List Decl) → refusal.code ≡ code.Syntax → (rest : Input) × Answers most h list rest (unit most (start source tokens)) → ⊥
+    deeper_by h list syntax (rest, fits room same so) = let e : fault.Refused refusal ≡ fault.NoMemory = ap fault_of (sym is ∙ so) in cc
+    deeper_by h list syntax (rest, deep past j so) =
+        let e : refusal.code ≡ code.TooDeep = ap code_of_fault (ap fault_of (sym is ∙ so)) in
+        let f : code.Syntax ≡ code.TooDeep = sym syntax ∙ e in cc
+
+    deeper_ : refusal.code ≡ code.Syntax → (n : ℕ) (u : tree.Unit) → IsTree n source tokens u → ⊥
+    deeper_ syntax n u t = deeper_by t.depth t.externals syntax (unit_read most t.reads)
+
+pub refused : (most : ℕ) (source : List ℕ) (tokens : List Token) (e : Fault) → (e ≢ fault.NoMemory → unit most (start source tokens) ≡ Err e) → IsRefused most source tokens e
+refused most source tokens (fault.Refused refusal) so = refusal_tells most source tokens refusal (so (λ same. cc))
+refused most source tokens fault.NoMemory so = tt

@@ -23,9 +23,10 @@ use Rattle.lk_parse_expr.proofs.Firsts.{starts, texts_first}
 use Rattle.lk_parse_expr.proofs.Specifying.{specifiers_begin, no_punct}
 use Rattle.lk_parse_decl.proofs.Left as declares
 use Rattle.lk_parse_decl.proofs.Left.{shorter-declare, declare_begins, declare_one}
-use Rattle.lk_parse_unit.specs.Reading.{begins_stmt, is_end}
+use Rattle.lk_lex.specs.TokenList.{is_end}
+use Rattle.lk_parse_unit.specs.Leads.{begins_stmt}
 
-left-with_names : (names : Names) (i : Input) → left (with_names names i) ≡ left i
+pub left-with_names : (names : Names) (i : Input) → left (with_names names i) ≡ left i
 unfolding left with_names
 left-with_names names i = refl
 

@@ -1,5 +1,5 @@
 -- What the readers of statements and units read is of their form.
-use Rattle.std.proofs.Common.{◌≡◌, ℕ, zero, suc, ◌+◌, ◌≤◌, Bool, true, false, List, [], refl, arith}
+use Rattle.std.proofs.Common.{◌≡◌, ℕ, zero, suc, ◌+◌, ◌≤◌, min, max, Bool, true, false, List, [], Option, refl, arith}
 use Rattle.lk_lex.specs.declared.token.TokenKind.{TokenKind}
 use Rattle.lk_lex.specs.declared.token.TokenKind.TheVariants as k
 use Rattle.lk_lex.specs.declared.punct.Punct.{Punct}
@@ -7,14 +7,17 @@ use Rattle.lk_lex.specs.declared.punct.Punct.TheVariants as p
 use Rattle.lk_lex.specs.declared.keyword.Keyword.TheVariants as w
 use Rattle.lk_tree.specs.declared.expression.Specifier.{Specifier}
 use Rattle.lk_tree.specs.declared.expression.Declarator.{Declarator}
+use Rattle.lk_tree.specs.declared.expression.Expr.{Expr}
 use Rattle.lk_tree.specs.declared.statement.Stmt.{Stmt}
+use Rattle.lk_tree.specs.declared.statement.StmtForm.TheVariants as s
+use Rattle.lk_tree.specs.declared.statement.ForFirst.{ForFirst}
 use Rattle.lk_tree.specs.declared.statement.BlockItem.{BlockItem}
 use Rattle.lk_tree.specs.declared.statement.Decl.{Decl}
 use Rattle.lk_parse_expr.specs.declared.found.Found.{Found}
 use Rattle.lk_parse_expr.specs.declared.naming.Naming.TheVariants as naming
 use Rattle.lk_parse_expr.specs.declared.naming.Head.{Head}
 use Rattle.lk_parse_expr.specs.declared.naming.Head.TheVariants as head
-use Rattle.lk_parse_expr.specs.Input.{Input, peek, next, declare, with_names}
+use Rattle.lk_parse_expr.specs.Input.{Input, peek, here, next, declare, leave, with_names}
 use Rattle.lk_parse_expr.specs.Words.{begins_specifiers}
 use Rattle.lk_parse_expr.specs.Readers.{same_keyword, Parser, exhausted, is_key, sees, sees_key, found, repeat}
 use Rattle.lk_parse_expr.specs.Grammar.{ReadsExpr, ReadsDeclarator}
@@ -31,7 +34,9 @@ use Rattle.lk_parse_expr.proofs.SoundParts.{IsList, specifiers_has}
 use Rattle.lk_parse_expr.proofs.Sounds.{sounds}
 use Rattle.lk_parse_decl.specs.Reading.{declaration, declarators_behind}
 use Rattle.lk_parse_decl.proofs.Sound.{declarations_have, behind_has}
-use Rattle.lk_parse_unit.specs.Reading.{optional, condition, scope, labelled, case_of, default_of, block_item, block_items, block, expression, if_behind, if_of, switch_of, while_of, until_of, for_first, for_of, goto_of, return_of, stmt_by, stmt_from, stmt, body_items, body, function_by, declared_behind, declared, external_from, external, is_end, unit}
+use Rattle.lk_lex.specs.TokenList.{is_end}
+use Rattle.lk_parse_unit.specs.Leads.{lead_of}
+use Rattle.lk_parse_unit.specs.Reading.{optional, condition, scope, labelled, case_of, default_of, is_late_label, block_item, block_items, block, expression, if_behind, if_of, switch_of, while_of, until_of, for_first, for_head, for_of, goto_of, return_of, stmt_by, stmt_from, stmt, body_items, body, function_by, declared_behind, declared, external_from, external, unit}
 
 no_else : (i : Input) → sees_key w.Else i ≡ false → is_else (peek i) ≡ false
 unfolding sees_key same_keyword
@@ -44,6 +49,11 @@ no_else i e = by (peek i) e
 run_items : {h : ℕ} {list : List BlockItem} {from rest : Input} → Run ReadsBlockItem h list from rest → peek rest ≡ k.Punct p.CloseBrace → ReadsBlockItems h list from rest
 run_items run_none so = g.items_none so
 run_items (run_more one others) so = g.items_more one (run_items others so)
+
+-- what stands in the parentheses of a `for`
+data ReadsHead : ℕ → ForFirst × Option Expr × Option Expr → Input → Input → Type 0 where
+  in_head : {g h l : ℕ} {start : ForFirst} {value step : Option Expr} {from second third body : Input} → peek from ≡ k.Punct p.OpenParen → ReadsForFirst g start (next from) second
+      → ReadsOptional (k.Punct p.Semicolon) h value second third → ReadsOptional (k.Punct p.CloseParen) l step third body → ReadsHead (max g (max h l)) (start, value, step) from body
 
 pub record StmtsHave (m : ℕ) (below : Parser (Found Stmt)) : Type 0 where
   pub has : (from : Input) → Yields (Has m (λ h one rest. ReadsStmt h one from rest)) (below from)
@@ -71,7 +81,8 @@ module _ (m : ℕ) (below : Parser (Found Stmt)) (sound : StmtsHave m below) whe
   unfolding block_item
   item_has i = by_test _ (begins_declaration i) _ _
       (λ e. and_yields _ _ (declaration m i) _ (declarations_have m i) (λ one j has. record { depth = has.depth; reads = g.item_declare e has.reads; all = has.all }))
-      (λ e. and_yields _ _ (below i) _ (sound.has i) (λ one j has. record { depth = has.depth; reads = g.item_stmt e has.reads; all = has.all }))
+      (λ e. by_test _ (is_late_label m i) _ _ (λ late. tt)
+      (λ early. and_yields _ _ (below i) _ (sound.has i) (λ one j has. record { depth = has.depth; reads = g.item_stmt e has.reads; all = has.all })))
 
   pub items_has : (from : Input) → Yields (Has m (λ d list i. Run ReadsBlockItem d list from i)) (block_items m below from)
   unfolding block_items
@@ -112,13 +123,18 @@ module _ (m : ℕ) (below : Parser (Found Stmt)) (sound : StmtsHave m below) whe
   block_has from is = and_yields _ _ (block_items m below (next from)) _ (items_has (next from)) (λ items i has. after_expect _ p.CloseBrace i _ (λ so.
       record { depth = _; reads = g.block is (run_items has.reads so) so; all = (let a = has.all in omega arith) }))
 
-  if_has : (from : Input) → peek from ≡ k.Key w.If → Yields (IsStmt from) (if_of m below from from)
-  unfolding if_of if_behind
-  if_has from is = after_need _ 1 m from _ (λ some. and_yields _ _ (condition m below (next from)) _ (condition_has (next from)) (λ value i has.
-      and_yields _ _ (scope m below i) _ (scope_has i) (λ taken j more. by_test _ (sees_key w.Else j) _ _
+  if_made : (from i j : Input) (value : Found Expr) (taken : Found Stmt) → peek from ≡ k.Key w.If → Has m (λ h value rest. ReadsCondition h value (next from) rest) value i
+      → Has m (λ h one rest. ReadsScope h one i rest) taken j → Yields (λ form rest. IsStmt from (found (stmt_at from form.tree) form.room) (leave from rest)) (if_behind m below value taken j)
+  unfolding if_behind
+  if_made from i j value taken is has more = by_test _ (sees_key w.Else j) _ _
       (λ e. and_yields _ _ (scope m below (next j)) _ (scope_has (next j)) (λ other l last.
       record { depth = _; reads = g.if_else is has.reads more.reads (seen_key w.Else j e) last.reads; all = (let a = has.all in let b = more.all in let c = last.all in omega arith) }))
-      (λ e. record { depth = _; reads = g.if_alone is has.reads more.reads (no_else j e); all = (let a = has.all in let b = more.all in omega arith) }))))
+      (λ e. record { depth = _; reads = g.if_alone is has.reads more.reads (no_else j e); all = (let a = has.all in let b = more.all in omega arith) })
+
+  if_has : (from : Input) → peek from ≡ k.Key w.If → Yields (IsStmt from) (if_of m below from from)
+  unfolding if_of
+  if_has from is = after_need _ 1 m from _ (λ some. and_yields _ _ (condition m below (next from)) _ (condition_has (next from)) (λ value i has.
+      and_yields _ _ (scope m below i) _ (scope_has i) (λ taken j more. and_yields _ _ (if_behind m below value taken j) _ (if_made from i j value taken is has more) (λ form rest made. made))))
 
   switch_has : (from : Input) → peek from ≡ k.Key w.Switch → Yields (IsStmt from) (switch_of m below from from)
   unfolding switch_of
@@ -136,12 +152,20 @@ module _ (m : ℕ) (below : Parser (Found Stmt)) (sound : StmtsHave m below) whe
       and_yields _ _ (condition m below (next i)) _ (condition_has (next i)) (λ value j more. after_expect _ p.Semicolon j _ (λ last.
       record { depth = _; reads = g.until is has.reads so more.reads last; all = (let a = has.all in let b = more.all in omega arith) })))))
 
+  head_has : (from : Input) → Yields (Has m (λ h parts rest. ReadsHead h parts from rest)) (for_head m below from)
+  unfolding for_head
+  head_has from = after_expect _ p.OpenParen from _ (λ so. and_yields _ _ (for_first m below (next from)) _ (first_has (next from)) (λ start i a.
+      and_yields _ _ (optional m below p.Semicolon i) _ (optional_has p.Semicolon i) (λ value j b. and_yields _ _ (optional m below p.CloseParen j) _ (optional_has p.CloseParen j) (λ step l c.
+      record { depth = _; reads = in_head so a.reads b.reads c.reads; all = (let e = a.all in let f = b.all in let g = c.all in omega arith) }))))
+
+  for_made : (from i rest : Input) (parts : ForFirst × Option Expr × Option Expr) (inner : Stmt) (room more : ℕ) (d e : ℕ) → peek from ≡ k.Key w.For → ReadsHead d parts (next from) i → d + room ≡ m
+      → ReadsScope e inner i rest → e + more ≡ m → IsStmt from (found (stmt_at from (s.For parts.0 parts.1 parts.2 inner)) (min room more)) (leave from rest)
+  for_made from i rest _ inner room more _ e is (in_head so a b c) same d also = record { depth = _; reads = g.for is so a b c d; all = omega arith }
+
   for_has : (from : Input) → peek from ≡ k.Key w.For → Yields (IsStmt from) (for_of m below from from)
   unfolding for_of
-  for_has from is = after_need _ 1 m from _ (λ some. after_expect _ p.OpenParen (next from) _ (λ so. and_yields _ _ (for_first m below (next (next from))) _ (first_has (next (next from))) (λ start i a.
-      and_yields _ _ (optional m below p.Semicolon i) _ (optional_has p.Semicolon i) (λ value j b. and_yields _ _ (optional m below p.CloseParen j) _ (optional_has p.CloseParen j) (λ step l c.
-      and_yields _ _ (scope m below l) _ (scope_has l) (λ inner last d.
-      record { depth = _; reads = g.for is so a.reads b.reads c.reads d.reads; all = (let e = a.all in let f = b.all in let g = c.all in let h = d.all in omega arith) }))))))
+  for_has from is = after_need _ 1 m from _ (λ some. and_yields _ _ (for_head m below (next from)) _ (head_has (next from)) (λ parts i a.
+      and_yields _ _ (scope m below i) _ (scope_has i) (λ inner rest d. for_made from i rest parts.tree inner.tree parts.room inner.room a.depth d.depth is a.reads a.all d.reads d.all)))
 
   goto_has : (from : Input) → peek from ≡ k.Key w.Goto → Yields (IsStmt from) (goto_of m below from from)
   unfolding goto_of
@@ -156,7 +180,7 @@ module _ (m : ℕ) (below : Parser (Found Stmt)) (sound : StmtsHave m below) whe
   colon_there (k.Punct p.Colon) e = refl
   colon_there _ e = absurd cc
 
-  by_kind : (from : Input) (kind : TokenKind) → peek from ≡ kind → Yields (IsStmt from) (stmt_by m below from kind from)
+  by_kind : (from : Input) (kind : TokenKind) → peek from ≡ kind → Yields (IsStmt from) (stmt_by m below from (lead_of kind) from)
   by_kind from k.Word is = by_test _ (is_colon (peek (next from))) _ _ (λ e. labelled_has from is (colon_there (peek (next from)) e)) (λ e. expression_has from)
   by_kind from (k.Key w.Case) is = case_has from is
   by_kind from (k.Key w.Default) is = default_has from is
@@ -201,7 +225,7 @@ module _ (m : ℕ) where
 
   function_has : (from mid brace : Input) (first : Found (List Specifier × Bool)) (room : ℕ) (inner : Declarator) (h : ℕ) (which : Head) → IsList m (readers m) (sounds m) from first mid
       → ReadsDeclarator naming.Named 0 h inner which mid brace → h + room ≡ m → peek brace ≡ k.Punct p.OpenBrace
-      → Yields (IsDecl from) (function_by m from first (found (inner, which) room) which brace)
+      → Yields (IsDecl from) (function_by m (here from) first (found (inner, which) room) which brace)
   unfolding body
   function_has from mid brace first room inner h head.Abstract list reads all is = tt
   function_has from mid brace first room inner h (head.Bare name) list reads all is = tt
@@ -210,7 +234,7 @@ module _ (m : ℕ) where
       after_expect _ p.CloseBrace i _ (λ so. record { depth = _; reads = g.function list.reads reads is (run_items has.1 so) so; all = (let a = list.all in let b = has.2 in omega arith) }))
   function_has from mid brace first room inner h (head.Other name) list reads all is = tt
 
-  declared_has : (from mid : Input) (first : Found (List Specifier × Bool)) → IsList m (readers m) (sounds m) from first mid → Yields (IsDecl from) (declared m from first mid)
+  declared_has : (from mid : Input) (first : Found (List Specifier × Bool)) → IsList m (readers m) (sounds m) from first mid → Yields (IsDecl from) (declared m (here from) first mid)
   unfolding declared declared_behind
   declared_has from mid first list = by_test _ (sees p.Semicolon mid) _ _
       (λ e. record { depth = _; reads = g.declared (d.declare_none list.reads (seen p.Semicolon mid e)); all = (let a = list.all in omega arith) })
@@ -219,7 +243,7 @@ module _ (m : ℕ) where
       (λ f. and_yields _ _ (declarators_behind m first.tree.1 inner i) _ (behind_has m first.tree.1 mid i inner has) (λ all j more. after_expect _ p.Semicolon j _ (λ so.
       record { depth = _; reads = g.declared (d.declare_some list.reads more.reads so); all = (let a = list.all in let b = more.all in omega arith) })))))
 
-  external_has : (from : Input) → Yields (IsDecl from) (external_from m from from)
+  external_has : (from : Input) → Yields (IsDecl from) (external_from m (here from) from)
   unfolding external_from
   external_has from = by_test _ (sees p.Semicolon from) _ _
       (λ e. record { depth = 1; reads = g.empty (seen p.Semicolon from e); all = omega arith })

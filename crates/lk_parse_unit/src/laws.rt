@@ -1,5 +1,5 @@
 //! Laws of the definitions, as contracts of functions that do nothing.
-ghost use Rattle.lk_parse_expr.specs.Tree.{HasOneTree};
+ghost use Rattle.lk_parse_unit.specs.Tree.{HasOneTree};
 
 /// Tokens are one tree at most, of whatever depth.
 pub fn one_tree()
