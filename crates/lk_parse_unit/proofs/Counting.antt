@@ -1,9 +1,8 @@
 -- A tree has at most as many nodes as tokens: what is read takes no more ordinals than tokens.
-use Rattle.std.proofs.Common.{◌≡◌, ℕ, ◌+◌, ◌≤◌, Bool, false, List, [], ◌∷◌, Option, Some, None, map, refl, ap, sym, ◌∙◌, arith}
+use Rattle.std.proofs.Common.{◌≡◌, ℕ, ◌+◌, ◌≤◌, Bool, false, List, [], ◌∷◌, Option, Some, None, map, refl, sym, ◌∙◌, arith}
 use Rattle.std.specs.Option.{option_map}
 use Rattle.lk_lex.specs.declared.token.TokenKind.{TokenKind}
 use Rattle.lk_lex.specs.declared.token.TokenKind.TheVariants as k
-use Rattle.lk_lex.specs.declared.punct.Punct.TheVariants as p
 use Rattle.lk_lex.specs.declared.keyword.Keyword.TheVariants as w
 use Rattle.lk_tree.specs.declared.expression.ExprForm.TheVariants as e
 use Rattle.lk_tree.specs.declared.expression.DeclaratorForm.TheVariants as d
@@ -30,7 +29,7 @@ use Rattle.lk_tree.specs.declared.statement.BlockItem.{BlockItem}
 use Rattle.lk_tree.specs.declared.statement.ForFirst.{ForFirst}
 use Rattle.lk_tree.specs.declared.statement.Decl.{Decl}
 use Rattle.lk_tree.specs.Numbers.{Numbered, list, list_of, optional, optional_of, expr, declarator, specifier, initialiser, statement, declare, of_designator, of_init_declarator, of_first, of_decl}
-use Rattle.lk_ordinals.specs.Parts.{expr_form, item, member, member_declarator, parameter, type_name, entry, block_item}
+use Rattle.lk_ordinals.specs.Parts.{item, member, member_declarator, parameter, type_name, entry, block_item}
 use Rattle.lk_ordinals.proofs.Forms as form
 use Rattle.lk_parse_expr.specs.declared.naming.Naming.{Naming}
 use Rattle.lk_parse_expr.specs.declared.naming.Head.{Head}

@@ -1,10 +1,9 @@
 -- Each refusal of the readers is one for syntax or for depth, at a place of the source.
-use Rattle.std.proofs.Common.{◌≡◌, ℕ, zero, suc, ◌+◌, nat_le, Bool, true, false, not, ◌&&◌, if◌then◌else◌, List, Option, None, Some, drop, Ok, Err, refl, ap, ◌∙◌, arith}
+use Rattle.std.proofs.Common.{◌≡◌, ℕ, zero, suc, ◌+◌, nat_le, Bool, true, false, not, ◌&&◌, if◌then◌else◌, List, Option, None, Some, drop, Ok, Err, refl, ap, ◌∙◌}
 use Rattle.std.proofs.lemmas.List.{drop-drop}
 use Rattle.lk_base.specs.declared.spot.Spot.{Spot}
 use Rattle.lk_base.specs.declared.fault.Fault.{Fault}
 use Rattle.lk_lex.specs.declared.token.TokenKind.{TokenKind}
-use Rattle.lk_lex.specs.declared.token.TokenKind.TheVariants as k
 use Rattle.lk_lex.specs.declared.punct.Punct.{Punct}
 use Rattle.lk_lex.specs.declared.punct.Punct.TheVariants as p
 use Rattle.lk_lex.specs.declared.keyword.Keyword.{Keyword}
@@ -12,8 +11,6 @@ use Rattle.lk_lex.specs.declared.keyword.Keyword.TheVariants as w
 use Rattle.lk_tree.specs.declared.specifiers.Qualifier.{Qualifier}
 use Rattle.lk_tree.specs.declared.expression.Expr.{Expr}
 use Rattle.lk_tree.specs.declared.expression.Specifier.{Specifier}
-use Rattle.lk_tree.specs.declared.expression.Member.{Member}
-use Rattle.lk_tree.specs.declared.expression.Item.{Item}
 use Rattle.lk_tree.specs.declared.expression.Declarator.{Declarator}
 use Rattle.lk_tree.specs.declared.declaration.Init.{Init}
 use Rattle.lk_tree.specs.declared.declaration.InitDeclarator.{InitDeclarator}
@@ -29,11 +26,11 @@ use Rattle.lk_parse_expr.specs.declared.naming.Naming.{Naming}
 use Rattle.lk_parse_expr.specs.declared.naming.Naming.TheVariants as naming
 use Rattle.lk_parse_expr.specs.declared.naming.Head.{Head}
 use Rattle.lk_parse_expr.specs.declared.naming.Head.TheVariants as head
-use Rattle.lk_parse_expr.specs.Input.{Input, Names, peek, here, text, next, declare, leave, with_names, declared_since}
+use Rattle.lk_parse_expr.specs.Input.{Input, Names, peek, here, text, next, declare, leave, with_names}
 use Rattle.lk_parse_expr.specs.Words.{level_of, qualifier_of, specifier_of, is_word, begins_specifiers, continues_specifiers, opens_type_name, is_close_brace}
 use Rattle.lk_parse_expr.specs.Heads.{may_name, may_omit, is_group, declare_head}
 use Rattle.lk_parse_expr.specs.Front.{start_of, is_start, suffix_of, infix_of, infix_level}
-use Rattle.lk_parse_expr.specs.Readers.{Outcome, Parser, and_then, ◌>>◌, syntax_at, too_deep_at, exhausted, need, left, sees, sees_key, expect, expect_key, word, found, goes_on, separated_from, repeat_from, joined}
+use Rattle.lk_parse_expr.specs.Readers.{Outcome, Parser, and_then, ◌>>◌, syntax_at, too_deep_at, exhausted, need, left, sees, sees_key, expect, expect_key, word, goes_on, separated_from, repeat_from, joined}
 use Rattle.lk_parse_expr.specs.Reading as r
 use Rattle.lk_parse_expr.specs.Reading.{Readers, readers, exhausted_readers}
 use Rattle.lk_parse_expr.specs.Statements.{is_colon, begins_declaration}

@@ -1,5 +1,5 @@
 -- What a token begins, where a statement or an external declaration is read.
-use Rattle.std.specs.Prelude.{Bool, true, false}
+use Rattle.std.specs.Prelude.{Bool, true}
 use Rattle.lk_lex.specs.declared.token.TokenKind.{TokenKind}
 use Rattle.lk_lex.specs.declared.token.TokenKind.TheVariants as k
 use Rattle.lk_lex.specs.declared.punct.Punct.TheVariants as p

@@ -1,5 +1,5 @@
 -- The readers of statements and units, as functions.
-use Rattle.std.specs.Prelude.{ℕ, zero, suc, min, ◌==◌, Bool, true, false, ◌&&◌, ◌||◌, if◌then◌else◌, List, [], Option, Some, None, Ok}
+use Rattle.std.specs.Prelude.{ℕ, zero, suc, min, ◌==◌, Bool, ◌&&◌, ◌||◌, if◌then◌else◌, List, [], Option, Some, None, Ok}
 use Rattle.lk_base.specs.declared.spot.Spot.{Spot}
 use Rattle.lk_lex.specs.declared.punct.Punct.{Punct}
 use Rattle.lk_lex.specs.declared.punct.Punct.TheVariants as p

@@ -1,8 +1,7 @@
-use Rattle.std.proofs.Common.{rules, arith, false, ◌∷◌, []}
+use Rattle.std.proofs.Common.{rules, arith}
 use Rattle.std.proofs.lemmas.Grind.{common_steps}
-use Rattle.lk_lex.specs.declared.punct.Punct.TheVariants as p
 use Rattle.lk_parse_expr.specs.Input.{peek}
-use Rattle.lk_parse_expr.specs.Readers.{found, repeat_from, sees}
+use Rattle.lk_parse_expr.specs.Readers.{found, repeat_from}
 use Rattle.lk_lex.specs.TokenList.{is_end}
 use Rattle.lk_parse_unit.specs.Reading.{external}
 use Rattle.lk_parse_expr.proofs.Turns.{one_more, no_more}

@@ -1,6 +1,5 @@
 use Rattle.std.proofs.Common.{◌≡◌, ◌-◌}
 use Rattle.lk_lex.specs.declared.punct.Punct.TheVariants as p
-use Rattle.lk_parse_expr.specs.Input.{peek}
 use Rattle.lk_parse_expr.specs.Readers.{found, repeat_from, sees}
 use Rattle.lk_parse_unit.specs.Reading as spec
 use Rattle.lk_parse_unit.proofs.statement.Statements.block_items.Given as goal
