@@ -1,0 +1,11 @@
+//! Tests of what is made from points over the types of C: labels, the first state, and the text of a place.
+#![tactic(auto)]
+
+#[cfg(test)]
+mod begins;
+#[cfg(test)]
+mod labels;
+#[cfg(test)]
+mod samples;
+#[cfg(test)]
+mod texts;
