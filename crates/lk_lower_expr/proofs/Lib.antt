@@ -3,3 +3,4 @@ pub mod Chosen
 pub mod Forms
 pub mod Given
 pub mod Nodes
+pub mod Operands

@@ -60,3 +60,13 @@ changed_step Before form place computed = written_step form place computed
 -- where a place is read at once: it begins with the place, but for a slot
 abbrev pub place_first : Names → Part → ℕ → ℕ
 place_first names a node = first_of (place_of names a.slot a) (names.at node 0)
+
+-- ---- where control goes on
+
+-- behind a way of `?:`, which has a step of its own there but for void
+abbrev pub way_on : CType → (own on : ℕ) → ℕ
+way_on form own on = if is_void form then on else own
+
+-- in `printf` at the next read of a text, where there are more of them
+abbrev pub on_by : (left next on : ℕ) → ℕ
+on_by left next on = if nat_eq left 0 then on else next

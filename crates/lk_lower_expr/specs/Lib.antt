@@ -1,6 +1,7 @@
 pub mod Counts
 pub mod Expressions
 pub mod Initialisers
+pub mod Laid
 pub mod Library
 pub mod Names
 pub mod Naming

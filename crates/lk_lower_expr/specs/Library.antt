@@ -8,6 +8,7 @@ use Rattle.lk_lower_expr.specs.Parts.{Part, goes, step, first_of, in_turn, value
 use Rattle.lk_lower_expr.specs.declared.step.Step.{Step}
 use Rattle.lk_types.specs.Predeclared.{kind_id}
 use Rattle.lk_base.specs.declared.kind.Kind.TheVariants.{Char}
+use Rattle.lk_base.specs.declared.spot.Spot.{Spot}
 use Rattle.lk_types.specs.declared.c_type.CType.{CType}
 use Rattle.lk_types.specs.declared.c_type.CType.TheVariants.{Void, Int, ThreadId, Mutex, Cond, Pointer, Array, Struct, Function, Opaque}
 
@@ -28,6 +29,10 @@ is_text (Array t n) = false
 is_text (Struct s) = false
 is_text (Function result params dots) = false
 is_text (Opaque n) = false
+
+-- a step after which control ends
+abbrev pub last : Action → Spot → Step
+last does spot = record { does = does; gives = None; next = []; spot = spot }
 
 module _ (names : Names) where
   abbrev at : ℕ → ℕ → ℕ
@@ -51,7 +56,7 @@ module _ (names : Names) where
 
   -- a step of a call after which control ends
   abbrev ends : Node → List Part → Action → Part
-  ends node operands does = parts.computes names node operands 1 (λ on. record { does = does; gives = None; next = []; spot = node.spot } ∷ [])
+  ends node operands does = parts.computes names node operands 1 (λ on. last does node.spot ∷ [])
 
   -- `pthread_create`: the thread, and then the store of its id unless there is none
   abbrev pub create_part : Node → Part → ℕ → Part → Part
@@ -79,29 +84,31 @@ module _ (names : Names) where
       does_one node (count_of count) (does.Allocate (names.type t) (value_of_count count) zeroed (names.heap node.ordinal))
 
   -- a read of the text to which the operand points; it stands where the operand does
+  abbrev pub scan : Part → Option ℕ → ℕ → Step
+  scan a gives on = step (does.Scan a.value) gives a.node.spot on
+
   abbrev pub scan_part : Node → Part → Part
-  scan_part node a = parts.computes names node (a ∷ []) 1 (λ on. step (does.Scan a.value) (parts.value_of names node.type) a.node.spot on ∷ [])
+  scan_part node a = parts.computes names node (a ∷ []) 1 (λ on. scan a (parts.value_of names node.type) on ∷ [])
 
   -- those operands of `printf` that are read as texts
   abbrev pub texts_of : List Part → List Part
   texts_of [] = []
   texts_of (a ∷ others) = if is_text (names.form a.node.type) then a ∷ texts_of others else texts_of others
 
-  -- a read of each of these texts, the first of them the step `k`
-  abbrev scans : Node → ℕ → List Part → ℕ → List Step
-  scans node k [] on = []
-  scans node k (a ∷ []) on = step (does.Scan a.value) None a.node.spot on ∷ []
-  scans node k (a ∷ (b ∷ others)) on = step (does.Scan a.value) None a.node.spot (at node.ordinal (suc k)) ∷ scans node (suc k) (b ∷ others) on
-
   -- where control goes on after the step `k - 1`
-  abbrev on_to : Node → ℕ → List Part → ℕ → ℕ
+  abbrev pub on_to : Node → ℕ → List Part → ℕ → ℕ
   on_to node k [] on = on
   on_to node k (a ∷ others) on = at node.ordinal k
+
+  -- a read of each of these texts, the first of them the step `k`
+  abbrev pub scans : Node → ℕ → List Part → ℕ → List Step
+  scans node k [] on = []
+  scans node k (a ∷ others) on = scan a None (on_to node (suc k) others on) ∷ scans node (suc k) others on
 
   -- `printf`: the format is read, and then each later argument of type `char *` (C99 7.19.6.1)
   abbrev pub print_part : Node → Part → List Part → Part
   print_part node format args = parts.computes names node (format ∷ args) (suc (length (texts_of args))) (λ on.
-      step (does.Scan format.value) (parts.value_of names node.type) format.node.spot (on_to node 1 (texts_of args) on) ∷ scans node 1 (texts_of args) on)
+      scan format (parts.value_of names node.type) (on_to node 1 (texts_of args) on) ∷ scans node 1 (texts_of args) on)
 
   -- a call of the library that touches nothing
   abbrev pub compute_part : Node → List Part → Part

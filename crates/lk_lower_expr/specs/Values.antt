@@ -1,5 +1,5 @@
 -- The steps of each form of expression (C99 6.5).
-use Rattle.std.specs.Prelude.{ℕ, ℤ, pos, ◌++◌, Bool, true, false, List, [], ◌∷◌, None, ◌||◌, nat_eq, if◌then◌else◌}
+use Rattle.std.specs.Prelude.{ℕ, ℤ, pos, ◌++◌, Bool, true, false, List, [], ◌∷◌, None, Some, ◌||◌, nat_eq, if◌then◌else◌}
 use Rattle.lk_arith.specs.declared.operators.Op.{Op}
 use Rattle.lk_arith.specs.declared.operators.Op.TheVariants as op
 use Rattle.lk_arith.specs.declared.operators.UnaryOp.{UnaryOp}
@@ -30,6 +30,24 @@ is_pointer (Array t n) = false
 is_pointer (Struct s) = false
 is_pointer (Function result params dots) = false
 is_pointer (Opaque n) = false
+
+-- what `++` and `--` compute
+abbrev pub operator_of : StepOperator → Op
+operator_of Increment = op.Add
+operator_of Decrement = op.Subtract
+
+-- control goes on at the first of two points where the value of `a` is neither zero nor null, else at the second
+abbrev pub branch : Node → ℕ → (yes_ no_ : ℕ) → Step
+branch node a yes_ no_ = record { does = does.Branch a; gives = None; next = yes_ ∷ no_ ∷ []; spot = node.spot }
+
+-- the two results of `&&` and `||`, each put into the hidden slot: the steps 2 to 6 of a node whose step k is `at k`
+abbrev pub truths : (at : ℕ → ℕ) → (slot : ℕ) → Node → ℕ → List Step
+truths at slot node on =
+    step (does.Value (pos 1) (kind_id IntKind)) (Some (kind_id IntKind)) node.spot (at 3) ∷
+    step (does.SlotWrite slot (at 2)) None node.spot (at 6) ∷
+    step (does.Value (pos 0) (kind_id IntKind)) (Some (kind_id IntKind)) node.spot (at 5) ∷
+    step (does.SlotWrite slot (at 4)) None node.spot (at 6) ∷
+    step (does.SlotRead slot) (Some (kind_id IntKind)) node.spot on ∷ []
 
 module _ (names : Names) where
   abbrev at : ℕ → ℕ → ℕ
@@ -79,19 +97,6 @@ module _ (names : Names) where
 
   -- ---- the operators that decide on the way (C99 6.5.13 to 6.5.15)
 
-  -- the two results of `&&` and `||`, each put into the hidden slot: the steps 2 to 6
-  abbrev truths : Node → ℕ → List Step
-  truths node on =
-      let o = node.ordinal in
-      step (does.Value (pos 1) (kind_id IntKind)) (parts.int names) node.spot (at o 3) ∷
-      step (does.SlotWrite (names.hidden o) (at o 2)) None node.spot (at o 6) ∷
-      step (does.Value (pos 0) (kind_id IntKind)) (parts.int names) node.spot (at o 5) ∷
-      step (does.SlotWrite (names.hidden o) (at o 4)) None node.spot (at o 6) ∷
-      step (does.SlotRead (names.hidden o)) (parts.int names) node.spot on ∷ []
-
-  abbrev branch : Node → ℕ → (yes_ no_ : ℕ) → Step
-  branch node a yes_ no_ = record { does = does.Branch a; gives = None; next = yes_ ∷ no_ ∷ []; spot = node.spot }
-
   abbrev decides : Node → Part → Part → (ℕ → List Step) → Part
   decides node a b steps = record {
     node = node;
@@ -105,11 +110,11 @@ module _ (names : Names) where
 
   abbrev pub and_part : Node → Part → Part → Part
   and_part node a b = decides node a b (λ on.
-      branch node a.value b.first (at node.ordinal 4) ∷ branch node b.value (at node.ordinal 2) (at node.ordinal 4) ∷ truths node on)
+      branch node a.value b.first (at node.ordinal 4) ∷ branch node b.value (at node.ordinal 2) (at node.ordinal 4) ∷ truths (at node.ordinal) (names.hidden node.ordinal) node on)
 
   abbrev pub or_part : Node → Part → Part → Part
   or_part node a b = decides node a b (λ on.
-      branch node a.value (at node.ordinal 2) b.first ∷ branch node b.value (at node.ordinal 2) (at node.ordinal 4) ∷ truths node on)
+      branch node a.value (at node.ordinal 2) b.first ∷ branch node b.value (at node.ordinal 2) (at node.ordinal 4) ∷ truths (at node.ordinal) (names.hidden node.ordinal) node on)
 
   -- `condition ? taken : other`, of type void and of another type
   abbrev pub void_choice : Node → Part → Part → Part → Part
@@ -156,16 +161,16 @@ module _ (names : Names) where
 
   -- ---- assignments (C99 6.5.16, 6.5.2.4, 6.5.3.1): the value is that which is written
 
-  abbrev reading : Part → ℕ → Step
+  abbrev pub reading : Part → ℕ → Step
   reading a on = step (parts.reads names a.slot a.value) (parts.value_of names a.node.type) a.node.spot on
 
-  abbrev writing : Part → ℕ → ℕ → Step
+  abbrev pub writing : Part → ℕ → ℕ → Step
   writing a value on = step (parts.writes names a.slot a.value value) None a.node.spot on
 
-  abbrev converting : Node → (value type on : ℕ) → Step
+  abbrev pub converting : Node → (value type on : ℕ) → Step
   converting node value t on = step (does.Convert value (names.type t)) (parts.value_of names t) node.spot on
 
-  abbrev computing : Node → Op → (a b type on : ℕ) → Step
+  abbrev pub computing : Node → Op → (a b type on : ℕ) → Step
   computing node op a b t on = step (does.Binary op a b) (parts.value_of names t) node.spot on
 
   abbrev pub assign_part : Node → Part → Part → Part
@@ -202,16 +207,12 @@ module _ (names : Names) where
   unfoldable pub compound_part : Node → Op → Part → Part → ℕ → Part
   compound_part node op a b t = if nat_eq a.node.type t then compound_alike node op a b t else compound_converted node op a b t
 
-  abbrev pub operator_of : StepOperator → Op
-  operator_of Increment = op.Add
-  operator_of Decrement = op.Subtract
-
   -- `++` and `--`: the value is that which was read, or that which is written
   abbrev pub changed : Change → (was is : ℕ) → ℕ
   changed After was is = was
   changed Before was is = is
 
-  abbrev one_of : Node → ℕ → Step
+  abbrev pub one_of : Node → ℕ → Step
   one_of node on = step (does.Value (pos 1) (kind_id IntKind)) (parts.int names) node.spot on
 
   abbrev changes : Node → Part → (value : ℕ) → (count : ℕ) → (ℕ → List Step) → Part

@@ -1,7 +1,16 @@
 //! The control points of expressions, as steps of nodes of the typed tree.
 #![tactic(auto)]
 
+mod assign;
 mod begin;
+mod call;
+mod change;
+mod compute;
+mod convert;
+mod decide;
+mod lay;
+mod library;
+mod make;
 mod names;
 mod step;
 mod value;

@@ -1,9 +1,10 @@
 //! What the numbers of a typed tree stand for in the program.
 
-ghost use Rattle.std.specs.Prelude.{◌≡◌, ◌<◌, ◌^◌, IsTrue};
-ghost use Rattle.lk_lower_expr.specs.Naming.{at_of, local_number, AreFew};
+ghost use Rattle.std.specs.Prelude.{◌≡◌, ◌<◌, ◌^◌, get_or};
+ghost use Rattle.lk_lower_expr.specs.Naming.{at_of, local_number, object_of, AreFew};
 
 use lk_base::{Seq, Spot};
+use lk_typed::Storage;
 use lk_types::TypeId;
 
 /// A local of a body.
@@ -56,6 +57,56 @@ impl SourceNames {
         match self.locals.list().get(local as usize) {
             Some(names) => names.number,
             None => 0,
+        }
+    }
+
+    /// The root of an object; 0 past the last one.
+    pub fn object_number(&self, storage: Storage) -> u32
+        ensures { result ≡ object_of self.now storage }
+    {
+        match storage {
+            Storage::Entity(entity) => self.entity_number(entity),
+            Storage::Local(local) => self.local_number(local),
+        }
+    }
+
+    /// The root or the function that an entity of the source is; 0 past the last one.
+    pub fn entity_number(&self, entity: u32) -> u32
+        ensures { result ≡ get_or self.now.entities entity 0 }
+    {
+        match self.entities.list().get(entity as usize) {
+            Some(number) => *number,
+            None => 0,
+        }
+    }
+
+    /// The root or the hidden slot of a node; 0 past the last one.
+    pub fn node_number(&self, node: u32) -> u32
+        ensures { result ≡ get_or self.now.by_node node 0 }
+    {
+        match self.by_node.list().get(node as usize) {
+            Some(number) => *number,
+            None => 0,
+        }
+    }
+
+    /// The program's number of a type; 0 past the last one.
+    pub fn type_number(&self, ty: TypeId) -> TypeId
+        ensures { result ≡ get_or self.now.types ty 0 }
+    {
+        match self.types.list().get(ty.0 as usize) {
+            Some(number) => *number,
+            None => TypeId(0),
+        }
+    }
+
+    /// The program's number of the pointer to a type; 0 past the last one.
+    pub fn pointer_number(&self, ty: TypeId) -> TypeId
+        ensures { result ≡ get_or self.now.pointers ty 0 }
+    {
+        match self.pointers.list().get(ty.0 as usize) {
+            Some(number) => *number,
+            None => TypeId(0),
         }
     }
 }

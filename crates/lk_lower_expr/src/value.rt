@@ -51,7 +51,7 @@ pub fn slot_of(table: &TypeTable, names: &SourceNames, e: &TypedExpr) -> Option<
 }
 
 /// Whether a type is void; it is where the table has no type of that number.
-fn is_void(table: &TypeTable, ty: TypeId) -> bool
+pub(crate) fn is_void(table: &TypeTable, ty: TypeId) -> bool
     ensures { result ≡ counts.is_void (type_at table.now ty) }
 {
     if ty.0 >= table.count() {
@@ -72,7 +72,7 @@ fn is_void(table: &TypeTable, ty: TypeId) -> bool
 }
 
 /// Whether a type is of pointers.
-fn is_pointer(table: &TypeTable, ty: TypeId) -> bool
+pub(crate) fn is_pointer(table: &TypeTable, ty: TypeId) -> bool
     ensures { result ≡ rules.is_pointer (type_at table.now ty) }
 {
     if ty.0 >= table.count() {
