@@ -6,6 +6,10 @@ mod expressions;
 #[cfg(test)]
 mod lex;
 #[cfg(test)]
+mod ordinals;
+#[cfg(test)]
 mod texts;
+#[cfg(test)]
+mod units;
 #[cfg(test)]
 mod words;
