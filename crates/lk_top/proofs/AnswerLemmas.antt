@@ -1,15 +1,18 @@
 -- What the parts of an answer say of the whole.
-use Rattle.std.proofs.Common.{ℕ, ◌≡◌, ◌≤◌, List, Option, Some, None, length, refl}
+use Rattle.std.proofs.Common.{Vec, Global, ℕ, ◌≡◌, ◌≤◌, List, [], ◌∷◌, Option, Some, None, length, refl}
 use Rattle.std.specs.Option.{ForSome}
 use Rattle.lk_base.specs.declared.code.Code.TheVariants.{TooLong, Form}
 use Rattle.lk_io.specs.Shelf.{Held, IsLonger}
+use Rattle.lk_lex.specs.Answer.{AreTokens, IsRefused}
+use Rattle.lk_base.specs.declared.refusal.Refusal.{Refusal as BaseRefusal}
+use Rattle.lk_lex.specs.declared.token.Token.{Token}
 use Rattle.lk_form.specs.declared.tree.Program.{Program}
 use Rattle.lk_form.specs.Form.{IsOfForm}
 use Rattle.lk_top.specs.declared.answer.Answer.{Answer}
 use Rattle.lk_top.specs.declared.answer.Answer.TheVariants.{Report, Refusal, Unread}
-use Rattle.lk_top.specs.Outcome.{Refused, Judged, too_long, not_of_form, of_form, refusal_of}
+use Rattle.lk_top.specs.Outcome.{Refused, Judged, IsUnformed, no_tokens, tokens_alone, too_long, not_of_form, of_form, refusal_of}
 use Rattle.lk_top.specs.Run.{Shelved, IsAsBefore}
-use Rattle.lk_top.specs.Answer.{Reported, Refuses, Judges, Answers}
+use Rattle.lk_top.specs.Answer.{IsLineIn, Reported, Refuses, Unforms, Judges, Answers}
 
 pub judged_program : (name source : List ℕ) (program : Program) (answer : Answer) → length source ≤ 1048576 → IsOfForm 0 source program → Reported name program answer → Judges name source answer
 judged_program name source program (Report text status) short form (verdicts, are, text_is, status_is) =
@@ -17,10 +20,15 @@ judged_program name source program (Report text status) short form (verdicts, ar
 judged_program name source program (Refusal line) short form reported = absurd reported
 judged_program name source program (Unread line) short form reported = absurd reported
 
-pub judged_form : (name source : List ℕ) (answer : Answer) → length source ≤ 1048576 → ((program : Program) → IsOfForm 0 source program → ⊥) → Refuses name Form answer → Judges name source answer
+pub judged_form : (name source : List ℕ) (answer : Answer) → length source ≤ 1048576 → ((program : Program) → IsOfForm 0 source program → ⊥) → Unforms name source answer → Judges name source answer
 judged_form name source (Report text status) short none refuses = absurd refuses
-judged_form name source (Refusal line) short none refuses = (refusal_of Form, not_of_form short none, refuses)
+judged_form name source (Refusal line) short none (file, refusal, is, line_is) = (file, refusal, not_of_form file refusal short none is, line_is)
 judged_form name source (Unread line) short none refuses = absurd refuses
+
+pub form_refused : (name source : List ℕ) (answer : Answer) (tokens : List Token) (last : List (List ℕ)) → AreTokens (name ∷ []) 0 source last tokens → Refuses name Form answer → Unforms name source answer
+form_refused name source (Report text status) tokens last are refuses = absurd refuses
+form_refused name source (Refusal line) tokens last are refuses = (name, refusal_of Form, tokens_alone tokens last are refl refl, refuses)
+form_refused name source (Unread line) tokens last are refuses = absurd refuses
 
 longer : (name : List ℕ) (file : Option (List ℕ)) → IsLonger file 1048576 → (source : List ℕ) × (file ≡ Some source) × Judged name source (Refused name (refusal_of TooLong))
 longer name None long = absurd long
@@ -32,5 +40,9 @@ where_told name held long files e = longer name (files name) (long files e)
 pub answered_too_long : (name : List ℕ) (shelf : Shelved) (answer : Answer) → IsAsBefore shelf.faults → ForSome shelf.files (λ files. IsLonger (files name) 1048576) → Refuses name TooLong answer → Answers name shelf answer
 answered_too_long name shelf (Report text status) calm long refuses = absurd refuses
 answered_too_long name shelf (Refusal line) calm long refuses =
-    (calm, (refusal_of TooLong, refuses, where_told name shelf.files long))
+    (calm, (name, refusal_of TooLong, refuses, where_told name shelf.files long))
 answered_too_long name shelf (Unread line) calm long refuses = absurd refuses
+
+-- a source that the lexer refuses, with the line of that
+pub tokens_refused : (name source : List ℕ) (last : List (List ℕ)) (refusal : BaseRefusal) (line : Vec ℕ Global) → IsRefused (name ∷ []) 0 source last refusal → IsLineIn last refusal line.items → Unforms name source (Refusal line)
+tokens_refused name source last refusal line refused (file, at, line_is) = (file, refusal, no_tokens last refused at, line_is)

@@ -1,5 +1,5 @@
 -- What an answer says of the words, the shelf's files and its count of faults.
-use Rattle.std.specs.Prelude.{ℕ, ◌≡◌, true, List, Some}
+use Rattle.std.specs.Prelude.{ℕ, ◌≡◌, true, List, Some, slice_get}
 use Rattle.std.specs.Option.{ForSome}
 use Rattle.lk_base.specs.declared.code.Code.{Code}
 use Rattle.lk_base.specs.declared.refusal.Refusal.{Refusal}
@@ -8,7 +8,7 @@ use Rattle.lk_facts.specs.declared.verdict.Verdict.{Verdict}
 use Rattle.lk_top.specs.declared.answer.Answer.{Answer}
 use Rattle.lk_top.specs.declared.answer.Answer.TheVariants.{Report, Refusal as Refuse, Unread}
 use Rattle.lk_top.specs.Texts.{refused_line, unread_line}
-use Rattle.lk_top.specs.Outcome.{Refused, Verdicts, Judged, AreVerdictsOf, refusal_of, report_of}
+use Rattle.lk_top.specs.Outcome.{Refused, Verdicts, Judged, IsUnformed, AreVerdictsOf, refusal_of, report_of}
 use Rattle.lk_top.specs.Run.{Shelved, HasRisen, IsAsBefore, status_of, is_report}
 
 -- the report of the program's verdicts
@@ -24,12 +24,22 @@ Refuses name code (Report text status) = ⊥
 Refuses name code (Refuse line) = line.items ≡ refused_line name (refusal_of code)
 Refuses name code (Unread line) = ⊥
 
+-- the line of a refusal, with the name of the file in which its place stands
+abbrev pub IsLineIn : List (List ℕ) → Refusal → List ℕ → Type 0
+IsLineIn files refusal line = (file : List ℕ) × (slice_get files refusal.spot.file ≡ Some file) × (line ≡ refused_line file refusal)
+
+-- the line of the refusal of a source that is not of the form
+abbrev pub Unforms : List ℕ → List ℕ → Answer → Type 0
+Unforms name source (Report text status) = ⊥
+Unforms name source (Refuse line) = (file : List ℕ) × (refusal : Refusal) × IsUnformed name source file refusal × (line.items ≡ refused_line file refusal)
+Unforms name source (Unread line) = ⊥
+
 -- what the source of this name comes to
 abbrev pub Judges : List ℕ → List ℕ → Answer → Type 0
 Judges name source (Report text status) =
     (program : Program) × (verdicts : List Verdict) × Judged name source (Verdicts name program verdicts) × (text.items ≡ report_of name program verdicts) × (status ≡ status_of verdicts)
 Judges name source (Refuse line) =
-    (refusal : Refusal) × Judged name source (Refused name refusal) × (line.items ≡ refused_line name refusal)
+    (file : List ℕ) × (refusal : Refusal) × Judged name source (Refused file refusal) × (line.items ≡ refused_line file refusal)
 Judges name source (Unread line) = ⊥
 
 -- what the file of this name comes to
@@ -39,6 +49,6 @@ Answers name shelf (Report text status) =
     × ForSome shelf.files (λ files. (source : List ℕ) × (files name ≡ Some source) × Judges name source (Report text status))
 Answers name shelf (Refuse line) =
     IsAsBefore shelf.faults
-    × ((refusal : Refusal) × (line.items ≡ refused_line name refusal) × ForSome shelf.files (λ files. (source : List ℕ) × (files name ≡ Some source) × Judged name source (Refused name refusal)))
+    × ((file : List ℕ) × (refusal : Refusal) × (line.items ≡ refused_line file refusal) × ForSome shelf.files (λ files. (source : List ℕ) × (files name ≡ Some source) × Judged name source (Refused file refusal)))
 Answers name shelf (Unread line) =
     HasRisen shelf.faults × ForSome shelf.bad (λ told. told ≡ name) × (line.items ≡ unread_line name)

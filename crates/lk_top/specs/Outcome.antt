@@ -1,9 +1,11 @@
 -- What a command comes to: which of usage, a missing file, a refusal or verdicts.
-use Rattle.std.specs.Prelude.{ℕ, ◌≡◌, ◌<◌, ◌≤◌, List, [], length, Some, None}
+use Rattle.std.specs.Prelude.{ℕ, ◌≡◌, ◌<◌, ◌≤◌, List, [], ◌∷◌, length, slice_get, Some, None}
 use Rattle.lk_base.specs.declared.refusal.Refusal.{Refusal}
 use Rattle.lk_base.specs.declared.code.Code.{Code}
 use Rattle.lk_base.specs.declared.code.Code.TheVariants.{TooLong, Form}
 use Rattle.lk_io.specs.Shelf.{Held}
+use Rattle.lk_lex.specs.Answer.{AreTokens, IsRefused}
+use Rattle.lk_lex.specs.declared.token.Token.{Token}
 use Rattle.lk_form.specs.declared.tree.Program.{Program}
 use Rattle.lk_form.specs.Form.{IsOfForm}
 use Rattle.lk_facts.specs.declared.verdict.Verdict.{Verdict}
@@ -30,15 +32,22 @@ refusal_of code = record { code = code; spot = first_byte; name = [] }
 pub data Outcome : Type 0 where
   Usage : Outcome
   Missing : (name : List ℕ) → Outcome
-  Refused : (name : List ℕ) (refusal : Refusal) → Outcome
+  -- with the name of the file in which its place stands
+  Refused : (file : List ℕ) (refusal : Refusal) → Outcome
   Verdicts : (name : List ℕ) (program : Program) (verdicts : List Verdict) → Outcome
+
+-- Why a source that is not of the form is refused, and the name of the file in which the place of that stands: its bytes are no tokens of the
+-- subset, or a word among them is refused (C99 6.4); where neither is so, the form itself.
+pub data IsUnformed (name source file : List ℕ) (refusal : Refusal) : Type 0 where
+  no_tokens : (last : List (List ℕ)) → IsRefused (name ∷ []) 0 source last refusal → slice_get last refusal.spot.file ≡ Some file → IsUnformed name source file refusal
+  tokens_alone : (tokens : List Token) (last : List (List ℕ)) → AreTokens (name ∷ []) 0 source last tokens → file ≡ name → refusal ≡ refusal_of Form → IsUnformed name source file refusal
 
 -- what a source comes to
 pub data Judged (name source : List ℕ) : Outcome → Type 0 where
   -- more bytes than the sources of a command may have
   too_long : 1048576 < length source → Judged name source (Refused name (refusal_of TooLong))
   -- it is not of the form
-  not_of_form : length source ≤ 1048576 → ((program : Program) → IsOfForm 0 source program → ⊥) → Judged name source (Refused name (refusal_of Form))
+  not_of_form : (file : List ℕ) (refusal : Refusal) → length source ≤ 1048576 → ((program : Program) → IsOfForm 0 source program → ⊥) → IsUnformed name source file refusal → Judged name source (Refused file refusal)
   of_form : (program : Program) (verdicts : List Verdict) → length source ≤ 1048576 → IsOfForm 0 source program → AreVerdictsOf program verdicts → Judged name source (Verdicts name program verdicts)
 
 -- what words come to over these files: the first that applies

@@ -78,10 +78,10 @@ pub record Reports (words : List (List ℕ)) (files : Held) (out : Sunk) (ends :
 
 -- The words come to a refusal, and the error output has its line.
 pub record Refuses (words : List (List ℕ)) (files : Held) (err : Sunk) : Type 0 where
-  pub name : List ℕ
+  pub file : List ℕ
   pub refusal : Refusal
-  pub outcome : ComesTo words files (Refused name refusal)
-  pub line : Got err (refused_line name refusal)
+  pub outcome : ComesTo words files (Refused file refusal)
+  pub line : Got err (refused_line file refusal)
 
 -- The file of the command can't be read: the shelf's count rose, a told bad name is the file's, and the
 -- error output has the line with its name.
@@ -95,7 +95,7 @@ pub record Misses (words : List (List ℕ)) (shelf : Shelved) (err : Sunk) : Typ
 -- the lines that the error output may get where the output did not fail
 pub data Line (words : List (List ℕ)) (shelf : Shelved) : List ℕ → Type 0 where
   usage : command words ≡ None → Line words shelf usage_line
-  refused : (name : List ℕ) (refusal : Refusal) → ForSome shelf.files (λ files. ComesTo words files (Refused name refusal)) → Line words shelf (refused_line name refusal)
+  refused : (file : List ℕ) (refusal : Refusal) → ForSome shelf.files (λ files. ComesTo words files (Refused file refusal)) → Line words shelf (refused_line file refusal)
   unread : (name : List ℕ) → command words ≡ Some name → HasRisen shelf.faults → Line words shelf (unread_line name)
   no_memory : Line words shelf no_memory_line
 
@@ -132,7 +132,7 @@ AlwaysReports words files ends =
 -- a refusal is told, but for want of memory
 abbrev pub AlwaysRefuses : List (List ℕ) → Held → Status → Type 0
 AlwaysRefuses words files ends =
-    (name : List ℕ) (refusal : Refusal) → ComesTo words files (Refused name refusal) → IsOrNoMemory ends status.Refused
+    (file : List ℕ) (refusal : Refusal) → ComesTo words files (Refused file refusal) → IsOrNoMemory ends status.Refused
 
 -- the report is written
 abbrev pub is_report : Status → Bool

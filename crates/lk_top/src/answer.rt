@@ -1,17 +1,18 @@
 //! What a command comes to, before anything is written.
-ghost use Rattle.std.specs.Prelude.{◌≡◌, ◌≤◌, length, IfOk};
+ghost use Rattle.std.specs.Prelude.{◌≡◌, ◌<◌, ◌≤◌, [], ◌∷◌, length, IfOk};
 ghost use Rattle.lk_io.specs.Shelf.{IsFileName};
 ghost use Rattle.lk_form.specs.Form.{AreResolved};
 ghost use Rattle.lk_top.specs.Outcome.{refusal_of};
 ghost use Rattle.lk_top.specs.Run.{shelved, status_of};
-ghost use Rattle.lk_top.specs.Answer.{Reported, Refuses, Judges, Answers};
+ghost use Rattle.lk_top.specs.Answer.{IsLineIn, Reported, Refuses, Unforms, Judges, Answers};
 
 use crate::report::{has_suspect, report};
 use crate::texts::{FIRST_BYTE, refused_line, unread_line};
-use lk_base::{Code, LONGEST_SOURCES, Name, NameFault, NoMemory, Refusal, Status};
+use lk_base::{Code, Fault, Files, LONGEST_SOURCES, Name, NameFault, NoMemory, Refusal, Status};
 use lk_facts::{Facts, Verdict};
 use lk_form::{Program, read_program};
 use lk_io::{ReadFault, Shelf, read_whole};
+use lk_lex::tokens;
 use lk_lower::lower;
 use lk_solve::solve;
 use std::alloc::Global;
@@ -75,9 +76,53 @@ fn judge(alloc: Global, name: &[u8], source: &[u8]) -> Result<Answer, NoMemory>
             Ok(answer)
         }
         None => {
+            let answer = unformed(alloc, name, source)?;
+            Ok(answer)
+        }
+    }
+}
+
+/// The list of files that has the name of one alone.
+fn files_of(alloc: Global, name: &[u8]) -> Result<Files, NoMemory>
+    ensures { IfOk result (λ files. files ≡ name.now ∷ []) }
+{
+    match Name::from_bytes(alloc, name) {
+        Ok(name) => {
+            let mut files = Files::new(alloc);
+            files.put(name)?;
+            Ok(files)
+        }
+        Err(NameFault::TooLong | NameFault::NoMemory) => Err(NoMemory),
+    }
+}
+
+/// The line of a refusal whose place stands in one of the files.
+fn line_in(alloc: Global, files: &Files, refusal: &Refusal) -> Result<Vec<u8>, NoMemory>
+    requires { refusal.now.spot.file < length files.now }
+    ensures { IfOk result (λ line. IsLineIn files.now refusal.now line.items) }
+{
+    let Some(file) = files.get(refusal.spot.file) else {
+        unreachable!()
+    };
+    let line = refused_line(alloc, file.bytes(), refusal)?;
+    Ok(line)
+}
+
+/// What a source comes to that is not of the form: it is refused.
+fn unformed(alloc: Global, name: &[u8], source: &[u8]) -> Result<Answer, NoMemory>
+    requires { length source.now ≤ 1048576 }
+    ensures { IfOk result (λ answer. Unforms name.now source.now answer) }
+{
+    let mut files = files_of(alloc, name)?;
+    match tokens(alloc, source, FIRST_BYTE.file, &mut files) {
+        Ok(_) => {
             let answer = refuse(alloc, name, Code::Form)?;
             Ok(answer)
         }
+        Err(Fault::Refused(refusal)) => Ok(Answer::Refusal {
+            line: line_in(alloc, &files, &refusal)?,
+        }),
+        Err(Fault::NoMemory) => Err(NoMemory),
     }
 }
 

@@ -15,7 +15,7 @@ const SOURCES: &[(&str, bool)] = &[
     ),
     ("intmain(void) { return 0; }", false),
     ("", false),
-    // Comments, line marks and other bytes are outside the form.
+    // Comments, line marks and other bytes are outside the form; of these only the other bytes are no tokens.
     ("/* */ int main(void) { return 0; }", false),
     ("# 1 \"a.c\"\nint main(void) { return 0; }", false),
     ("int main(void) { return 0; }\u{0}", false),

@@ -34,11 +34,11 @@ pub fn run_on(alloc: Global, text: &str) -> Result<Ran, Fail> {
     run_over(alloc, &["check", "r.c"], &mut shelf)
 }
 
-/// Whether a source has verdicts, or is refused as not of the form.
+/// Whether a source has verdicts, or is refused: for its tokens, or as not of the form.
 pub fn is_read(rt: &impl Abort, alloc: Global, text: &str) -> Result<bool, Fail> {
     let ran = run_on(alloc, text)?;
     let refused = ran.status == Status::Refused;
-    assert!(rt; !refused || ran.err.bytes() == b"r.c:1:1: refused 19 Form\n".as_slice());
+    assert!(rt; !refused || ran.err.bytes().starts_with(b"r.c:"));
     assert!(rt; refused || ran.status == Status::Clean || ran.status == Status::Suspects);
     Ok(!refused)
 }

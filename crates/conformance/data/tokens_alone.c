@@ -1,0 +1,2 @@
+/* not of the form */ static int n = 1;
+int main(void) { return n; }
