@@ -60,7 +60,8 @@ fn plain_code(types: &TypeTable, left: &Typed, right: &Typed) -> Option<Code>
 fn back_code(types: &TypeTable, target: &ExprType, computed: &Option<Typed>) -> Option<Code>
     requires target { IsKnownType types.now target.now }
     requires computed { IfSome computed.now (IsOperand types.now) }
-    ensures { (x : Option Typing) → IsResult types.now computed.now x → result ≡ least_code (spec.back_codes (meaning_of types.now target.now) x) }
+    ensures { (x : Option Typing) → IsResult types.now computed.now x → result
+        ≡ least_code (spec.back_codes (meaning_of types.now target.now) x) }
 {
     match computed {
         Some(computed) => convert_code(types, target, computed),
@@ -91,7 +92,8 @@ fn computed_code(
     requires target { IsKnownType types.now target.now }
     requires first { IsOperand types.now a.now }
     requires second { IsOperand types.now b.now }
-    ensures { ForBoth types.now a.now b.now (λ x y. result ≡ least_code (spec.computed_codes (structs_in types.now structs.now) op (meaning_of types.now target.now) x y)) }
+    ensures { ForBoth types.now a.now b.now (λ x y. result ≡ least_code
+        (spec.computed_codes (structs_in types.now structs.now) op (meaning_of types.now target.now) x y)) }
 {
     let first = scalar_code(types, &a.ty);
     let second = scalar_code(types, &b.ty);
@@ -113,7 +115,8 @@ fn right_code(
     requires ready { IsReady types.now }
     requires left { IsOperand types.now left.now }
     requires right { IsOperand types.now right.now }
-    ensures { ForBoth types.now left.now right.now (λ x y. result ≡ least_code (spec.right_codes (structs_in types.now structs.now) op x y)) }
+    ensures { ForBoth types.now left.now right.now (λ x y.
+        result ≡ least_code (spec.right_codes (structs_in types.now structs.now) op x y)) }
 {
     match op {
         None => plain_code(types, left, right),
@@ -136,7 +139,8 @@ pub fn assign(
     requires ready { IsReady types.now }
     requires left { IsOperand types.now left.now }
     requires right { IsOperand types.now right.now }
-    ensures { ForBoth types.now left.now right.now (λ x y. IsVerdict types.now result (spec.assign_rule (structs_in types.now structs.now) op x y)) }
+    ensures { ForBoth types.now left.now right.now (λ x y.
+        IsVerdict types.now result (spec.assign_rule (structs_in types.now structs.now) op x y)) }
 {
     let place = code_if(!left.is_place, Code::NotAPlace);
     let by = operator_of(op);
@@ -162,7 +166,8 @@ fn converted_constant(kind: Kind, constant: Constant) -> Constant
 pub fn converted(types: &TypeTable, target: TypeId, v: &Typed) -> Typed
     requires ready { IsReady types.now }
     requires target { IsKnown types.now target }
-    ensures { ForEach types.now v.now (λ x. IsTyping types.now result (converted (meaning types.now target) x)) }
+    ensures { ForEach types.now v.now (λ x.
+        IsTyping types.now result (converted (meaning types.now target) x)) }
 {
     match form(types, target) {
         CType::Int(kind) => Typed::integer(*kind, converted_constant(*kind, v.constant)),
@@ -188,7 +193,8 @@ pub fn cast(types: &TypeTable, target: TypeId, e: &Typed) -> Verdict
     requires ready { IsReady types.now }
     requires target { IsKnown types.now target }
     requires operand { IsOperand types.now e.now }
-    ensures { ForEach types.now e.now (λ x. IsVerdict types.now result (spec.cast_rule (meaning types.now target) x)) }
+    ensures { ForEach types.now e.now (λ x.
+        IsVerdict types.now result (spec.cast_rule (meaning types.now target) x)) }
 {
     let v = value(types, e);
     let code = cast_code(types, &ExprType::Listed(target), &v);

@@ -42,7 +42,8 @@ fn chosen_integer(types: &TypeTable, c: Constant, a: &Typed, b: &Typed) -> Optio
 
 /// A value of a type, where that is taken.
 fn of_type_if(taken: bool, ty: ExprType) -> Option<Typed>
-    ensures { (table : Table) → IsKnownType table ty → IsResult table result (spec.if_taken taken (value_of_type (meaning_of table ty))) }
+    ensures { (table : Table) → IsKnownType table ty →
+        IsResult table result (spec.if_taken taken (value_of_type (meaning_of table ty))) }
 {
     if taken {
         Some(Typed::of_type(ty))
@@ -102,7 +103,8 @@ pub fn choice(types: &TypeTable, condition: &Typed, a: &Typed, b: &Typed) -> Ver
     requires condition { IsOperand types.now condition.now }
     requires first { IsOperand types.now a.now }
     requires second { IsOperand types.now b.now }
-    ensures { ForEach types.now condition.now (λ z. ForBoth types.now a.now b.now (λ x y. IsVerdict types.now result (spec.choice_rule z x y))) }
+    ensures { ForEach types.now condition.now (λ z.
+        ForBoth types.now a.now b.now (λ x y. IsVerdict types.now result (spec.choice_rule z x y))) }
 {
     let operand = condition_code(types, &condition.ty);
     let integer = chosen_integer(types, condition.constant, a, b);

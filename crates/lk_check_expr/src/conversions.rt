@@ -118,7 +118,8 @@ fn converts(types: &TypeTable, target: &ExprType, v: &Typed) -> bool
 fn is_integer_and_pointer(types: &TypeTable, target: &ExprType, v: &Typed) -> bool
     requires target { IsKnownType types.now target.now }
     requires value { IsOperand types.now v.now }
-    ensures { ForEach types.now v.now (λ x. result ≡ spec.is_integer_and_pointer (meaning_of types.now target.now) x) }
+    ensures { ForEach types.now v.now (λ x.
+        result ≡ spec.is_integer_and_pointer (meaning_of types.now target.now) x) }
 {
     !v.is_null
         && (is_integer(types, target) && !is_bool(types, target) && is_pointer(types, &v.ty)
@@ -142,7 +143,8 @@ fn are_two_pointers(types: &TypeTable, a: &ExprType, b: &ExprType) -> bool
 fn is_function_pointer_alone(types: &TypeTable, a: &ExprType, b: &ExprType) -> bool
     requires a { IsKnownType types.now a.now }
     requires b { IsKnownType types.now b.now }
-    ensures { result ≡ spec.is_function_pointer_alone (meaning_of types.now a.now) (meaning_of types.now b.now) }
+    ensures { result
+        ≡ spec.is_function_pointer_alone (meaning_of types.now a.now) (meaning_of types.now b.now) }
 {
     (is_function_pointer(types, a) || is_function_pointer(types, b)) && !are_same(types, a, b)
 }
@@ -152,7 +154,8 @@ fn is_function_pointer_alone(types: &TypeTable, a: &ExprType, b: &ExprType) -> b
 fn are_different_pointers(types: &TypeTable, target: &ExprType, ty: &ExprType) -> bool
     requires target { IsKnownType types.now target.now }
     requires value { IsKnownType types.now ty.now }
-    ensures { result ≡ spec.are_different_pointers (meaning_of types.now target.now) (meaning_of types.now ty.now) }
+    ensures { result
+        ≡ spec.are_different_pointers (meaning_of types.now target.now) (meaning_of types.now ty.now) }
 {
     are_two_pointers(types, target, ty) || is_function_pointer_alone(types, target, ty)
 }
@@ -200,7 +203,8 @@ fn named_code(
 pub fn convert_code(types: &TypeTable, target: &ExprType, v: &Typed) -> Option<Code>
     requires target { IsKnownType types.now target.now }
     requires value { IsOperand types.now v.now }
-    ensures { ForEach types.now v.now (λ x. result ≡ least_code (spec.conversion_codes (meaning_of types.now target.now) x)) }
+    ensures { ForEach types.now v.now (λ x.
+        result ≡ least_code (spec.conversion_codes (meaning_of types.now target.now) x)) }
 {
     let exists = converts(types, target, v);
     let integer_and_pointer = is_integer_and_pointer(types, target, v);
@@ -216,7 +220,8 @@ pub fn convert_code(types: &TypeTable, target: &ExprType, v: &Typed) -> Option<C
 pub fn cast_code(types: &TypeTable, target: &ExprType, v: &Typed) -> Option<Code>
     requires target { IsKnownType types.now target.now }
     requires value { IsOperand types.now v.now }
-    ensures { ForEach types.now v.now (λ x. result ≡ least_code (spec.cast_codes (meaning_of types.now target.now) x)) }
+    ensures { ForEach types.now v.now (λ x.
+        result ≡ least_code (spec.cast_codes (meaning_of types.now target.now) x)) }
 {
     if is_void(types, target) {
         if is_lock(types, &v.ty) {

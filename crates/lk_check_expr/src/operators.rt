@@ -65,7 +65,8 @@ pub(crate) fn condition_code(types: &TypeTable, ty: &ExprType) -> Option<Code>
 /// The code of an operand that must be a pointer to a complete object type.
 pub(crate) fn steppable_code(types: &TypeTable, structs: &[Members], ty: &ExprType) -> Option<Code>
     requires { IsKnownType types.now ty.now }
-    ensures { result ≡ least_code (must_be (spec.is_steppable (structs_in types.now structs.now)) (meaning_of types.now ty.now)) }
+    ensures { result ≡ least_code (must_be
+        (spec.is_steppable (structs_in types.now structs.now)) (meaning_of types.now ty.now)) }
 {
     let lock = is_lock(types, ty);
     let taken = is_steppable(types, structs, ty);
@@ -189,7 +190,8 @@ fn logical(types: &TypeTable, decides: bool, a: &Typed, b: &Typed) -> Option<Typ
 fn moved(types: &TypeTable, structs: &[Members], a: &Typed, b: &Typed) -> Option<Typed>
     requires first { IsOperand types.now a.now }
     requires second { IsOperand types.now b.now }
-    ensures { (to : Address) → ForBoth types.now a.now b.now (λ x y. IsResult types.now result (spec.moved_to to (structs_in types.now structs.now) x y)) }
+    ensures { (to : Address) → ForBoth types.now a.now b.now (λ x y.
+        IsResult types.now result (spec.moved_to to (structs_in types.now structs.now) x y)) }
 {
     if is_steppable(types, structs, &a.ty) && is_integer(types, &b.ty) {
         Some(Typed::of_type(a.ty))
@@ -203,7 +205,8 @@ fn distance(types: &TypeTable, structs: &[Members], a: &Typed, b: &Typed) -> Opt
     requires ready { IsReady types.now }
     requires first { IsOperand types.now a.now }
     requires second { IsOperand types.now b.now }
-    ensures { ForBoth types.now a.now b.now (λ x y. IsResult types.now result (spec.distance (structs_in types.now structs.now) x y)) }
+    ensures { ForBoth types.now a.now b.now (λ x y.
+        IsResult types.now result (spec.distance (structs_in types.now structs.now) x y)) }
 {
     if is_steppable(types, structs, &a.ty) && are_same_pointers(types, &a.ty, &b.ty) {
         Some(Typed::integer(Kind::Long, Constant::NotConstant))
@@ -254,7 +257,8 @@ fn are_comparable(types: &TypeTable, a: &Typed, b: &Typed) -> bool
 
 /// The first of two results that is there.
 pub(crate) fn either(first: Option<Typed>, second: Option<Typed>) -> Option<Typed>
-    ensures { (table : Table) (x y : Option Typing) → IsResult table first x → IsResult table second y → IsResult table result (spec.either x y) }
+    ensures { (table : Table) (x y : Option Typing) → IsResult table first x → IsResult table second y →
+        IsResult table result (spec.either x y) }
 {
     match first {
         Some(typed) => Some(typed),
@@ -267,7 +271,8 @@ fn sum(types: &TypeTable, structs: &[Members], a: &Typed, b: &Typed) -> Option<T
     requires ready { IsReady types.now }
     requires first { IsOperand types.now a.now }
     requires second { IsOperand types.now b.now }
-    ensures { ForBoth types.now a.now b.now (λ x y. IsResult types.now result (spec.sum (structs_in types.now structs.now) x y)) }
+    ensures { ForBoth types.now a.now b.now (λ x y.
+        IsResult types.now result (spec.sum (structs_in types.now structs.now) x y)) }
 {
     let integer = at_common_kind(types, Op::Add, a, b);
     let pointer = moved(types, structs, a, b);
@@ -279,7 +284,8 @@ fn difference(types: &TypeTable, structs: &[Members], a: &Typed, b: &Typed) -> O
     requires ready { IsReady types.now }
     requires first { IsOperand types.now a.now }
     requires second { IsOperand types.now b.now }
-    ensures { ForBoth types.now a.now b.now (λ x y. IsResult types.now result (spec.difference (structs_in types.now structs.now) x y)) }
+    ensures { ForBoth types.now a.now b.now (λ x y.
+        IsResult types.now result (spec.difference (structs_in types.now structs.now) x y)) }
 {
     let integer = at_common_kind(types, Op::Subtract, a, b);
     let pointer = moved(types, structs, a, b);
@@ -326,7 +332,8 @@ pub(crate) fn result_of(
     requires first { IsOperand types.now a.now }
     requires second { IsOperand types.now b.now }
     requires shifts { IsOfShifts row }
-    ensures { ForBoth types.now a.now b.now (λ x y. IsResult types.now result (spec.result_of (structs_in types.now structs.now) row x y)) }
+    ensures { ForBoth types.now a.now b.now (λ x y.
+        IsResult types.now result (spec.result_of (structs_in types.now structs.now) row x y)) }
 {
     match row {
         BinaryRow::Logical(decides) => logical(types, decides, a, b),
@@ -350,7 +357,8 @@ pub fn binary(
     requires ready { IsReady types.now }
     requires first { IsOperand types.now a.now }
     requires second { IsOperand types.now b.now }
-    ensures { ForBoth types.now a.now b.now (λ x y. IsVerdict types.now result (spec.binary_rule (structs_in types.now structs.now) op x y)) }
+    ensures { ForBoth types.now a.now b.now (λ x y.
+        IsVerdict types.now result (spec.binary_rule (structs_in types.now structs.now) op x y)) }
 {
     let first = scalar_code(types, &a.ty);
     let second = scalar_code(types, &b.ty);

@@ -65,7 +65,8 @@ fn pointed(types: &TypeTable, target: TypeId) -> Option<Typed>
 /// What `*` gives, where its operand is a pointer.
 fn indirect(types: &TypeTable, target: Option<TypeId>) -> Option<Typed>
     requires { IfSome target (IsKnown types.now) }
-    ensures { (x : Typing) → IsResult types.now result (spec.indirect x (option_map (meaning types.now) target)) }
+    ensures { (x : Typing) → IsResult types.now result
+        (spec.indirect x (option_map (meaning types.now) target)) }
 {
     match target {
         Some(target) => pointed(types, target),
@@ -86,7 +87,8 @@ fn indirection(types: &TypeTable, e: &Typed) -> Verdict
 
 /// What an operator gives of an integer of this kind, after the promotions.
 fn at_promoted_kind(op: UnaryOp, e: &Typed, kind: Option<Kind>) -> Option<Typed>
-    ensures { (table : Table) → IsReady table → ForEach table e.now (λ x. IsResult table result (spec.at_promoted_kind op x kind)) }
+    ensures { (table : Table) → IsReady table → ForEach table e.now (λ x.
+        IsResult table result (spec.at_promoted_kind op x kind)) }
 {
     match kind {
         Some(kind) => {
@@ -111,7 +113,8 @@ fn arithmetic(types: &TypeTable, op: UnaryOp, e: &Typed) -> Verdict
 
 /// What `!` gives of a value that may be a condition: of a pointer it is no constant.
 fn not_of(e: &Typed, kind: Option<Kind>) -> Typed
-    ensures { (table : Table) → IsReady table → ForEach table e.now (λ x. IsTyping table result (spec.not_of x kind)) }
+    ensures { (table : Table) → IsReady table → ForEach table e.now (λ x.
+        IsTyping table result (spec.not_of x kind)) }
 {
     match kind {
         Some(kind) => {
@@ -178,7 +181,8 @@ pub fn prefix(types: &TypeTable, op: PrefixOperator, e: &Typed) -> Verdict
 
 /// What an element is: a place.
 fn element(target: Option<TypeId>) -> Option<Typed>
-    ensures { (table : Table) (x y : Typing) → IfSome target (IsKnown table) → IsResult table result (spec.element_of x y (option_map (meaning table) target)) }
+    ensures { (table : Table) (x y : Typing) → IfSome target (IsKnown table) →
+        IsResult table result (spec.element_of x y (option_map (meaning table) target)) }
 {
     match target {
         Some(target) => Some(Typed {
@@ -195,7 +199,8 @@ fn element(target: Option<TypeId>) -> Option<Typed>
 pub fn index(types: &TypeTable, structs: &[Members], e: &Typed, i: &Typed) -> Verdict
     requires left { IsOperand types.now e.now }
     requires inner { IsOperand types.now i.now }
-    ensures { ForBoth types.now e.now i.now (λ x y. IsVerdict types.now result (spec.index_rule (structs_in types.now structs.now) x y)) }
+    ensures { ForBoth types.now e.now i.now (λ x y.
+        IsVerdict types.now result (spec.index_rule (structs_in types.now structs.now) x y)) }
 {
     let left = steppable_code(types, structs, &e.ty);
     let inner = integer_code(types, &i.ty);
@@ -216,7 +221,8 @@ fn is_counted(types: &TypeTable, structs: &[Members], ty: &ExprType) -> bool
 /// `++` or `--`, on either side, of a place that holds an integer or a pointer to a complete object type.
 pub fn step(types: &TypeTable, structs: &[Members], e: &Typed) -> Verdict
     requires { IsOperand types.now e.now }
-    ensures { ForEach types.now e.now (λ x. IsVerdict types.now result (spec.step_rule (structs_in types.now structs.now) x)) }
+    ensures { ForEach types.now e.now (λ x.
+        IsVerdict types.now result (spec.step_rule (structs_in types.now structs.now) x)) }
 {
     let place = code_if(!e.is_place, Code::NotAPlace);
     let lock = is_lock(types, &e.ty);

@@ -35,7 +35,8 @@ pub struct Typed {
 impl Typed {
     /// A value of this type that is no constant.
     pub fn of_type(ty: ExprType) -> Typed
-        ensures { (table : Table) → IsKnownType table ty → IsTyping table result (spec.value_of_type (meaning_of table ty)) }
+        ensures { (table : Table) → IsKnownType table ty →
+            IsTyping table result (spec.value_of_type (meaning_of table ty)) }
     {
         Typed {
             ty,

@@ -22,7 +22,8 @@ pub(crate) fn reading(
     on: u32,
 ) -> Result<Step, NoMemory>
     requires { AreFew names.now }
-    ensures { IfOk result (λ is. is ≡ rules.reading (names_of table.now names.now) (part_in table.now names.now place.now) on) }
+    ensures { IfOk result (λ is.
+        is ≡ rules.reading (names_of table.now names.now) (part_in table.now names.now place.now) on) }
 {
     let does = read_of(table, names, place)?;
     step(
@@ -45,7 +46,8 @@ pub(crate) fn writing(
     on: u32,
 ) -> Result<Step, NoMemory>
     requires { AreFew names.now }
-    ensures { IfOk result (λ is. is ≡ rules.writing (names_of table.now names.now) (part_in table.now names.now place.now) value on) }
+    ensures { IfOk result (λ is. is
+        ≡ rules.writing (names_of table.now names.now) (part_in table.now names.now place.now) value on) }
 {
     let does = write_of(table, names, place, value)?;
     step(alloc, does, None, place.spot, on)
@@ -62,7 +64,8 @@ pub(crate) fn assign_steps(
     on: u32,
 ) -> Result<Vec<Step>, NoMemory>
     requires { AreFew names.now }
-    ensures { IfOk result (λ steps. steps.items ≡ (rules.assign_part (names_of table.now names.now) (node_of e.now)
+    ensures { IfOk result (λ steps.
+        steps.items ≡ (rules.assign_part (names_of table.now names.now) (node_of e.now)
         (part_in table.now names.now place.now) (part_in table.now names.now value.now)).steps on) }
 {
     let value = value_of(table, names, value)?;

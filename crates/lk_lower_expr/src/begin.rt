@@ -21,7 +21,8 @@ fn place_first(
     node: u32,
 ) -> Result<u32, NoMemory>
     requires { AreFew names.now }
-    ensures { IfOk result (λ point. point ≡ begun.place_first (names_of table.now names.now) (part_in table.now names.now place.now) node) }
+    ensures { IfOk result (λ point. point
+        ≡ begun.place_first (names_of table.now names.now) (part_in table.now names.now place.now) node) }
 {
     match slot_of(table, names, place) {
         None => first_of(table, names, place),
@@ -39,7 +40,8 @@ fn operands_first(
     node: u32,
 ) -> Result<u32, NoMemory>
     requires { AreFew names.now }
-    ensures { IfOk result (λ point. point ≡ parts.first_of (map (part_in table.now names.now) operands.now) (at_of names.now node 0)) }
+    ensures { IfOk result (λ point.
+        point ≡ parts.first_of (map (part_in table.now names.now) operands.now) (at_of names.now node 0)) }
 {
     match operands.first() {
         None => Ok(names.at(node, 0)),

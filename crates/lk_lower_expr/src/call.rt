@@ -44,8 +44,10 @@ pub(crate) fn call_steps(
     on: u32,
 ) -> Result<Vec<Step>, NoMemory>
     requires { AreFew names.now }
-    ensures { IfOk result (λ steps. steps.items ≡ (calls.call_part (names_of table.now names.now) (node_of e.now)
-        (callee_part (names_of table.now names.now) callee.now) (map (part_in table.now names.now) operands.now)).steps on) }
+    ensures { IfOk result (λ steps.
+        steps.items ≡ (calls.call_part (names_of table.now names.now) (node_of e.now)
+        (callee_part (names_of table.now names.now) callee.now)
+        (map (part_in table.now names.now) operands.now)).steps on) }
 {
     let args = values_of(alloc, table, names, operands)?;
     let gives = value_type(table, names, e.ty);
@@ -71,7 +73,8 @@ pub(crate) fn extern_steps(
     on: u32,
 ) -> Result<Vec<Step>, NoMemory>
     requires { AreFew names.now }
-    ensures { IfOk result (λ steps. steps.items ≡ (calls.extern_part (names_of table.now names.now) (node_of e.now)
+    ensures { IfOk result (λ steps.
+        steps.items ≡ (calls.extern_part (names_of table.now names.now) (node_of e.now)
         (map (part_in table.now names.now) operands.now)).steps on) }
 {
     let does = Action::Compute {

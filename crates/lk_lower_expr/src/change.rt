@@ -29,7 +29,8 @@ fn converting(
     ty: TypeId,
     on: u32,
 ) -> Result<Step, NoMemory>
-    ensures { IfOk result (λ is. is ≡ rules.converting (names_of table.now names.now) (node_of e.now) value ty on) }
+    ensures { IfOk result (λ is.
+        is ≡ rules.converting (names_of table.now names.now) (node_of e.now) value ty on) }
 {
     let does = Action::Convert {
         a: value,
@@ -48,7 +49,8 @@ fn computing(
     ty: TypeId,
     on: u32,
 ) -> Result<Step, NoMemory>
-    ensures { IfOk result (λ is. is ≡ parts.step does (parts.value_of (names_of table.now names.now) ty) e.now.spot on) }
+    ensures { IfOk result (λ is.
+        is ≡ parts.step does (parts.value_of (names_of table.now names.now) ty) e.now.spot on) }
 {
     step(alloc, does, value_type(table, names, ty), e.spot, on)
 }
@@ -66,7 +68,8 @@ fn alike_steps(
     on: u32,
 ) -> Result<Vec<Step>, NoMemory>
     requires { AreFew names.now }
-    ensures { IfOk result (λ steps. steps.items ≡ (rules.compound_alike (names_of table.now names.now) (node_of e.now) op
+    ensures { IfOk result (λ steps.
+        steps.items ≡ (rules.compound_alike (names_of table.now names.now) (node_of e.now) op
         (part_in table.now names.now place.now) (part_in table.now names.now value.now) ty).steps on) }
 {
     let node = e.ordinal;
@@ -97,7 +100,8 @@ fn converted_steps(
     on: u32,
 ) -> Result<Vec<Step>, NoMemory>
     requires { AreFew names.now }
-    ensures { IfOk result (λ steps. steps.items ≡ (rules.compound_converted (names_of table.now names.now) (node_of e.now) op
+    ensures { IfOk result (λ steps.
+        steps.items ≡ (rules.compound_converted (names_of table.now names.now) (node_of e.now) op
         (part_in table.now names.now place.now) (part_in table.now names.now value.now) ty).steps on) }
 {
     let node = e.ordinal;
@@ -146,7 +150,8 @@ pub(crate) fn compound_steps(
     on: u32,
 ) -> Result<Vec<Step>, NoMemory>
     requires { AreFew names.now }
-    ensures { IfOk result (λ steps. steps.items ≡ (rules.compound_part (names_of table.now names.now) (node_of e.now) op
+    ensures { IfOk result (λ steps.
+        steps.items ≡ (rules.compound_part (names_of table.now names.now) (node_of e.now) op
         (part_in table.now names.now place.now) (part_in table.now names.now value.now) ty).steps on) }
 {
     if place.ty == ty {
@@ -169,7 +174,8 @@ fn plain_steps(
     on: u32,
 ) -> Result<Vec<Step>, NoMemory>
     requires { AreFew names.now }
-    ensures { IfOk result (λ steps. steps.items ≡ (rules.step_plain (names_of table.now names.now) (node_of e.now) op After
+    ensures { IfOk result (λ steps.
+        steps.items ≡ (rules.step_plain (names_of table.now names.now) (node_of e.now) op After
         (part_in table.now names.now place.now) ty).steps on) }
 {
     let node = e.ordinal;
@@ -199,7 +205,8 @@ fn wide_steps(
     on: u32,
 ) -> Result<Vec<Step>, NoMemory>
     requires { AreFew names.now }
-    ensures { IfOk result (λ steps. steps.items ≡ (rules.step_wide (names_of table.now names.now) (node_of e.now) op After
+    ensures { IfOk result (λ steps.
+        steps.items ≡ (rules.step_wide (names_of table.now names.now) (node_of e.now) op After
         (part_in table.now names.now place.now) ty).steps on) }
 {
     let node = e.ordinal;
@@ -238,7 +245,8 @@ fn narrow_steps(
     on: u32,
 ) -> Result<Vec<Step>, NoMemory>
     requires { AreFew names.now }
-    ensures { IfOk result (λ steps. steps.items ≡ (rules.step_narrow (names_of table.now names.now) (node_of e.now) op After
+    ensures { IfOk result (λ steps.
+        steps.items ≡ (rules.step_narrow (names_of table.now names.now) (node_of e.now) op After
         (part_in table.now names.now place.now) ty).steps on) }
 {
     let node = e.ordinal;
@@ -286,7 +294,8 @@ pub(crate) fn change_steps(
     on: u32,
 ) -> Result<Vec<Step>, NoMemory>
     requires { AreFew names.now }
-    ensures { IfOk result (λ steps. steps.items ≡ (rules.step_part (names_of table.now names.now) (node_of e.now) operator After
+    ensures { IfOk result (λ steps.
+        steps.items ≡ (rules.step_part (names_of table.now names.now) (node_of e.now) operator After
         (part_in table.now names.now place.now) ty).steps on) }
 {
     let op = operator_of(operator);

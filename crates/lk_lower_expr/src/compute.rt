@@ -23,7 +23,8 @@ pub(crate) fn object_steps(
     storage: Storage,
     on: u32,
 ) -> Result<Vec<Step>, NoMemory>
-    ensures { IfOk result (λ steps. steps.items ≡ (rules.object_part (names_of table.now names.now) (node_of e.now) storage).steps on) }
+    ensures { IfOk result (λ steps.
+        steps.items ≡ (rules.object_part (names_of table.now names.now) (node_of e.now) storage).steps on) }
 {
     let does = Action::Root(names.object_number(storage));
     one_step(alloc, does, Some(names.pointer_number(e.ty)), e.spot, on)
@@ -37,7 +38,8 @@ pub(crate) fn text_steps(
     e: &TypedExpr,
     on: u32,
 ) -> Result<Vec<Step>, NoMemory>
-    ensures { IfOk result (λ steps. steps.items ≡ (rules.text_part (names_of table.now names.now) (node_of e.now)).steps on) }
+    ensures { IfOk result (λ steps.
+        steps.items ≡ (rules.text_part (names_of table.now names.now) (node_of e.now)).steps on) }
 {
     let does = Action::Text(names.node_number(e.ordinal));
     one_step(alloc, does, Some(names.pointer_number(e.ty)), e.spot, on)
@@ -54,7 +56,8 @@ pub(crate) fn member_steps(
     on: u32,
 ) -> Result<Vec<Step>, NoMemory>
     requires { AreFew names.now }
-    ensures { IfOk result (λ steps. steps.items ≡ (rules.member_part (names_of table.now names.now) (node_of e.now)
+    ensures { IfOk result (λ steps.
+        steps.items ≡ (rules.member_part (names_of table.now names.now) (node_of e.now)
         (part_in table.now names.now inner.now) member).steps on) }
 {
     let a = value_of(table, names, inner)?;
@@ -73,7 +76,8 @@ pub(crate) fn index_steps(
     on: u32,
 ) -> Result<Vec<Step>, NoMemory>
     requires { AreFew names.now }
-    ensures { IfOk result (λ steps. steps.items ≡ (rules.index_part (names_of table.now names.now) (node_of e.now)
+    ensures { IfOk result (λ steps.
+        steps.items ≡ (rules.index_part (names_of table.now names.now) (node_of e.now)
         (part_in table.now names.now pointer.now) (part_in table.now names.now index.now)).steps on) }
 {
     let a = value_of(table, names, pointer)?;
@@ -91,7 +95,8 @@ pub(crate) fn number_steps(
     number: i128,
     on: u32,
 ) -> Result<Vec<Step>, NoMemory>
-    ensures { IfOk result (λ steps. steps.items ≡ (rules.number_part (names_of table.now names.now) (node_of e.now) number).steps on) }
+    ensures { IfOk result (λ steps.
+        steps.items ≡ (rules.number_part (names_of table.now names.now) (node_of e.now) number).steps on) }
 {
     let does = Action::Value {
         number,
@@ -109,7 +114,8 @@ pub(crate) fn function_steps(
     entity: u32,
     on: u32,
 ) -> Result<Vec<Step>, NoMemory>
-    ensures { IfOk result (λ steps. steps.items ≡ (rules.function_part (names_of table.now names.now) (node_of e.now) entity).steps on) }
+    ensures { IfOk result (λ steps. steps.items
+        ≡ (rules.function_part (names_of table.now names.now) (node_of e.now) entity).steps on) }
 {
     let does = Action::Func {
         function: names.entity_number(entity),
@@ -125,7 +131,8 @@ pub(crate) fn null_steps(
     e: &TypedExpr,
     on: u32,
 ) -> Result<Vec<Step>, NoMemory>
-    ensures { IfOk result (λ steps. steps.items ≡ (rules.null_part (names_of table.now names.now) (node_of e.now)).steps on) }
+    ensures { IfOk result (λ steps.
+        steps.items ≡ (rules.null_part (names_of table.now names.now) (node_of e.now)).steps on) }
 {
     let does = Action::Null {
         ty: names.type_number(e.ty),
@@ -144,7 +151,8 @@ pub(crate) fn unary_steps(
     on: u32,
 ) -> Result<Vec<Step>, NoMemory>
     requires { AreFew names.now }
-    ensures { IfOk result (λ steps. steps.items ≡ (rules.unary_part (names_of table.now names.now) (node_of e.now) op
+    ensures { IfOk result (λ steps.
+        steps.items ≡ (rules.unary_part (names_of table.now names.now) (node_of e.now) op
         (part_in table.now names.now inner.now)).steps on) }
 {
     let a = value_of(table, names, inner)?;
@@ -164,7 +172,8 @@ pub(crate) fn binary_steps(
     on: u32,
 ) -> Result<Vec<Step>, NoMemory>
     requires { AreFew names.now }
-    ensures { IfOk result (λ steps. steps.items ≡ (rules.binary_part (names_of table.now names.now) (node_of e.now) op
+    ensures { IfOk result (λ steps.
+        steps.items ≡ (rules.binary_part (names_of table.now names.now) (node_of e.now) op
         (part_in table.now names.now left.now) (part_in table.now names.now right.now)).steps on) }
 {
     let a = value_of(table, names, left)?;

@@ -25,7 +25,8 @@ pub(crate) fn load_step(
 ) -> Result<Step, NoMemory>
     requires { AreFew names.now }
     ensures { IfOk result (λ is. is ≡ parts.step
-        (parts.reads (names_of table.now names.now) (part_in table.now names.now place.now).slot (part_in table.now names.now place.now).value)
+        (parts.reads (names_of table.now names.now) (part_in table.now names.now place.now).slot
+        (part_in table.now names.now place.now).value)
         (parts.value_of (names_of table.now names.now) e.now.ty) e.now.spot on) }
 {
     let does = read_of(table, names, place)?;
@@ -43,7 +44,8 @@ pub(crate) fn convert_step(
 ) -> Result<Step, NoMemory>
     requires { AreFew names.now }
     ensures { IfOk result (λ is. is ≡ parts.step
-        (does.Convert (part_in table.now names.now value.now).value ((names_of table.now names.now).type e.now.ty))
+        (does.Convert (part_in table.now names.now value.now).value
+        ((names_of table.now names.now).type e.now.ty))
         (parts.value_of (names_of table.now names.now) e.now.ty) e.now.spot on) }
 {
     let does = Action::Convert {
@@ -64,7 +66,8 @@ pub(crate) fn element_step(
     on: u32,
 ) -> Result<Step, NoMemory>
     requires { AreFew names.now }
-    ensures { IfOk result (λ is. is ≡ parts.step (does.Index (part_in table.now names.now array.now).value zero true)
+    ensures { IfOk result (λ is.
+        is ≡ parts.step (does.Index (part_in table.now names.now array.now).value zero true)
         (parts.value_of (names_of table.now names.now) e.now.ty) e.now.spot on) }
 {
     let does = Action::Index {

@@ -38,7 +38,8 @@ fn push_truths(
 ) -> Result<(), NoMemory>
     requires { AreFew names.now }
     ensures { OnOk result (steps.new.items ≡ steps.old.items ++
-        rules.truths (at_of names.now e.now.ordinal) (get_or names.now.by_node e.now.ordinal 0) (node_of e.now) on) }
+        rules.truths (at_of names.now e.now.ordinal) (get_or names.now.by_node e.now.ordinal 0)
+        (node_of e.now) on) }
 {
     let node = e.ordinal;
     let int = TypeId::of_kind(Kind::Int);
@@ -123,7 +124,9 @@ fn void_steps(
     on: u32,
 ) -> Result<Vec<Step>, NoMemory>
     requires { AreFew names.now }
-    ensures { IfOk result (λ steps. steps.items ≡ (rules.void_choice (names_of table.now names.now) (node_of e.now) (part_in table.now names.now condition.now)
+    ensures { IfOk result (λ steps.
+        steps.items ≡ (rules.void_choice (names_of table.now names.now) (node_of e.now)
+        (part_in table.now names.now condition.now)
         (part_in table.now names.now taken.now) (part_in table.now names.now other.now)).steps on) }
 {
     let c = value_of(table, names, condition)?;
@@ -145,7 +148,9 @@ fn value_steps(
     on: u32,
 ) -> Result<Vec<Step>, NoMemory>
     requires { AreFew names.now }
-    ensures { IfOk result (λ steps. steps.items ≡ (rules.value_choice (names_of table.now names.now) (node_of e.now) (part_in table.now names.now condition.now)
+    ensures { IfOk result (λ steps.
+        steps.items ≡ (rules.value_choice (names_of table.now names.now) (node_of e.now)
+        (part_in table.now names.now condition.now)
         (part_in table.now names.now taken.now) (part_in table.now names.now other.now)).steps on) }
 {
     let slot = names.node_number(e.ordinal);
@@ -179,7 +184,9 @@ pub(crate) fn choice_steps(
     on: u32,
 ) -> Result<Vec<Step>, NoMemory>
     requires { AreFew names.now }
-    ensures { IfOk result (λ steps. steps.items ≡ (rules.choice_part (names_of table.now names.now) (node_of e.now) (part_in table.now names.now condition.now)
+    ensures { IfOk result (λ steps.
+        steps.items ≡ (rules.choice_part (names_of table.now names.now) (node_of e.now)
+        (part_in table.now names.now condition.now)
         (part_in table.now names.now taken.now) (part_in table.now names.now other.now)).steps on) }
 {
     if e.ty.0 >= table.count() {

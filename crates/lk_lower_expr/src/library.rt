@@ -42,7 +42,9 @@ pub(crate) fn create_steps(
     on: u32,
 ) -> Result<Vec<Step>, NoMemory>
     requires { AreFew names.now }
-    ensures { IfOk result (λ steps. steps.items ≡ (calls.create_part (names_of table.now names.now) (node_of e.now) (part_in table.now names.now id.now)
+    ensures { IfOk result (λ steps.
+        steps.items ≡ (calls.create_part (names_of table.now names.now) (node_of e.now)
+        (part_in table.now names.now id.now)
         entity (part_in table.now names.now argument.now)).steps on) }
 {
     let does = Action::Create {
@@ -72,7 +74,9 @@ pub(crate) fn wait_steps(
     on: u32,
 ) -> Result<Vec<Step>, NoMemory>
     requires { AreFew names.now }
-    ensures { IfOk result (λ steps. steps.items ≡ (calls.wait_part (names_of table.now names.now) (node_of e.now) (part_in table.now names.now cond.now)
+    ensures { IfOk result (λ steps.
+        steps.items ≡ (calls.wait_part (names_of table.now names.now) (node_of e.now)
+        (part_in table.now names.now cond.now)
         (part_in table.now names.now mutex.now)).steps on) }
 {
     let mutex = value_of(table, names, mutex)?;
@@ -98,8 +102,10 @@ pub(crate) fn allocate_steps(
     zero: bool,
     on: u32,
 ) -> Result<Vec<Step>, NoMemory>
-    ensures { IfOk result (λ steps. steps.items ≡ parts.step (does.Allocate ((names_of table.now names.now).type ty) count zero
-        ((names_of table.now names.now).heap e.now.ordinal)) (parts.value_of (names_of table.now names.now) e.now.ty) e.now.spot on ∷ []) }
+    ensures { IfOk result (λ steps.
+        steps.items ≡ parts.step (does.Allocate ((names_of table.now names.now).type ty) count zero
+        ((names_of table.now names.now).heap e.now.ordinal))
+        (parts.value_of (names_of table.now names.now) e.now.ty) e.now.spot on ∷ []) }
 {
     let does = Action::Allocate {
         ty: names.type_number(ty),
@@ -121,7 +127,8 @@ pub(crate) fn equal_steps(
     on: u32,
 ) -> Result<Vec<Step>, NoMemory>
     requires { AreFew names.now }
-    ensures { IfOk result (λ steps. steps.items ≡ (calls.equal_part (names_of table.now names.now) (node_of e.now)
+    ensures { IfOk result (λ steps.
+        steps.items ≡ (calls.equal_part (names_of table.now names.now) (node_of e.now)
         (part_in table.now names.now a.now) (part_in table.now names.now b.now)).steps on) }
 {
     let a = value_of(table, names, a)?;
@@ -145,7 +152,8 @@ pub(crate) fn scan_step(
     on: u32,
 ) -> Result<Step, NoMemory>
     requires { AreFew names.now }
-    ensures { IfOk result (λ is. is ≡ calls.scan (names_of table.now names.now) (part_in table.now names.now text.now) gives on) }
+    ensures { IfOk result (λ is.
+        is ≡ calls.scan (names_of table.now names.now) (part_in table.now names.now text.now) gives on) }
 {
     let does = Action::Scan(value_of(table, names, text)?);
     step(alloc, does, gives, text.spot, on)
@@ -161,7 +169,8 @@ pub(crate) fn scan_steps(
     on: u32,
 ) -> Result<Vec<Step>, NoMemory>
     requires { AreFew names.now }
-    ensures { IfOk result (λ steps. steps.items ≡ (calls.scan_part (names_of table.now names.now) (node_of e.now)
+    ensures { IfOk result (λ steps.
+        steps.items ≡ (calls.scan_part (names_of table.now names.now) (node_of e.now)
         (part_in table.now names.now text.now)).steps on) }
 {
     let gives = value_type(table, names, e.ty);

@@ -54,7 +54,8 @@ pub(crate) fn int_step(
     number: i128,
     on: u32,
 ) -> Result<Step, NoMemory>
-    ensures { IfOk result (λ is. is ≡ parts.step (does.Value number (kind_id IntKind)) (Some (kind_id IntKind)) e.now.spot on) }
+    ensures { IfOk result (λ is.
+        is ≡ parts.step (does.Value number (kind_id IntKind)) (Some (kind_id IntKind)) e.now.spot on) }
 {
     let int = TypeId::of_kind(Kind::Int);
     let does = Action::Value { number, ty: int };

@@ -280,7 +280,8 @@ fn behind(
     more: u32,
 ) -> Result<u32, NoMemory>
     requires { AreFew names.now }
-    ensures { IfOk result (λ point. point ≡ at_of names.now node ((part_in table.now names.now inner.now).count + more)) }
+    ensures { IfOk result (λ point.
+        point ≡ at_of names.now node ((part_in table.now names.now inner.now).count + more)) }
 {
     let count = count_of(table, names, inner)?;
     let step = with_more(count, more)?;
