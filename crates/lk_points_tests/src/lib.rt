@@ -6,6 +6,8 @@ mod begins;
 #[cfg(test)]
 mod labels;
 #[cfg(test)]
+mod places;
+#[cfg(test)]
 mod samples;
 #[cfg(test)]
 mod texts;

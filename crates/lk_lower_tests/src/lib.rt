@@ -1,0 +1,5 @@
+//! Tests of the control points of bodies.
+#![tactic(auto)]
+
+#[cfg(test)]
+mod expressions;
