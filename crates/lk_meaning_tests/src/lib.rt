@@ -9,6 +9,8 @@ mod cells;
 #[cfg(test)]
 mod machine;
 #[cfg(test)]
+mod runs;
+#[cfg(test)]
 mod scenes;
 #[cfg(test)]
 mod steps;
