@@ -150,6 +150,14 @@ fn points_of(alloc: Global, numbers: &[u32]) -> Result<Vec<Point>, NoMemory> {
     Ok(points)
 }
 
+/// A name.
+fn name(alloc: Global) -> Result<Name, NoMemory> {
+    match Name::from_bytes(alloc, b"f") {
+        Ok(name) => Ok(name),
+        Err(_) => Err(NoMemory),
+    }
+}
+
 /// A function with this number: it has one slot, its parameter, and gives a pointer.
 fn function(alloc: Global, number: u32) -> Result<Function, NoMemory> {
     let mut parameters = Vec::new(alloc);
@@ -157,7 +165,7 @@ fn function(alloc: Global, number: u32) -> Result<Function, NoMemory> {
     let mut slots = Vec::new(alloc);
     slots.push(POINTER)?;
     Ok(Function {
-        name: Name::from_bytes(alloc, b"f")?,
+        name: name(alloc)?,
         root: number,
         entry: 0,
         exit: 0,
@@ -183,7 +191,7 @@ fn root(alloc: Global, number: u32) -> Result<Root, NoMemory> {
         kind: RootKind::Function,
         ty: CODE,
         spot: spot(),
-        name: Name::from_bytes(alloc, b"f")?,
+        name: name(alloc)?,
         function: Some(number),
         point: None,
         bytes: Seq::new(Vec::new(alloc)),
