@@ -1,4 +1,4 @@
-//! Tests of what is made from points over the types of C: labels, the first state, and the text of a place.
+//! Tests of what is made from points over the types of C: labels, the first state, the locations of cells, and the texts of reports.
 #![tactic(auto)]
 
 #[cfg(test)]
