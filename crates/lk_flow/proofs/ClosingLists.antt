@@ -19,7 +19,8 @@ use Rattle.lk_flow.specs.Closing.{AreEnds, Base, IsClosing, Next}
 use Rattle.lk_flow.specs.Closing.Next.{targets as next_targets, inside as next_inside, results as next_results, parameters as next_parameters}
 use Rattle.lk_flow.specs.Counting.{AnyOf, MainAt, RowAt, ValueAt}
 use Rattle.lk_flow.specs.Growing.{Adds, Joins}
-use Rattle.lk_flow.proofs.Finders.{adds_kept, contains_got, got_contains, joins_two}
+use Rattle.lk_flow.proofs.Finders.{adds_kept, joins_two}
+use Rattle.lk_label.proofs.WalkSteps.{contains_got, got_contains}
 
 module _ (program : Program) where
   base_edge : (u v : LabelName) (m : Mark) → Base program u v m → IsEdge program u v m

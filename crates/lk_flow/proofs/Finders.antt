@@ -2,7 +2,8 @@
 use Rattle.std.proofs.Common.{◌≡◌, ◌↔◌, ℕ, zero, suc, ◌⊎◌, List, [], ◌∷◌, ◌++◌, Option, Some, None, Contains, inl, inr, sym, ap, ◌∙◌, subst}
 use Rattle.std.specs.Prelude.{slice_get}
 use Rattle.std.proofs.lemmas.List.Elements.{Contains-append_left, Contains-push, Contains-push_cases}
-use Rattle.std.proofs.lemmas.Option.{none-some, same_Some, slice_get-get_or, slice_get_within, get_or_from_slice_get}
+use Rattle.std.proofs.lemmas.Option.{none-some, same_Some}
+use Rattle.lk_label.proofs.WalkSteps.{contains_got, got_contains}
 use Rattle.lk_facts.specs.Paths.{edge_of}
 use Rattle.lk_facts.specs.Places.{AreDifferent, IsPut}
 use Rattle.lk_facts.specs.Places.IsPut.{there as was_there, added as added_last}
@@ -11,12 +12,6 @@ use Rattle.lk_facts.specs.declared.edge.Mark.{Mark}
 use Rattle.lk_facts.specs.declared.label_entry.LabelName.{LabelName}
 use Rattle.lk_flow.specs.Finding.{Finds, FindsFrom}
 use Rattle.lk_flow.specs.Growing.{Adds, IsPair, Joins}
-
-pub contains_got : {X : Type 0} (xs : List X) (i : ℕ) (x : X) → slice_get xs i ≡ Some x → Contains xs x
-contains_got xs i x at = (i, slice_get_within xs i x at, get_or_from_slice_get xs i x x at)
-
-pub got_contains : {X : Type 0} (xs : List X) (x : X) → (there : Contains xs x) → slice_get xs there.0 ≡ Some x
-got_contains xs x there = slice_get-get_or xs there.0 x there.1 ∙ ap Some there.2
 
 got_early : {X : Type 0} (xs ys : List X) (i : ℕ) (x : X) → slice_get xs i ≡ Some x → slice_get (xs ++ ys) i ≡ Some x
 got_early [] ys i x at = absurd (none-some x at)

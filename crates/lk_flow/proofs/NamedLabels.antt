@@ -18,24 +18,17 @@ use Rattle.lk_facts.specs.declared.root.Root.{Root as RootOf}
 use Rattle.lk_facts.specs.declared.root.Holder.TheVariants.{Root}
 use Rattle.lk_types.specs.Nodes.{IsNode, first, node_of, step}
 use Rattle.lk_types.specs.declared.node.Base.TheVariants.{Start}
-use Rattle.lk_types.specs.declared.c_type.CType.{CType}
 use Rattle.lk_types.specs.declared.node.NodeId.{NodeId}
 use Rattle.lk_types.specs.declared.node.Sel.{Sel}
-use Rattle.lk_types.specs.declared.node.Sel.TheVariants.{Target, Element, Field, Part}
+use Rattle.lk_types.specs.declared.node.Sel.TheVariants.{Target}
 use Rattle.lk_types.proofs.PathLemmas.{equal_nodes_have_equal_ids}
 use Rattle.lk_flow.specs.Finding.{Finds, FindsPart, FindsTarget}
 use Rattle.lk_flow.specs.Finding.FindsTarget.{nowhere as leads_nowhere, somewhere}
-use Rattle.lk_flow.proofs.Finders.{contains_got, got_contains}
+use Rattle.lk_label.proofs.WalkSteps.{contains_got, got_contains}
+use Rattle.lk_laws.proofs.EdgeEnds.{inside_to_place}
 
 pub name_equal : (h : Holder) (n : NodeId) (x : LabelName) → x.holder ≡ h → x.node ≡ n → x ≡ name_with h n
 name_equal h n x holder node = λ i. record { holder = holder i; node = node i }
-
--- a step into a part leads to a place
-pub inside_to_place : (form : CType) (s : Sel) → leads_inside form s ≡ true → leads_to_place form s ≡ true
-inside_to_place form Target is = refl
-inside_to_place form Element is = refl
-inside_to_place form (Field k) is = is
-inside_to_place form (Part t) is = refl
 
 module _ (program : Program) (labels : LabelTable) (are : AreLabels program labels) where
   -- the label of a value or place that is one, where nothing else is so named

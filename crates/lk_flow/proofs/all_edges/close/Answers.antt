@@ -2,7 +2,7 @@ use Rattle.std.proofs.Common.{arith}
 use Rattle.std.proofs.lemmas.Option.{slice_get_within}
 use Rattle.lk_flow.specs.Closing.{AreEnds}
 use Rattle.lk_flow.proofs.ClosingLists.{closing_more, closing_all}
-use Rattle.lk_flow.proofs.Finders.{contains_got}
+use Rattle.lk_label.proofs.WalkSteps.{contains_got}
 use Rattle.lk_flow.proofs.all_edges.close.Goals as goal
 
 pub follow-requires-clause-from : goal.follow-requires-clause-from
