@@ -2,6 +2,7 @@ pub mod Addresses
 pub mod Assignments
 pub mod Bounds
 pub mod Calls
+pub mod Codes
 pub mod Constants
 pub mod Conversions
 pub mod DeclarationRules
@@ -16,9 +17,12 @@ pub mod HolderRules
 pub mod InitialiserRules
 pub mod Initialisers
 pub mod Labels
+pub mod Laws
 pub mod Layers
 pub mod Library
+pub mod Meaning
 pub mod MemberRules
+pub mod Names
 pub mod NodeParts
 pub mod NodeRules
 pub mod Nodes
@@ -36,5 +40,6 @@ pub mod Told
 pub mod Ty
 pub mod TypeWords
 pub mod Typing
+pub mod Typings
 pub mod Units
 pub mod Words
