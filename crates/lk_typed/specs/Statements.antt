@@ -106,12 +106,12 @@ stmt_adds s env = (statement s env).additions
 -- ---- a switch
 
 -- the value of a case, converted to the promoted type of the switch (C99 6.8.4.2, 5)
-abbrev case_value : Option Kind → Option Constant → Option ℤ
+abbrev pub case_value : Option Kind → Option Constant → Option ℤ
 case_value None value = None
 case_value (Some k) None = None
 case_value (Some k) (Some c) = option_map (convert (promoted k)) (known_value c)
 
-abbrev found_case : Option Kind → Case → CaseFound
+abbrev pub found_case : Option Kind → Case → CaseFound
 found_case kind c = record { ordinal = c.ordinal; value = case_value kind c.value }
 
 abbrev kind_in : Option Ty → Option Kind

@@ -1,0 +1,7 @@
+mod Told
+mod Sizes
+mod Made
+mod MemberSizes
+mod CaseLemmas
+mod MainLemmas
+mod FieldLemmas

@@ -1,0 +1,42 @@
+//! The checker of types and faults, its layer of declarations and statements: the rules of specifiers, declarators, members,
+//! enumerators, declared names, initialisers and statements over values (C99 6.7, 6.8, 6.9).
+//!
+//! A rule takes the table of types, what is known of the structs, and types by their numbers, a type missing where
+//! something that it needs is faulty. It answers the least code of those that hold, or the type that is made.
+#![tactic(auto)]
+
+mod arrays;
+mod breaches;
+mod declarators;
+mod enumerators;
+mod initialisers;
+mod making;
+mod members;
+mod names;
+mod statements;
+mod storages;
+mod switches;
+mod words;
+
+pub use arrays::{ArraySize, MOST_ELEMENTS, array_code, array_count};
+pub use declarators::{
+    definition_code, function_code, parameter_code, parameter_name_code, pointer_code,
+};
+pub use enumerators::{next_code, next_value, written_code, written_value};
+pub use initialisers::{
+    Braces, Seen, Target, entry_target, entry_type, expression_code, list_code, list_size,
+    size_code, text_size,
+};
+pub use making::{adjusted, array_of, function_of, pointer_to};
+pub use members::{member_code, with_member};
+pub use names::{NameUse, meaning_of, named_code, object_code, use_code, waits_for_end};
+pub use statements::{condition_code, dropped_code, return_code, return_value_code, switch_code};
+pub use storages::{
+    defines_of, has_extern, has_static, has_typedef, linkage_of, may_have, may_lack_size,
+    specifier_code,
+};
+pub use switches::{
+    CaseValue, Label, Switch, break_code, case_code, case_value, continue_code, default_code,
+    goto_code, label_code,
+};
+pub use words::{Given, Holder, Scope};

@@ -1,0 +1,58 @@
+//! The rules of members (C99 6.7.2.1).
+ghost use Rattle.std.specs.Prelude.{◌≡◌, false, List, map, is_some};
+ghost use Rattle.lk_types.specs.Sizes.{is_too_large};
+ghost use Rattle.lk_types.specs.Table.{Table, IsKnown};
+ghost use Rattle.lk_typed.specs.Env.{Env, Field as SpecField, field_of};
+ghost use Rattle.lk_typed.specs.Meaning.{meaning};
+ghost use Rattle.lk_typed.specs.MemberRules as spec;
+ghost use Rattle.lk_typed.specs.Typings.{field_in, structs_in};
+ghost use Rattle.lk_check_decl.specs.Breaches.{told};
+ghost use Rattle.lk_check_decl.specs.Making.{AreFields};
+ghost use Rattle.lk_check_decl.specs.Members.{size_with, types_of, IsWithMember};
+
+use crate::breaches::unless;
+use lk_base::{Code, Name};
+use lk_typed::{Field, Members, is_complete, lesser};
+use lk_types::{TypeId, TypeSize, TypeTable};
+
+/// Whether one of the members has this name.
+fn has_field(fields: &[Field], name: &Name) -> bool
+    ensures { (table : Table) → result ≡ is_some (field_of (map (field_in table) fields.now) name.now) }
+{
+    for field in fields {
+        if field.name == *name {
+            return true;
+        }
+    }
+    false
+}
+
+/// The code of a member's name: 21 where the struct has one before it, 25 where its type is incomplete, `void` or a function
+/// (C99 6.7.2.1, 2). `before` are the members before it.
+pub fn member_code(
+    types: &TypeTable,
+    structs: &[Members],
+    before: &[Field],
+    name: &Name,
+    t: TypeId,
+) -> Option<Code>
+    requires { IsKnown types.now t }
+    ensures { (env : Env) → env.structs ≡ structs_in types.now structs.now → result
+        ≡ told (spec.member_rules env (map (field_in types.now) before.now) name.now (meaning types.now t)) }
+{
+    let again = unless(!has_field(before, name), Code::Redeclared);
+    let incomplete = unless(is_complete(types, structs, t), Code::Incomplete);
+    lesser(again, incomplete)
+}
+
+/// The size of a struct with one more member, or nothing exactly where code 32 holds at the member's declarator. `size` is
+/// that of the struct with the members before it, `TypeSize::START` where there are none.
+pub fn with_member(types: &TypeTable, size: TypeSize, t: TypeId) -> Option<TypeSize>
+    requires known { IsKnown types.now t }
+    requires small { is_too_large size ≡ false }
+    ensures { (env : Env) (before : List SpecField) → AreFields types.now (spec.fields_in env) →
+        size ≡ size_with env (types_of before) → IsWithMember env before (meaning types.now t) result }
+{
+    types.is_table();
+    types.with_field(size, t)
+}
