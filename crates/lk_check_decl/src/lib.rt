@@ -28,7 +28,7 @@ pub use initialisers::{
     size_code, text_size,
 };
 pub use making::{adjusted, array_of, function_of, pointer_to};
-pub use members::{member_code, with_member};
+pub use members::{has_bit_field, member_code, with_member};
 pub use names::{NameUse, meaning_of, named_code, object_code, use_code, waits_for_end};
 pub use statements::{condition_code, dropped_code, return_code, return_value_code, switch_code};
 pub use storages::{

@@ -1,8 +1,10 @@
 //! The rules of members (C99 6.7.2.1).
 ghost use Rattle.std.specs.Prelude.{◌≡◌, false, List, map, is_some};
+ghost use Rattle.lk_tree.specs.declared.expression.MemberDeclarator.{out-MemberDeclarator};
 ghost use Rattle.lk_types.specs.Sizes.{is_too_large};
 ghost use Rattle.lk_types.specs.Table.{Table, IsKnown};
 ghost use Rattle.lk_typed.specs.Env.{Env, Field as SpecField, field_of};
+ghost use Rattle.lk_typed.specs.HolderRules.{has_bit_field, is_bit_field};
 ghost use Rattle.lk_typed.specs.Meaning.{meaning};
 ghost use Rattle.lk_typed.specs.MemberRules as spec;
 ghost use Rattle.lk_typed.specs.Typings.{field_in, structs_in};
@@ -12,6 +14,7 @@ ghost use Rattle.lk_check_decl.specs.Members.{size_with, types_of, IsWithMember}
 
 use crate::breaches::unless;
 use lk_base::{Code, Name};
+use lk_tree::MemberDeclarator;
 use lk_typed::{Field, Members, is_complete, lesser};
 use lk_types::{TypeId, TypeSize, TypeTable};
 
@@ -55,4 +58,26 @@ pub fn with_member(types: &TypeTable, size: TypeSize, t: TypeId) -> Option<TypeS
 {
     types.is_table();
     types.with_field(size, t)
+}
+
+/// Whether a declarator of a member is a bit-field.
+fn is_bit_field(declarator: &MemberDeclarator) -> bool
+    ensures { result ≡ is_bit_field (out-MemberDeclarator declarator.now) }
+{
+    match declarator {
+        MemberDeclarator::Plain(_) => false,
+        MemberDeclarator::Field(_, _) | MemberDeclarator::Unnamed(_) => true,
+    }
+}
+
+/// Whether one of a member's declarators is a bit-field, which is code 30 at the member (C99 6.7.2.1, 8).
+pub fn has_bit_field(declarators: &[MemberDeclarator]) -> bool
+    ensures { result ≡ has_bit_field declarators.now }
+{
+    for declarator in declarators {
+        if is_bit_field(declarator) {
+            return true;
+        }
+    }
+    false
 }
