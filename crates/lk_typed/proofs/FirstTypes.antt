@@ -27,7 +27,7 @@ kind_first kind.LLong more = refl
 kind_first kind.ULLong more = refl
 
 module _ (table : Table) (ready : IsReady table) where
-  first_got : (n : ℕ) (form : CType) → slice_get (predeclared ++ ready.predeclared.0) n ≡ Some form → slice_get table.types n ≡ Some form
+  pub first_got : (n : ℕ) (form : CType) → slice_get (predeclared ++ ready.predeclared.0) n ≡ Some form → slice_get table.types n ≡ Some form
   first_got n form got = ap (λ types. slice_get types n) ready.predeclared.1 ∙ got
 
   kind_got : (k : Kind) → slice_get table.types (kind_id k) ≡ Some (forms.Int k)

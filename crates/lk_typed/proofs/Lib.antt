@@ -4,3 +4,4 @@ pub mod Meanings
 pub mod Means
 pub mod SameTrees
 pub mod Verdicts
+pub mod Redeclarable

@@ -12,7 +12,7 @@ use Rattle.lk_typed.specs.Meaning.{meaning}
 use Rattle.lk_typed.proofs.Meanings.{more_same, function_same}
 use Rattle.lk_typed.proofs.Means.{trees_differ}
 
-same_kind : (j k : Kind) → is_same_kind j k ≡ true → j ≡ k
+pub same_kind : (j k : Kind) → is_same_kind j k ≡ true → j ≡ k
 same_kind kind.Bool kind.Bool e = refl
 same_kind kind.Bool _ e = absurd (false≢true e)
 same_kind kind.Char kind.Char e = refl
@@ -38,7 +38,7 @@ same_kind kind.LLong _ e = absurd (false≢true e)
 same_kind kind.ULLong kind.ULLong e = refl
 same_kind kind.ULLong _ e = absurd (false≢true e)
 
-kind_itself : (k : Kind) → is_same_kind k k ≡ true
+pub kind_itself : (k : Kind) → is_same_kind k k ≡ true
 kind_itself kind.Bool = refl
 kind_itself kind.Char = refl
 kind_itself kind.SChar = refl
@@ -52,20 +52,20 @@ kind_itself kind.ULong = refl
 kind_itself kind.LLong = refl
 kind_itself kind.ULLong = refl
 
-same_flag : (a b : Bool) → beq a b ≡ true → a ≡ b
+pub same_flag : (a b : Bool) → beq a b ≡ true → a ≡ b
 same_flag true true e = refl
 same_flag true false e = absurd (false≢true e)
 same_flag false true e = absurd (false≢true e)
 same_flag false false e = refl
 
-flag_itself : (a : Bool) → beq a a ≡ true
+pub flag_itself : (a : Bool) → beq a a ≡ true
 flag_itself true = refl
 flag_itself false = refl
 
-number_itself : (n : ℕ) → nat_eq n n ≡ true
+pub number_itself : (n : ℕ) → nat_eq n n ≡ true
 number_itself n = grind arith
 
-both_hold : {a b : Bool} → a ≡ true → b ≡ true → a && b ≡ true
+pub both_hold : {a b : Bool} → a ≡ true → b ≡ true → a && b ≡ true
 both_hold p q = rw p (rw q refl)
 
 -- ---- each type is the same as itself
@@ -147,7 +147,7 @@ mutual
 
 -- ---- numbers
 
-by_both : (a b : Bool) → (a ≡ true → b ≡ true) → (b ≡ true → a ≡ true) → a ≡ b
+pub by_both : (a b : Bool) → (a ≡ true → b ≡ true) → (b ≡ true → a ≡ true) → a ≡ b
 by_both true b p q = sym (p refl)
 by_both false true p q = q refl
 by_both false false p q = refl

@@ -1,0 +1,4 @@
+pub mod Environments
+pub mod KnownScopes
+pub mod LastPlaces
+pub mod TellingRules

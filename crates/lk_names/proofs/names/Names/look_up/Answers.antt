@@ -1,0 +1,16 @@
+use Rattle.std.proofs.Common.{◌∙◌, ap}
+use Rattle.std.specs.Option.{option_copied}
+use Rattle.lk_typed.specs.Env.{is_name, latest}
+use Rattle.lk_typed.specs.Names.{IsKnownName}
+use Rattle.lk_names.proofs.Environments.{looked_up}
+use Rattle.lk_names.proofs.KnownScopes.{found_known}
+use Rattle.lk_names.proofs.names.Names.look_up.Goals as goal
+
+pub returns-clause-env : goal.returns-clause-env
+returns-clause-env c table rest =
+    looked_up table rest c.args.self.now c.args.name.now (option_copied c.look_up.result) (c.look_up.ensures ∙ ap (λ s. latest (λ d. is_name d.name c.args.name.now) s.declared) c.self.view_is)
+
+pub returns-clause-known : goal.returns-clause-known
+returns-clause-known c table known =
+    found_known (IsKnownName table) (λ d. is_name d.name c.args.name.now) c.args.self.now.declared known.names (option_copied c.look_up.result)
+    (c.look_up.ensures ∙ ap (λ s. latest (λ d. is_name d.name c.args.name.now) s.declared) c.self.view_is)

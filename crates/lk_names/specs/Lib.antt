@@ -1,0 +1,7 @@
+pub mod Again
+pub mod Places
+pub mod InScope
+pub mod Growing
+pub mod Uses
+pub mod Laws
+pub mod Words

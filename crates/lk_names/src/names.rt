@@ -1,0 +1,223 @@
+//! The names, tags and structs in scope.
+ghost use Rattle.std.specs.Prelude.{◌≡◌, ◌<◌, ◌++◌, ◌∷◌, [], length, drop, slice_get, slice_set};
+ghost use Rattle.std.specs.Prelude.{OnOk, OnErr, IfOk, IfSome};
+ghost use Rattle.std.specs.Option.{option_copied, option_map};
+ghost use Rattle.lk_types.specs.Table.{Table};
+ghost use Rattle.lk_typed.specs.Env as spec;
+ghost use Rattle.lk_typed.specs.Env.{Env, Begins, Completes, is_name, latest};
+ghost use Rattle.lk_typed.specs.Names.{declared_in, tag_in, IsKnownName};
+ghost use Rattle.lk_typed.specs.Told.{steps};
+ghost use Rattle.lk_typed.specs.Typings.{members_in, HasKnownFields};
+ghost use Rattle.lk_typed.specs.declared.members.Members.TheVariants.{NotYet};
+ghost use Rattle.lk_names.specs.InScope.{env_in, nothing_in_scope, HasStruct, IsKnownScope};
+ghost use Rattle.lk_names.specs.Growing.{Adds, Enters, Leaves, IsMarkOf, left, name_added, tag_added};
+
+use crate::scopes::{Named, Scopes};
+use lk_base::{Name, NoMemory, Seq};
+use lk_typed::{Declared, Members, Tag};
+use std::alloc::Global;
+use std::marker::Model;
+
+impl Named for Declared {
+    ghost name_of = { λ declared. declared.name };
+
+    fn name(&self) -> &Name {
+        &self.name
+    }
+}
+
+impl Named for Tag {
+    ghost name_of = { λ tag. tag.name };
+
+    fn name(&self) -> &Name {
+        &self.name
+    }
+}
+
+/// The names, tags and structs in scope at a place of a source.
+#[derive(Drop)]
+pub struct Names {
+    declared: Scopes<Declared>,
+    tags: Scopes<Tag>,
+    structs: Seq<Members>,
+}
+
+impl Model for Names {
+    ghost use Rattle.lk_names.specs.InScope.{InScope};
+
+    ghost Value = { InScope };
+
+    ghost view = { λ names. record {
+      declared = names.declared.0;
+      base = names.declared.1;
+      tags = names.tags.0;
+      tag_base = names.tags.1;
+      structs = names.structs;
+    } };
+}
+
+/// Where the scope began in which another one was entered.
+#[derive(Drop)]
+pub struct Mark {
+    base: usize,
+    tag_base: usize,
+}
+
+impl Names {
+    /// File scope, with nothing in it. It takes no memory.
+    pub fn new(alloc: Global) -> Names
+        ensures value { result ≡ nothing_in_scope }
+        ensures known { (table : Table) → IsKnownScope table result }
+    {
+        Names {
+            declared: Scopes::new(alloc),
+            tags: Scopes::new(alloc),
+            structs: Seq::new(Vec::new(alloc)),
+        }
+    }
+
+    /// The innermost declaration of a name that is no tag (C99 6.2.1, 4).
+    pub fn look_up(&self, name: &Name) -> Option<&Declared>
+        ensures value { option_copied result ≡ latest (λ d. is_name d.name name.now) self.now.declared }
+        ensures env { (table : Table) (rest : Env) →
+            option_map (declared_in table) (option_copied result) ≡
+            spec.look_up (env_in table rest self.now) name.now }
+        ensures known { (table : Table) → IsKnownScope table self.now →
+            IfSome (option_copied result) (IsKnownName table) }
+    {
+        self.declared.look_up(name)
+    }
+
+    /// The latest declaration of a name that is no tag in the innermost scope.
+    pub fn look_up_here(&self, name: &Name) -> Option<&Declared>
+        ensures value { option_copied result ≡
+            latest (λ d. is_name d.name name.now) (drop self.now.base self.now.declared) }
+        ensures env { (table : Table) (rest : Env) →
+            option_map (declared_in table) (option_copied result) ≡
+            spec.look_up_here (env_in table rest self.now) name.now }
+        ensures known { (table : Table) → IsKnownScope table self.now →
+            IfSome (option_copied result) (IsKnownName table) }
+    {
+        self.declared.look_up_here(name)
+    }
+
+    /// The innermost declaration of a tag.
+    pub fn look_up_tag(&self, name: &Name) -> Option<&Tag>
+        ensures value { option_copied result ≡ latest (λ tag. is_name tag.name name.now) self.now.tags }
+        ensures env { (table : Table) (rest : Env) →
+            option_map tag_in (option_copied result) ≡
+            spec.look_up_tag (env_in table rest self.now) name.now }
+        ensures known { (table : Table) → IsKnownScope table self.now →
+            IfSome (option_copied result) (λ tag. HasStruct (length self.now.structs) tag.meaning) }
+    {
+        self.tags.look_up(name)
+    }
+
+    /// The latest declaration of a tag in the innermost scope.
+    pub fn look_up_tag_here(&self, name: &Name) -> Option<&Tag>
+        ensures value { option_copied result ≡
+            latest (λ tag. is_name tag.name name.now) (drop self.now.tag_base self.now.tags) }
+        ensures env { (table : Table) (rest : Env) →
+            option_map tag_in (option_copied result) ≡
+            spec.look_up_tag_here (env_in table rest self.now) name.now }
+        ensures known { (table : Table) → IsKnownScope table self.now →
+            IfSome (option_copied result) (λ tag. HasStruct (length self.now.structs) tag.meaning) }
+    {
+        self.tags.look_up_here(name)
+    }
+
+    /// The structs of the source by their numbers.
+    pub fn structs(&self) -> &[Members]
+        ensures { result.now ≡ self.now.structs }
+    {
+        self.structs.list()
+    }
+
+    /// What is known of the members of a struct.
+    pub fn members(&self, s: u32) -> &Members
+        requires { s < length self.now.structs }
+        ensures { slice_get self.now.structs s ≡ Some result.now }
+    {
+        &self.structs.list()[s as usize]
+    }
+
+    /// Declares a name that is no tag in the innermost scope. Where no memory is found all is as before.
+    pub fn declare(&mut self, declared: Declared) -> Result<(), NoMemory>
+        ensures ok { OnOk result (self.new ≡
+            record self.old { declared = self.old.declared ++ declared ∷ [] }) }
+        ensures adds { OnOk result
+            (Adds self.old self.new (λ table. name_added (declared_in table declared))) }
+        ensures known { OnOk result ((table : Table) →
+            IsKnownScope table self.old → IsKnownName table declared → IsKnownScope table self.new) }
+        ensures err { OnErr result (self.new ≡ self.old) }
+    {
+        self.declared.push(declared)?;
+        Ok(())
+    }
+
+    /// Declares a tag in the innermost scope. Where no memory is found all is as before.
+    pub fn put_tag(&mut self, tag: Tag) -> Result<(), NoMemory>
+        ensures ok { OnOk result (self.new ≡ record self.old { tags = self.old.tags ++ tag ∷ [] }) }
+        ensures adds { OnOk result (Adds self.old self.new (λ table. tag_added (tag_in tag))) }
+        ensures known { OnOk result ((table : Table) → IsKnownScope table self.old →
+            HasStruct (length self.old.structs) tag.meaning → IsKnownScope table self.new) }
+        ensures err { OnErr result (self.new ≡ self.old) }
+    {
+        self.tags.push(tag)?;
+        Ok(())
+    }
+
+    /// The number of a new struct, of whose members nothing is known. Where no memory is found, or the numbers are
+    /// used up, all is as before.
+    pub fn begin_struct(&mut self) -> Result<u32, NoMemory>
+        ensures number { IfOk result (λ s. s ≡ length self.old.structs) }
+        ensures ok { OnOk result (self.new ≡ record self.old { structs = self.old.structs ++ NotYet ∷ [] }) }
+        ensures adds { OnOk result (Adds self.old self.new (λ table. steps (Begins ∷ []))) }
+        ensures known { OnOk result ((table : Table) →
+            IsKnownScope table self.old → IsKnownScope table self.new) }
+        ensures err { OnErr result (self.new ≡ self.old) }
+    {
+        let Ok(number) = u32::try_from(self.structs.len()) else {
+            return Err(NoMemory);
+        };
+        self.structs.push(Members::NotYet)?;
+        Ok(number)
+    }
+
+    /// From here on a struct has these members.
+    pub fn set_members(&mut self, s: u32, members: Members)
+        requires { s < length self.old.structs }
+        ensures value { self.new ≡ record self.old { structs = slice_set self.old.structs s members } }
+        ensures adds { Adds self.old self.new (λ table. steps (Completes s (members_in table members) ∷ [])) }
+        ensures known { (table : Table) → IsKnownScope table self.old → HasKnownFields table members →
+            IsKnownScope table self.new }
+    {
+        self.structs.set(s as usize, members);
+    }
+
+    /// Begins a scope. `leave` takes the mark back.
+    pub fn enter(&mut self) -> Mark
+        ensures mark { (table : Table) (rest : Env) → IsMarkOf result (env_in table rest self.old) }
+        ensures value { self.new ≡
+            record self.old { base = length self.old.declared; tag_base = length self.old.tags } }
+        ensures enters { Enters self.old self.new }
+        ensures known { (table : Table) → IsKnownScope table self.old → IsKnownScope table self.new }
+    {
+        Mark {
+            base: self.declared.enter(),
+            tag_base: self.tags.enter(),
+        }
+    }
+
+    /// Ends the scope that was begun when the mark was given: its names and tags are gone, and those that they hid
+    /// are in sight again. Structs stay, so that no number stands for two.
+    pub fn leave(&mut self, mark: Mark)
+        ensures value { self.new ≡ left mark self.old }
+        ensures leaves { Leaves mark self.old self.new }
+        ensures known { (table : Table) → IsKnownScope table self.old → IsKnownScope table self.new }
+    {
+        let Mark { base, tag_base } = mark;
+        self.declared.leave(base);
+        self.tags.leave(tag_base);
+    }
+}
