@@ -27,9 +27,8 @@ module _ (tables : Tables) where
     function : {ordinal e : ℕ} → IsEntityAt tables ordinal e → IsPointerTo (FunctionAddress ordinal) (begins.Function e)
     object : {position : Position} {ordinal e : ℕ} → position.anchor ≡ AtObject ordinal → IsEntityAt tables ordinal e →
         IsPointerTo (Inside position) (begins.Address e (reached position).steps (reached position).is_past)
-    -- an element of a literal; the literal as a whole has no such value
-    text : {position : Position} {ordinal i : ℕ} → position.anchor ≡ AtText ordinal → (reached position).steps ≡ Index i ∷ [] →
-        IsPointerTo (Inside position) (begins.Text ordinal i (reached position).is_past)
+    text : {position : Position} {ordinal : ℕ} → position.anchor ≡ AtText ordinal →
+        IsPointerTo (Inside position) (begins.Text ordinal (reached position).steps (reached position).is_past)
 
   -- whether an address, as a _Bool, is 0 or 1 (C99 6.3.1.2)
   pub data IsTruthOf : Address → ℤ → Type 0 where
