@@ -4,23 +4,18 @@ ghost use Rattle.lk_types.specs.Table.{IsKnown};
 ghost use Rattle.lk_typed.specs.Assignments as spec;
 ghost use Rattle.lk_typed.specs.Conversions.{converted, converted_constant};
 ghost use Rattle.lk_typed.specs.Typing.{Typing};
-ghost use Rattle.lk_check_expr.specs.Codes.{least_code, or_behind};
-ghost use Rattle.lk_check_expr.specs.Meaning.{meaning, meaning_of, IsKnownType, IsReady};
-ghost use Rattle.lk_check_expr.specs.Typings.{ForBoth, ForEach, IsOperand, IsResult, IsTyping, IsVerdict, structs_in};
+ghost use Rattle.lk_typed.specs.Codes.{least_code, or_behind};
+ghost use Rattle.lk_typed.specs.Meaning.{meaning, meaning_of, IsKnownType, IsReady};
+ghost use Rattle.lk_typed.specs.Typings.{ForBoth, ForEach, IsOperand, IsResult, IsTyping, IsVerdict, structs_in};
 
-use crate::codes::{code_if, lesser, unless};
-use crate::constants::is_null_value;
-use crate::conversions::{cast_code, convert_code};
-use crate::forms::{form, is_function, is_void};
-use crate::members::Members;
 use crate::operators::{result_of, row_of, scalar_code};
-use crate::typed::{ExprType, Typed};
-use crate::values::value;
-use crate::verdict::Verdict;
 use lk_arith::convert;
 use lk_base::{Code, Kind};
 use lk_tree::{AssignOperator, BinaryOperator};
-use lk_typed::Constant;
+use lk_typed::{
+    Constant, ExprType, Members, Typed, Verdict, cast_code, code_if, convert_code, form,
+    is_function, is_null_value, is_void, lesser, unless, value,
+};
 use lk_types::{CType, TypeId, TypeTable};
 
 /// The operator with which an assignment computes.

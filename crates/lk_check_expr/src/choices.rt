@@ -4,20 +4,18 @@ ghost use Rattle.lk_types.specs.Table.{Table};
 ghost use Rattle.lk_typed.specs.Operators as spec;
 ghost use Rattle.lk_typed.specs.Ty.{is_void as spec_is_void};
 ghost use Rattle.lk_typed.specs.Typing.{value_of_type};
-ghost use Rattle.lk_check_expr.specs.Codes.{arm_code};
-ghost use Rattle.lk_check_expr.specs.Meaning.{meaning_of, IsKnownType, IsReady};
-ghost use Rattle.lk_check_expr.specs.Typings.{ForBoth, ForEach, IsOperand, IsResult, IsVerdict};
+ghost use Rattle.lk_typed.specs.Codes.{arm_code};
+ghost use Rattle.lk_typed.specs.Meaning.{meaning_of, IsKnownType, IsReady};
+ghost use Rattle.lk_typed.specs.Typings.{ForBoth, ForEach, IsOperand, IsResult, IsVerdict};
 
-use crate::codes::{by_row, code_if, lesser, unless};
 use crate::constants::choice_constant;
-use crate::conversions::{are_same_pointers, are_void_and_object, has_lock};
-use crate::forms::{is_lock, is_void, kind_of};
 use crate::operators::{condition_code, either, is_pointer_beside_null};
-use crate::typed::{ExprType, Typed};
-use crate::verdict::Verdict;
 use lk_arith::usual;
 use lk_base::Code;
-use lk_typed::Constant;
+use lk_typed::{
+    Constant, ExprType, Typed, Verdict, are_same_pointers, are_void_and_object, by_row, code_if,
+    has_lock, is_lock, is_void, kind_of, lesser, unless,
+};
 use lk_types::{TypeId, TypeTable};
 
 /// What `?:` gives of two integers (C99 6.5.15, 5).

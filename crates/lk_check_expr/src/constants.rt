@@ -2,21 +2,10 @@
 ghost use Rattle.std.specs.Prelude.{◌≡◌, IsTrue};
 ghost use Rattle.lk_arith.specs.Operators.{is_shift, Outcome};
 ghost use Rattle.lk_typed.specs.Constants as spec;
-ghost use Rattle.lk_typed.specs.Typing.{is_null_value};
 
 use lk_arith::{Op, UnaryOp, Undefined, convert, outcome, unary_outcome};
 use lk_base::Kind;
 use lk_typed::Constant;
-
-/// Whether it is a constant of value 0.
-pub(crate) fn is_null_value(a: Constant) -> bool
-    ensures { result ≡ is_null_value a }
-{
-    match a {
-        Constant::NotConstant | Constant::Undefined => false,
-        Constant::Known(value) => value == 0,
-    }
-}
 
 /// The second of two constants, where the first isn't asked any more.
 fn beside(a: Constant, b: Constant) -> Constant

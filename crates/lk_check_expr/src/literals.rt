@@ -1,13 +1,11 @@
 //! Constants as expressions (C99 6.4.4).
 ghost use Rattle.lk_types.specs.Table.{Table};
 ghost use Rattle.lk_typed.specs.Words as spec;
-ghost use Rattle.lk_check_expr.specs.Meaning.{IsReady};
-ghost use Rattle.lk_check_expr.specs.Typings.{IsVerdict};
+ghost use Rattle.lk_typed.specs.Meaning.{IsReady};
+ghost use Rattle.lk_typed.specs.Typings.{IsVerdict};
 
-use crate::typed::Typed;
-use crate::verdict::Verdict;
 use lk_base::Kind;
-use lk_typed::Constant;
+use lk_typed::{Constant, Typed, Verdict};
 
 /// An integer constant, of its kind (C99 6.4.4.1, 5).
 pub fn number(kind: Kind, value: u64) -> Verdict

@@ -7,23 +7,20 @@ ghost use Rattle.lk_typed.specs.Operators as spec;
 ghost use Rattle.lk_typed.specs.Operators.{is_scalar, must_be};
 ghost use Rattle.lk_typed.specs.Ty.{is_integer, is_pointer};
 ghost use Rattle.lk_typed.specs.Typing.{Typing, Address};
-ghost use Rattle.lk_check_expr.specs.Codes.{least_code};
-ghost use Rattle.lk_check_expr.specs.Meaning.{meaning_of, IsKnownType, IsReady};
+ghost use Rattle.lk_typed.specs.Codes.{least_code};
+ghost use Rattle.lk_typed.specs.Meaning.{meaning_of, IsKnownType, IsReady};
 ghost use Rattle.lk_check_expr.specs.Rows.{IsOfShifts};
-ghost use Rattle.lk_check_expr.specs.Typings.{ForBoth, IsOperand, structs_in, IsResult, IsVerdict};
+ghost use Rattle.lk_typed.specs.Typings.{ForBoth, IsOperand, structs_in, IsResult, IsVerdict};
 
-use crate::codes::{by_row, lesser, operand_code};
 use crate::constants::{binary_constant, logical_constant, shift_constant};
-use crate::conversions::{are_same_pointers, are_void_and_object};
-use crate::forms::{is_integer, is_lock, is_pointer, is_thread_id, kind_of, target_of};
-use crate::members::Members;
-use crate::structs::is_complete;
-use crate::typed::{ExprType, Typed};
-use crate::verdict::Verdict;
 use lk_arith::{Op, promoted, usual};
 use lk_base::{Code, Kind};
 use lk_tree::BinaryOperator;
-use lk_typed::{BinaryRow, Constant};
+use lk_typed::{
+    BinaryRow, Constant, ExprType, Members, Typed, Verdict, are_same_pointers, are_void_and_object,
+    by_row, is_complete, is_integer, is_lock, is_pointer, is_thread_id, kind_of, lesser,
+    operand_code, target_of,
+};
 use lk_types::TypeTable;
 
 /// Whether it is an integer or a pointer: what may be a condition (C99 6.5.3.3, 1; 6.8.4.1, 1).

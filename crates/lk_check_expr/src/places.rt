@@ -4,21 +4,18 @@ ghost use Rattle.std.specs.Option.{option_map};
 ghost use Rattle.lk_types.specs.Table.{Table, IsKnown};
 ghost use Rattle.lk_typed.specs.Places as spec;
 ghost use Rattle.lk_typed.specs.Typing.{Typing};
-ghost use Rattle.lk_check_expr.specs.Meaning.{meaning, meaning_of, IsKnownType, IsReady};
-ghost use Rattle.lk_check_expr.specs.Typings.{ForBoth, ForEach, IsOperand, IsResult, IsTyping, IsVerdict, structs_in};
+ghost use Rattle.lk_typed.specs.Meaning.{meaning, meaning_of, IsKnownType, IsReady};
+ghost use Rattle.lk_typed.specs.Typings.{ForBoth, ForEach, IsOperand, IsResult, IsTyping, IsVerdict, structs_in};
 
-use crate::codes::{by_row, code_if, lesser, operand_code, unless};
 use crate::constants::unary_constant;
-use crate::forms::{is_function, is_integer, is_lock, is_void, kind_of, target_of};
-use crate::members::Members;
 use crate::operators::{condition_code, integer_code, is_steppable, pointer_code, steppable_code};
-use crate::typed::{ExprType, Typed};
-use crate::values::value;
-use crate::verdict::Verdict;
 use lk_arith::{UnaryOp, promoted};
 use lk_base::{Code, Kind};
 use lk_tree::PrefixOperator;
-use lk_typed::Constant;
+use lk_typed::{
+    Constant, ExprType, Members, Typed, Verdict, by_row, code_if, is_function, is_integer, is_lock,
+    is_void, kind_of, lesser, operand_code, target_of, unless, value,
+};
 use lk_types::{TypeId, TypeTable};
 
 /// Whether it is a place or a function.

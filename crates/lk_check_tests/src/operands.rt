@@ -1,15 +1,12 @@
 //! Rules of expressions over operands whose types are known.
 ghost use Rattle.std.specs.Prelude.{IfOk};
-ghost use Rattle.lk_check_expr.specs.Meaning.{IsKnownType, IsReady};
-ghost use Rattle.lk_check_expr.specs.Typings.{IsOperand};
+ghost use Rattle.lk_typed.specs.Meaning.{IsKnownType, IsReady};
+ghost use Rattle.lk_typed.specs.Typings.{IsOperand};
 
 use lk_base::{Code, Kind, NoMemory};
-use lk_check_expr::{
-    ExprType, Members, Typed, Verdict, assign, binary, cast, cast_code, choice, comma,
-    convert_code, converted, index, prefix, step, value,
-};
+use lk_check_expr::{assign, binary, cast, choice, comma, converted, index, prefix, step};
 use lk_tree::{AssignOperator, BinaryOperator, PrefixOperator};
-use lk_typed::Constant;
+use lk_typed::{Constant, ExprType, Members, Typed, Verdict, cast_code, convert_code, value};
 use lk_types::{TypeId, TypeTable};
 use std::alloc::Global;
 use std::process::Abort;

@@ -3,6 +3,7 @@ pub mod Addresses
 pub mod Assignments
 pub mod Bounds
 pub mod Calls
+pub mod Codes
 pub mod Constants
 pub mod Conversions
 pub mod DeclarationRules
@@ -20,12 +21,15 @@ pub mod Initialised
 pub mod InitialiserRules
 pub mod Initialisers
 pub mod Labels
+pub mod Laws
 pub mod Layers
 pub mod Library
 pub mod LibraryCalls
 pub mod LocalInits
 pub mod Locals
+pub mod Meaning
 pub mod MemberRules
+pub mod Names
 pub mod NodeParts
 pub mod NodeRules
 pub mod Nodes
@@ -49,5 +53,6 @@ pub mod TypeWords
 pub mod TypedStatements
 pub mod TypedUnits
 pub mod Typing
+pub mod Typings
 pub mod Units
 pub mod Words

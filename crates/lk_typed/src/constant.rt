@@ -1,4 +1,6 @@
 //! Integer constant expressions.
+ghost use Rattle.std.specs.Prelude.{◌≡◌};
+ghost use Rattle.lk_typed.specs.Typing.{is_null_value};
 
 /// What an expression is as an integer constant expression (C99 6.6, 6).
 #[derive(Clone, Copy, PartialEq)]
@@ -9,4 +11,14 @@ pub enum Constant {
     Undefined,
     /// It is one with this value.
     Known(i128),
+}
+
+/// Whether it is a constant of value 0.
+pub fn is_null_value(a: Constant) -> bool
+    ensures { result ≡ is_null_value a }
+{
+    match a {
+        Constant::NotConstant | Constant::Undefined => false,
+        Constant::Known(value) => value == 0,
+    }
 }

@@ -3,9 +3,9 @@ use Rattle.std.specs.Prelude.{not}
 use Rattle.lk_base.specs.declared.code.Code.TheVariants.{NotAPlace}
 use Rattle.lk_typed.specs.Assignments as spec
 use Rattle.lk_typed.specs.Typing.{if_so, value_of_type}
-use Rattle.lk_check_expr.specs.Codes.{least_code}
-use Rattle.lk_check_expr.specs.Typings.{typing, structs_in}
-use Rattle.lk_check_expr.proofs.Rows.{both_least, unless_verdict}
+use Rattle.lk_typed.specs.Codes.{least_code}
+use Rattle.lk_typed.specs.Typings.{typing, structs_in}
+use Rattle.lk_typed.proofs.Verdicts.{both_least, unless_verdict}
 use Rattle.lk_check_expr.proofs.assignments.assign.Goals as goal
 
 pub returns : goal.returns

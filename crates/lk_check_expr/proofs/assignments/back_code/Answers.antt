@@ -1,6 +1,6 @@
 use Rattle.std.proofs.Common.{subst}
-use Rattle.lk_check_expr.specs.Meaning.{meaning_of}
-use Rattle.lk_check_expr.specs.Typings.{IsResult}
+use Rattle.lk_typed.specs.Meaning.{meaning_of}
+use Rattle.lk_typed.specs.Typings.{IsResult}
 use Rattle.lk_check_expr.proofs.Rows.{back_some, back_none}
 use Rattle.lk_check_expr.proofs.assignments.back_code.Goals as goal
 

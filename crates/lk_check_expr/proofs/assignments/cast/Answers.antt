@@ -1,10 +1,10 @@
 use Rattle.std.proofs.Common.{◌≡◌}
 use Rattle.lk_typed.specs.Addresses.{value}
 use Rattle.lk_typed.specs.Conversions.{cast_codes, converted}
-use Rattle.lk_check_expr.specs.Codes.{least_code}
-use Rattle.lk_check_expr.specs.Meaning.{meaning}
-use Rattle.lk_check_expr.specs.Typings.{typing, IsTyping}
-use Rattle.lk_check_expr.proofs.Rows.{then_each, unless_verdict}
+use Rattle.lk_typed.specs.Codes.{least_code}
+use Rattle.lk_typed.specs.Meaning.{meaning}
+use Rattle.lk_typed.specs.Typings.{typing, IsTyping}
+use Rattle.lk_typed.proofs.Verdicts.{then_each, unless_verdict}
 use Rattle.lk_check_expr.proofs.assignments.cast.Goals as goal
 
 pub returns : goal.returns

@@ -2,10 +2,11 @@ use Rattle.std.proofs.Common.{◌∙◌, ◌++◌, ap, subst}
 use Rattle.lk_typed.specs.Assignments as spec
 use Rattle.lk_typed.specs.Operators.{must_be, is_scalar, result_of, row_of}
 use Rattle.lk_typed.specs.Typing.{NotAddress}
-use Rattle.lk_check_expr.specs.Codes.{or_behind}
-use Rattle.lk_check_expr.specs.Meaning.{meaning_of}
-use Rattle.lk_check_expr.specs.Typings.{typing, structs_in, IsResult}
-use Rattle.lk_check_expr.proofs.Rows.{both_least, behind_least, result_operand}
+use Rattle.lk_typed.specs.Codes.{or_behind}
+use Rattle.lk_typed.specs.Meaning.{meaning_of}
+use Rattle.lk_typed.specs.Typings.{typing, structs_in, IsResult}
+use Rattle.lk_typed.proofs.Verdicts.{both_least, result_operand}
+use Rattle.lk_check_expr.proofs.Rows.{behind_least}
 use Rattle.lk_check_expr.proofs.assignments.computed_code.Goals as goal
 
 pub returns : goal.returns

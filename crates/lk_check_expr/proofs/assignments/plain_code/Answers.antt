@@ -3,9 +3,9 @@ use Rattle.std.specs.Prelude.{if◌then◌else◌}
 use Rattle.lk_typed.specs.Addresses.{value}
 use Rattle.lk_typed.specs.Assignments as spec
 use Rattle.lk_typed.specs.Conversions.{conversion_codes}
-use Rattle.lk_check_expr.specs.Codes.{least_code}
-use Rattle.lk_check_expr.specs.Typings.{typing}
-use Rattle.lk_check_expr.proofs.Rows.{then_each}
+use Rattle.lk_typed.specs.Codes.{least_code}
+use Rattle.lk_typed.specs.Typings.{typing}
+use Rattle.lk_typed.proofs.Verdicts.{then_each}
 use Rattle.lk_check_expr.proofs.assignments.plain_code.Goals as goal
 
 pub returns-else-is_function : goal.returns-else-is_function

@@ -1,9 +1,9 @@
 use Rattle.std.proofs.Common.{◌≡◌, sym, subst}
 use Rattle.lk_typed.specs.Addresses.{value}
 use Rattle.lk_typed.specs.Assignments as spec
-use Rattle.lk_check_expr.specs.Codes.{least_code}
-use Rattle.lk_check_expr.specs.Typings.{typing, structs_in}
-use Rattle.lk_check_expr.proofs.Rows.{then_both}
+use Rattle.lk_typed.specs.Codes.{least_code}
+use Rattle.lk_typed.specs.Typings.{typing, structs_in}
+use Rattle.lk_typed.proofs.Verdicts.{then_both}
 use Rattle.lk_check_expr.proofs.assignments.right_code.Goals as goal
 
 pub returns-in-None : goal.returns-in-None

@@ -2,9 +2,10 @@ use Rattle.std.proofs.Common.{◌∙◌, ◌++◌, ap}
 use Rattle.std.specs.Prelude.{◌||◌}
 use Rattle.lk_typed.specs.Operators.{must_be, is_condition, arm_codes, choice_result, chosen_integer, chosen_other}
 use Rattle.lk_typed.specs.Ty.{is_lock}
-use Rattle.lk_check_expr.specs.Codes.{arm_code}
-use Rattle.lk_check_expr.specs.Typings.{typing}
-use Rattle.lk_check_expr.proofs.Rows.{arms_least, both_least, row_verdict, same_there}
+use Rattle.lk_typed.specs.Codes.{arm_code}
+use Rattle.lk_typed.specs.Typings.{typing}
+use Rattle.lk_typed.proofs.Verdicts.{both_least, row_verdict, same_there}
+use Rattle.lk_check_expr.proofs.Rows.{arms_least}
 use Rattle.lk_check_expr.proofs.choices.choice.Goals as goal
 
 pub returns : goal.returns

@@ -4,8 +4,8 @@ use Rattle.lk_typed.specs.Operators as spec
 use Rattle.lk_typed.specs.Ty.{Pointer, Void, is_void, void_pointer}
 use Rattle.lk_typed.specs.Typing.{value_of_type}
 use Rattle.std.specs.Prelude.{◌&&◌}
-use Rattle.lk_check_expr.specs.Typings.{typing}
-use Rattle.lk_check_expr.proofs.FirstTypes.{void_known, void_means}
+use Rattle.lk_typed.specs.Typings.{typing}
+use Rattle.lk_typed.proofs.FirstTypes.{void_known, void_means}
 use Rattle.lk_check_expr.proofs.Rows.{line}
 use Rattle.lk_check_expr.proofs.choices.chosen_other.Goals as goal
 

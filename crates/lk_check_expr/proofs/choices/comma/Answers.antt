@@ -2,9 +2,9 @@ use Rattle.std.proofs.Common.{◌∙◌, ◌++◌, ap}
 use Rattle.lk_base.specs.declared.code.Code.TheVariants.{MutexValue}
 use Rattle.lk_typed.specs.Ty.{is_lock}
 use Rattle.lk_typed.specs.Typing.{if_so, value_of_type}
-use Rattle.lk_check_expr.specs.Codes.{least_code}
-use Rattle.lk_check_expr.specs.Typings.{typing}
-use Rattle.lk_check_expr.proofs.Rows.{both_least, unless_verdict}
+use Rattle.lk_typed.specs.Codes.{least_code}
+use Rattle.lk_typed.specs.Typings.{typing}
+use Rattle.lk_typed.proofs.Verdicts.{both_least, unless_verdict}
 use Rattle.lk_check_expr.proofs.choices.comma.Goals as goal
 
 pub returns : goal.returns

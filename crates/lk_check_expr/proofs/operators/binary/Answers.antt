@@ -1,7 +1,7 @@
 use Rattle.std.proofs.Common.{◌++◌, subst}
 use Rattle.lk_typed.specs.Operators as spec
-use Rattle.lk_check_expr.specs.Typings.{typing, structs_in, IsResult}
-use Rattle.lk_check_expr.proofs.Rows.{both_least, row_verdict}
+use Rattle.lk_typed.specs.Typings.{typing, structs_in, IsResult}
+use Rattle.lk_typed.proofs.Verdicts.{both_least, row_verdict}
 use Rattle.lk_check_expr.proofs.operators.binary.Goals as goal
 
 pub returns : goal.returns

@@ -1,4 +1,4 @@
-use Rattle.lk_check_expr.proofs.LeastCodes.{told_operand}
+use Rattle.lk_typed.proofs.LeastCodes.{told_operand}
 use Rattle.lk_check_expr.proofs.operators.condition_code.Goals as goal
 
 pub returns : goal.returns

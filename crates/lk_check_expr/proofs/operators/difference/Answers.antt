@@ -1,7 +1,7 @@
 use Rattle.lk_arith.specs.declared.operators.Op.TheVariants as op
 use Rattle.lk_typed.specs.Addresses.{moved_back}
 use Rattle.lk_typed.specs.Operators as spec
-use Rattle.lk_check_expr.specs.Typings.{typing, structs_in}
+use Rattle.lk_typed.specs.Typings.{typing, structs_in}
 use Rattle.lk_check_expr.proofs.operators.difference.Goals as goal
 
 pub returns : goal.returns

@@ -1,7 +1,7 @@
 use Rattle.std.proofs.Common.{subst}
 use Rattle.lk_typed.specs.Conversions.{are_same_pointers}
 use Rattle.lk_typed.specs.Operators as spec
-use Rattle.lk_check_expr.specs.Typings.{typing, IsResult}
+use Rattle.lk_typed.specs.Typings.{typing, IsResult}
 use Rattle.lk_check_expr.proofs.operators.order.Goals as goal
 
 pub returns : goal.returns

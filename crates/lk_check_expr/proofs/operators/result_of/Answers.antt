@@ -1,6 +1,6 @@
 use Rattle.std.proofs.Common.{sym, subst}
 use Rattle.lk_typed.specs.Operators as spec
-use Rattle.lk_check_expr.specs.Typings.{typing, structs_in, IsResult}
+use Rattle.lk_typed.specs.Typings.{typing, structs_in, IsResult}
 use Rattle.lk_check_expr.proofs.operators.result_of.Goals as goal
 
 pub returns-in-Logical : goal.returns-in-Logical

@@ -4,10 +4,11 @@ use Rattle.lk_base.specs.declared.code.Code.TheVariants.{NotAPlace}
 use Rattle.lk_typed.specs.Places as spec
 use Rattle.lk_typed.specs.Ty.{Pointer}
 use Rattle.lk_typed.specs.Typing.{if_so}
-use Rattle.lk_check_expr.specs.Codes.{least_code}
-use Rattle.lk_check_expr.specs.Meaning.{meaning_of, IsKnownType}
-use Rattle.lk_check_expr.specs.Typings.{typing, IsListed, IsTyping}
-use Rattle.lk_check_expr.proofs.Rows.{no_place, unless_verdict}
+use Rattle.lk_typed.specs.Codes.{least_code}
+use Rattle.lk_typed.specs.Meaning.{meaning_of, IsKnownType}
+use Rattle.lk_typed.specs.Typings.{typing, IsListed, IsTyping}
+use Rattle.lk_typed.proofs.Verdicts.{unless_verdict}
+use Rattle.lk_check_expr.proofs.Rows.{no_place}
 use Rattle.lk_check_expr.proofs.places.address.Goals as goal
 
 pub returns-in-Listed : goal.returns-in-Listed

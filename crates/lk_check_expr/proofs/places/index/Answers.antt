@@ -2,8 +2,8 @@ use Rattle.std.proofs.Common.{◌++◌, subst}
 use Rattle.lk_typed.specs.Operators.{must_be, is_steppable}
 use Rattle.lk_typed.specs.Places as spec
 use Rattle.lk_typed.specs.Ty.{is_integer, target_of}
-use Rattle.lk_check_expr.specs.Typings.{typing, structs_in, IsResult}
-use Rattle.lk_check_expr.proofs.Rows.{both_least, row_verdict}
+use Rattle.lk_typed.specs.Typings.{typing, structs_in, IsResult}
+use Rattle.lk_typed.proofs.Verdicts.{both_least, row_verdict}
 use Rattle.lk_check_expr.proofs.places.index.Goals as goal
 
 pub returns : goal.returns

@@ -2,8 +2,8 @@ use Rattle.std.proofs.Common.{subst}
 use Rattle.lk_typed.specs.Operators.{must_be}
 use Rattle.lk_typed.specs.Places as spec
 use Rattle.lk_typed.specs.Ty.{is_pointer, target_of}
-use Rattle.lk_check_expr.specs.Typings.{typing, IsResult}
-use Rattle.lk_check_expr.proofs.Rows.{row_verdict}
+use Rattle.lk_typed.specs.Typings.{typing, IsResult}
+use Rattle.lk_typed.proofs.Verdicts.{row_verdict}
 use Rattle.lk_check_expr.proofs.places.indirection.Goals as goal
 
 pub returns : goal.returns

@@ -2,8 +2,8 @@ use Rattle.std.proofs.Common.{subst}
 use Rattle.lk_typed.specs.Operators.{must_be, is_condition}
 use Rattle.lk_typed.specs.Places as spec
 use Rattle.lk_typed.specs.Ty.{kind_of}
-use Rattle.lk_check_expr.specs.Typings.{typing, IsTyping}
-use Rattle.lk_check_expr.proofs.Rows.{unless_verdict}
+use Rattle.lk_typed.specs.Typings.{typing, IsTyping}
+use Rattle.lk_typed.proofs.Verdicts.{unless_verdict}
 use Rattle.lk_check_expr.proofs.places.negation.Goals as goal
 
 pub returns : goal.returns

@@ -1,6 +1,6 @@
 use Rattle.lk_typed.specs.Places as spec
-use Rattle.lk_check_expr.specs.Typings.{typing, IsVerdict}
-use Rattle.lk_check_expr.proofs.Rows.{then_each}
+use Rattle.lk_typed.specs.Typings.{typing, IsVerdict}
+use Rattle.lk_typed.proofs.Verdicts.{then_each}
 use Rattle.lk_check_expr.proofs.places.prefix.Goals as goal
 
 pub returns : goal.returns

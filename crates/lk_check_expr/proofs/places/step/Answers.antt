@@ -4,9 +4,9 @@ use Rattle.lk_base.specs.declared.code.Code.TheVariants.{NotAPlace}
 use Rattle.lk_typed.specs.Operators.{must_be}
 use Rattle.lk_typed.specs.Places as spec
 use Rattle.lk_typed.specs.Typing.{if_so, value_of_type}
-use Rattle.lk_check_expr.specs.Typings.{typing, structs_in}
-use Rattle.lk_check_expr.proofs.LeastCodes.{told_operand}
-use Rattle.lk_check_expr.proofs.Rows.{both_least, unless_verdict}
+use Rattle.lk_typed.specs.Typings.{typing, structs_in}
+use Rattle.lk_typed.proofs.LeastCodes.{told_operand}
+use Rattle.lk_typed.proofs.Verdicts.{both_least, unless_verdict}
 use Rattle.lk_check_expr.proofs.places.step.Goals as goal
 
 pub returns : goal.returns

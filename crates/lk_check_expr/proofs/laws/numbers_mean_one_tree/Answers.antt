@@ -1,5 +1,0 @@
-use Rattle.lk_check_expr.proofs.Means as lemma
-use Rattle.lk_check_expr.proofs.laws.numbers_mean_one_tree.Goals as goal
-
-pub returns : goal.returns
-returns c = lemma.numbers_mean_one_tree

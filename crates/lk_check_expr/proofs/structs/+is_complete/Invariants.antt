@@ -1,4 +1,0 @@
-use Rattle.lk_check_expr.proofs.structs.+is_complete.Given as goal
-
-abbrev pub decreases-is_complete : goal.decreases-is_complete
-decreases-is_complete l = l.t

@@ -1,0 +1,6 @@
+pub mod FirstTypes
+pub mod LeastCodes
+pub mod Meanings
+pub mod Means
+pub mod SameTrees
+pub mod Verdicts
