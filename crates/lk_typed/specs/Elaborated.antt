@@ -60,7 +60,7 @@ InPlace = Env × Expr
 abbrev pub PlacedForm : Type 0
 PlacedForm = ExprForm-F DeclaratorForm ExprForm MemberDeclarator Specifier Declarator InPlace Item Member Parameter (Env × TypeName)
 
-abbrev name_in : TypeName → Env → Named
+abbrev pub name_in : TypeName → Env → Named
 name_in name env = named (type_found name) env
 
 -- its form, with each part in its own environment
