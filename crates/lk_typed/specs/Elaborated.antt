@@ -4,7 +4,7 @@
 -- An expression stands in one of three ways. `IsTyped` is the expression itself, which may be a place: on the left of `=`, under `&`, `++`, `.` and parentheses. `IsValue` is what it is where a
 -- value is asked for: a place of scalar type is read, an array becomes the pointer to its first element (6.3.2.1). `IsConverted` is that value converted to a type, which is written out where the
 -- two types differ. A conversion stands at the node that it converts, so at the outermost parentheses. Only a cast stands at its own node.
-use Rattle.std.specs.Prelude.{ℕ, ◌≡◌, ◌&&◌, Bool, true, false, Option, Some, None, List, [], ◌∷◌, ℤ, pos, codes}
+use Rattle.std.specs.Prelude.{ℕ, ◌≡◌, ◌&&◌, Bool, true, false, Option, Some, None, List, [], ◌∷◌, ℤ, pos, codes, if◌then◌else◌}
 use Rattle.lk_arith.specs.declared.operators.Op.{Op}
 use Rattle.lk_arith.specs.declared.operators.UnaryOp.{UnaryOp}
 use Rattle.lk_arith.specs.declared.operators.UnaryOp.TheVariants as unary
@@ -70,6 +70,10 @@ form_of p = placed expression name_in p.0 (out-ExprForm p.1.form)
 abbrev pub typing_at : InPlace → Option Typing
 typing_at p = (expression p.1 p.0).typing
 
+-- it is a name, which stands for this (C99 6.5.1, 2)
+abbrev pub StandsFor : InPlace → Declared → Type 0
+StandsFor p d = (name : Name) × (form_of p ≡ ExprForm-F.Word name) × (look_up p.0 name ≡ Some d)
+
 -- the members of a struct, as they are known behind it
 abbrev pub members_behind : InPlace → ℕ → Members
 members_behind p s = members_of (extend p.0 (expression p.1 p.0).adds).structs s
@@ -93,7 +97,7 @@ pub data Called : Type 0 where
 
 abbrev function_called : Env → Declared → Option LibraryFunction → Called
 function_called env d (Some f) = ALibraryFunction f
-function_called env d None = elim (is_extern env d.name) as (λ is. Called) [ true ↦ AnExternFunction d.ordinal | false ↦ AFunctionHere d.ordinal ]
+function_called env d None = if is_extern env d.name then AnExternFunction d.ordinal else AFunctionHere d.ordinal
 
 abbrev meaning_called : Env → Declared → Meaning → Called
 meaning_called env d (AnObject t is_static) = AnyFunction
@@ -151,16 +155,11 @@ module _ (tables : Tables) (folded : Bool) where
 
     pub data IsTyped : InPlace → TypedExpr → Type 0 where
       -- names (C99 6.5.1, 2)
-      static_object : {p : InPlace} {name : Name} {d : Declared} {ty : Ty} {e : ℕ} {t : TypedExpr} → form_of p ≡ ExprForm-F.Word name → look_up p.0 name ≡ Some d →
-          d.meaning ≡ AnObject ty true → IsEntityAt tables d.ordinal e → MakesOwn p (TypedForm-F.Object (storage.Entity e)) t → IsTyped p t
-      local_object : {p : InPlace} {name : Name} {d : Declared} {ty : Ty} {l : ℕ} {local : Local} {t : TypedExpr} → form_of p ≡ ExprForm-F.Word name → look_up p.0 name ≡ Some d →
-          d.meaning ≡ AnObject ty false → IsLocalAt tables d.ordinal l local → local.is_slot ≡ false → MakesOwn p (TypedForm-F.Object (storage.Local l)) t → IsTyped p t
-      slot : {p : InPlace} {name : Name} {d : Declared} {ty : Ty} {l : ℕ} {local : Local} {t : TypedExpr} → form_of p ≡ ExprForm-F.Word name → look_up p.0 name ≡ Some d →
-          d.meaning ≡ AnObject ty false → IsLocalAt tables d.ordinal l local → local.is_slot ≡ true → MakesOwn p (TypedForm-F.Slot l) t → IsTyped p t
-      function : {p : InPlace} {name : Name} {d : Declared} {ty : Ty} {e : ℕ} {t : TypedExpr} → form_of p ≡ ExprForm-F.Word name → look_up p.0 name ≡ Some d →
-          d.meaning ≡ AFunction ty → IsEntityAt tables d.ordinal e → MakesOwn p (TypedForm-F.TypedForm::Function e) t → IsTyped p t
-      enumerator : {p : InPlace} {name : Name} {d : Declared} {z : ℤ} {t : TypedExpr} → form_of p ≡ ExprForm-F.Word name → look_up p.0 name ≡ Some d →
-          d.meaning ≡ AnEnumerator z → MakesOwn p (TypedForm-F.Number z) t → IsTyped p t
+      static_object : {p : InPlace} {d : Declared} {ty : Ty} {e : ℕ} {t : TypedExpr} → StandsFor p d → d.meaning ≡ AnObject ty true → IsEntityAt tables d.ordinal e → MakesOwn p (TypedForm-F.Object (storage.Entity e)) t → IsTyped p t
+      local_object : {p : InPlace} {d : Declared} {ty : Ty} {l : ℕ} {local : Local} {t : TypedExpr} → StandsFor p d → d.meaning ≡ AnObject ty false → IsLocalAt tables d.ordinal l local → local.is_slot ≡ false → MakesOwn p (TypedForm-F.Object (storage.Local l)) t → IsTyped p t
+      slot : {p : InPlace} {d : Declared} {ty : Ty} {l : ℕ} {local : Local} {t : TypedExpr} → StandsFor p d → d.meaning ≡ AnObject ty false → IsLocalAt tables d.ordinal l local → local.is_slot ≡ true → MakesOwn p (TypedForm-F.Slot l) t → IsTyped p t
+      function : {p : InPlace} {d : Declared} {ty : Ty} {e : ℕ} {t : TypedExpr} → StandsFor p d → d.meaning ≡ AFunction ty → IsEntityAt tables d.ordinal e → MakesOwn p (TypedForm-F.TypedForm::Function e) t → IsTyped p t
+      enumerator : {p : InPlace} {d : Declared} {z : ℤ} {t : TypedExpr} → StandsFor p d → d.meaning ≡ AnEnumerator z → MakesOwn p (TypedForm-F.Number z) t → IsTyped p t
       -- constants and texts (C99 6.4.4, 6.4.5)
       number : {p : InPlace} {k : Kind} {n : ℕ} {t : TypedExpr} → form_of p ≡ ExprForm-F.Number k n → MakesOwn p (TypedForm-F.Number (pos n)) t → IsTyped p t
       character : {p : InPlace} {z : ℤ} {t : TypedExpr} → form_of p ≡ ExprForm-F.Char z → MakesOwn p (TypedForm-F.Number z) t → IsTyped p t
