@@ -1,7 +1,6 @@
 -- The program that checked sources become, whole: besides its points its functions, roots, slots, places and what its storage begins with.
 use Rattle.std.specs.Prelude.{◌≡◌, ◌<◌, ◌⊎◌, ◌-◌, ◌++◌, ℕ, zero, suc, Bool, true, false, List, [], ◌∷◌, Option, None, Some, length, map, take, slice_get, get_or, ⊤}
 use Rattle.std.specs.List.{Contains}
-use Rattle.lk_base.specs.declared.cell.CellStep.TheVariants.{Index}
 use Rattle.lk_base.specs.declared.kind.Kind.TheVariants.{Char}
 use Rattle.lk_base.specs.declared.spot.Spot.{Spot}
 use Rattle.lk_facts.specs.Lowered.{IsLowered}
@@ -195,7 +194,7 @@ module _ (whole : Whole) (numbers : Numbers) (program : Program) where
   value_here s value.Null = begins.Null
   value_here s (value.Function e) = begins.Function (lowering.function_of whole numbers (lowering.definition_of whole numbers s e))
   value_here s (value.Address e path past) = begins.Address (lowering.root_of_entity whole numbers (lowering.definition_of whole numbers s e)) path past
-  value_here s (value.Text node index past) = begins.Address (numbers.root s node) (Index index ∷ []) past
+  value_here s (value.Text node path past) = begins.Address (numbers.root s node) path past
   value_here s value.Ready = begins.Ready
 
   abbrev initial_here : (s : ℕ) → StaticObject → StaticPart → Initial

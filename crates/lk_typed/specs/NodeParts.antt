@@ -108,12 +108,15 @@ behind_declarator told env node =
     let after = extend env (inner.additions env) in
     extend after (named_additions after AtFile told.storages Defined inner.name (inner.type env false (type_in InDefinition told)))
 
+-- the parameters in the scope of the body: their names and tags; the structs among them have their numbers from the declarator, in whose environment they stand
+abbrev pub parameters_of_body : Env → Function → Additions
+parameters_of_body env node = record ((declarator_found node.declarator).parameters (enter env)) { structs = [] }
+
 -- the environment of a body, with its parameters
 abbrev pub in_body : SpecifierTold → Env → Function → Env
 in_body told env node =
     let inner = declarator_found node.declarator in
-    let inside = enter (behind_declarator told env node) in
-    record (extend inside (inner.parameters inside)) { result = result_of (inner.type env false (type_in InDefinition told)) }
+    record (extend (enter (behind_declarator told env node)) (parameters_of_body env node)) { result = result_of (inner.type env false (type_in InDefinition told)) }
 
 abbrev pub definition_parts : Env → Env → Function → List Placed
 definition_parts at_end env node =
@@ -174,10 +177,9 @@ parts at_end env (AnExpression e) = expr_parts e env
 
 -- ---- a source
 
--- what the parameters and the body leave behind: the structs, so that no number stands for two
+-- what the body leaves behind: the structs, so that no number stands for two
 abbrev pub past_body : SpecifierTold → Env → Function → Additions
-past_body told env node =
-    past_scope (both ((declarator_found node.declarator).parameters (enter (behind_declarator told env node))) (stmt_adds node.body (in_body told env node)))
+past_body told env node = past_scope (stmt_adds node.body (in_body told env node))
 
 abbrev pub external_adds : Env → Decl → Additions
 external_adds env (decl.Function node) =

@@ -40,7 +40,7 @@ pub struct Declaration {
     pub spot: Spot,
     /// The number of that node of the syntax tree.
     pub ordinal: u32,
-    /// The type that it declares.
+    /// The type that it declares, with the size of an array that its initialiser gives.
     pub ty: TypeId,
     /// What it defines.
     pub defines: Defines,
@@ -60,7 +60,8 @@ pub struct Entity {
     pub name: Name,
     pub linkage: Linkage,
     pub kind: EntityKind,
-    /// Its type where its scope ends, with the size of an array where one declaration gives it.
+    /// The composite of the types that its declarations give: an array has its size where one of them gives it
+    /// (C99 6.2.7).
     pub ty: TypeId,
     /// Its declarations, in the order of the text. There is one at least.
     pub declarations: Seq<Declaration>,

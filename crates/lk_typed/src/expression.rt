@@ -15,7 +15,7 @@ use lk_types::TypeId;
 pub struct TypedExpr {
     pub spot: Spot,
     pub ordinal: u32,
-    /// The type of its value, or of the place that it names.
+    /// The type of its value, or of the place that it names. Where it names a function, that of the pointer to it.
     pub ty: TypeId,
     pub form: TypedForm,
 }
@@ -76,7 +76,7 @@ pub enum TypedForm {
     Function(u32),
     /// `&place`
     Address(Boxed<TypedExpr>),
-    /// An operator before its operand, which has been promoted.
+    /// An operator before its operand, which has been promoted, but for `!`.
     Unary(UnaryOp, Boxed<TypedExpr>),
     /// An operator between two operands, of one type where C converts them.
     Binary(Op, Boxed<TypedExpr>, Boxed<TypedExpr>),

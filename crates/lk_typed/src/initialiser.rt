@@ -49,9 +49,9 @@ pub enum StaticValue {
     /// A pointer into an object of static storage: its number among the unit's entities, the steps to the part, and
     /// whether it points one past that part.
     Address(u32, Seq<CellStep>, bool),
-    /// A pointer into a string literal: the number of the literal's node, the index of the byte, and whether it
-    /// points one past that byte.
-    Text(u32, u64, bool),
+    /// A pointer into a string literal: the number of the literal's node, the steps to the part (none for the literal
+    /// as a whole), and whether it points one past that part.
+    Text(u32, Seq<CellStep>, bool),
     /// `PTHREAD_MUTEX_INITIALIZER` or `PTHREAD_COND_INITIALIZER`.
     Ready,
 }
