@@ -1,0 +1,9 @@
+pub mod Answering
+pub mod Becoming
+pub mod Keeping
+pub mod Making
+pub mod Meeting
+pub mod Members
+pub mod Pairing
+pub mod Resolving
+pub mod Zipping

@@ -1,13 +1,15 @@
 -- Why sources make no program together: the codes 60 to 63, and which of several is answered.
-use Rattle.std.specs.Prelude.{◌≡◌, ◌<◌, ◌⊎◌, ℕ, List, Some, None, codes}
-use Rattle.std.specs.List.{Contains}
+use Rattle.std.specs.Prelude.{◌≡◌, ◌<◌, ◌⊎◌, ℕ, true, List, Some, None, codes}
+use Rattle.std.specs.List.{Any, Contains}
 use Rattle.lk_base.specs.Code.{number_of}
 use Rattle.lk_base.specs.declared.code.Code.{Code}
 use Rattle.lk_base.specs.declared.code.Code.TheVariants.{DefinedTwice, TypesDiffer, NotDefined}
 use Rattle.lk_base.specs.declared.spot.Spot.{Spot}
-use Rattle.lk_link.specs.Sources.{Units, IsEntity, Declares, IsDefinedIn, IsFirstDefinition, IsUsed, IsDefining, ComesBefore}
-use Rattle.lk_link.specs.Structs.{TypeOf, AreDeclaredAlike}
-use Rattle.lk_typed.specs.Library.{library_function}
+use Rattle.lk_link.specs.Sources.{Units, IsEntity, Declares, IsDefinedIn, IsFirstDefinition, IsUsed, IsDefinition, ComesBefore}
+use Rattle.lk_link.specs.Structs.{AreDeclaredAlike, types_in}
+use Rattle.lk_link.specs.declared.place.TypeOf.{TypeOf}
+use Rattle.lk_typed.specs.Library.{LibraryFunction, library_function, type_of_function}
+use Rattle.lk_typed.specs.Ty.{Ty, Means, is_redeclarable}
 use Rattle.lk_typed.specs.declared.entity.Declaration.{Declaration}
 use Rattle.lk_typed.specs.declared.entity.Entity.{Entity}
 use Rattle.lk_typed.specs.declared.entity.EntityKind.TheVariants.{Function}
@@ -22,20 +24,18 @@ pub record Clash : Type 0 where
   pub code : Code
   pub name : List ℕ
 
-module _ (units : Units) (externs : List (List ℕ)) where
-  -- 60: no source defines a function `main` of external linkage (C99 5.1.2.2.1)
-  pub record HasMain : Type 0 where
-    pub source : ℕ
-    pub number : ℕ
-    pub entity : Entity
-    pub of : IsEntity units source number entity
-    pub named : entity.name ≡ codes "main"
-    pub is_function : entity.kind ≡ Function
-    pub external : entity.linkage ≡ linkage.External
-    pub definition : Declaration
-    pub declared : Contains entity.declarations definition
-    pub defines : IsDefining definition.defines
+-- a function `main` of external linkage that its source defines (C99 5.1.2.2.1)
+pub record IsMain (entity : Entity) : Type 0 where
+  pub is_function : entity.kind ≡ Function
+  pub external : entity.linkage ≡ linkage.External
+  pub named : entity.name ≡ codes "main"
+  pub defined : IsDefinition entity
 
+-- 60 holds where no source has one
+abbrev pub HasMain : Units → Type 0
+HasMain units = Any (λ unit. Any IsMain unit.entities) units
+
+module _ (units : Units) (externs : List (List ℕ)) where
   -- 61: an earlier source defines the name too (C99 6.9, 5); it stands at the first definition of the later source
   pub record IsDefinedTwice (clash : Clash) : Type 0 where
     pub earlier : ℕ
@@ -59,6 +59,17 @@ module _ (units : Units) (externs : List (List ℕ)) where
     pub here : Declares units clash.source clash.name later
     pub before : ComesBefore other_source other.ordinal clash.source later.ordinal
     pub differ : AreDeclaredAlike units (declared_type other_source other) (declared_type clash.source later) → ⊥
+    pub ordinal : clash.ordinal ≡ later.ordinal
+    pub spot : clash.spot ≡ later.spot
+    pub code : clash.code ≡ TypesDiffer
+
+  -- 62: the library has a function of the name, with another type (C99 7.1.3, 7.1.4). What differs so at file scope is told before sources are put together
+  pub record DiffersFromLibrary (clash : Clash) : Type 0 where
+    pub function : LibraryFunction
+    pub there : library_function clash.name ≡ Some function
+    pub later : Declaration
+    pub here : Declares units clash.source clash.name later
+    pub differ : (type : Ty) → Means (types_in units clash.source) later.ty type → is_redeclarable type (type_of_function function) ≡ true → ⊥
     pub ordinal : clash.ordinal ≡ later.ordinal
     pub spot : clash.spot ≡ later.spot
     pub code : clash.code ≡ TypesDiffer
@@ -93,7 +104,7 @@ module _ (units : Units) (externs : List (List ℕ)) where
     pub is_function : entity.kind ≡ Function
     pub use_ : Use
     pub used : entity.first_use ≡ Some use_
-    pub undefined : (is : Declaration) → Contains entity.declarations is → IsDefining is.defines → ⊥
+    pub undefined : IsDefinition entity → ⊥
     pub ordinal : clash.ordinal ≡ use_.ordinal
     pub spot : clash.spot ≡ use_.spot
     pub code : clash.code ≡ NotDefined
@@ -102,6 +113,7 @@ module _ (units : Units) (externs : List (List ℕ)) where
   pub data IsClash (clash : Clash) : Type 0 where
     defined_twice : IsDefinedTwice clash → IsClash clash
     types_differ : DiffersFrom clash → IsClash clash
+    library_differs : DiffersFromLibrary clash → IsClash clash
     missing : IsMissing clash → IsClash clash
     missing_inside : IsMissingInside clash → IsClash clash
 
