@@ -51,7 +51,8 @@ impl Pairs {
 
     /// Puts a pair, unless it is there.
     pub(crate) fn put(&mut self, pair: StructPair) -> Result<(), NoMemory>
-        ensures { OnOk result (IsAnswered (λ p. p ≡ pair) self.old self.new (λ pairs. IsAmong pairs pair) true) }
+        ensures { OnOk result (IsAnswered (λ p. p ≡ pair) self.old self.new
+            (λ pairs. IsAmong pairs pair) true) }
     {
         self.pairs.insert(pair)?;
         Ok(())

@@ -31,7 +31,8 @@ impl Model for Tags {
 fn outside_tag(units: &[TypedUnit], s: StructOf) -> Option<&Name>
     requires sources { AreSources units.now }
     requires known { IsStruct units.now s }
-    ensures { MatchOption result ((name : List ℕ) → IsOutside units.now s name → ⊥) (λ name. IsOutside units.now s name.now) }
+    ensures { MatchOption result ((name : List ℕ) → IsOutside units.now s name → ⊥)
+        (λ name. IsOutside units.now s name.now) }
 {
     let tag = &units[s.source as usize].structs.list()[s.number as usize];
     if tag.is_outside {
