@@ -1,0 +1,11 @@
+pub mod Answering
+pub mod Becoming
+pub mod Gaining
+pub mod Keeping
+pub mod Making
+pub mod Meeting
+pub mod Members
+pub mod Pairing
+pub mod Resolving
+pub mod Telling
+pub mod Zipping

@@ -1,5 +1,8 @@
 -- The names of several sources: who declares them, who defines them, and where they are used (C99 6.2.2, 6.9).
-use Rattle.std.specs.Prelude.{◌≡◌, ◌<◌, ◌⊎◌, ℕ, List, Some, slice_get, ⊤}
+use Rattle.std.specs.Prelude.{◌≡◌, ◌<◌, ◌⊎◌, ℕ, List, Some, slice_get, ⊤, All, length}
+use Rattle.std.specs.List.{Any}
+use Rattle.lk_link.specs.declared.place.StructOf.{StructOf}
+use Rattle.lk_link.specs.declared.place.TypeOf.{TypeOf}
 use Rattle.lk_typed.specs.declared.entity.Declaration.{Declaration}
 use Rattle.lk_typed.specs.declared.entity.Defines.{Defines}
 use Rattle.lk_typed.specs.declared.entity.Defines.TheVariants.{Nothing, Tentative, Whole}
@@ -7,9 +10,27 @@ use Rattle.lk_typed.specs.declared.entity.Entity.{Entity}
 use Rattle.lk_typed.specs.declared.entity.Linkage.TheVariants as linkage
 use Rattle.lk_typed.specs.declared.entity.Use.{Use}
 use Rattle.lk_typed.specs.declared.unit.TypedUnit.{TypedUnit}
+use Rattle.lk_types.specs.Table.{Table, IsKnown, members_of}
 
 abbrev pub Units : Type 0
 Units = List TypedUnit
+
+-- the types of all members of structs are in the table
+abbrev pub HasKnownMembers : Table → Type 0
+HasKnownMembers types = (s : ℕ) → s < length types.members → All (λ member. IsKnown types member.ty) (members_of types s)
+
+-- the types of all declarations are in the table
+abbrev pub HasKnownDeclarations : Table → List Entity → Type 0
+HasKnownDeclarations types entities = All (λ entity. All (λ declaration. IsKnown types declaration.ty) entity.declarations) entities
+
+-- what a checked source has: each struct has an entry for its tag, and what members and declarations name are types of its table
+pub record IsSource (unit : TypedUnit) : Type 0 where
+  pub tags : length unit.structs ≡ length unit.types.members
+  pub members : HasKnownMembers unit.types
+  pub declared : HasKnownDeclarations unit.types unit.entities
+
+abbrev pub AreSources : Units → Type 0
+AreSources units = All IsSource units
 
 -- it defines the name: a function by its body, an object by an initialiser or tentatively (C99 6.9.1, 6.9.2)
 abbrev pub IsDefining : Defines → Type 0
@@ -17,7 +38,23 @@ IsDefining Nothing = ⊥
 IsDefining Tentative = ⊤
 IsDefining Whole = ⊤
 
+-- a source that declares the entity defines it
+abbrev pub IsDefinition : Entity → Type 0
+IsDefinition entity = Any (λ declaration. IsDefining declaration.defines) entity.declarations
+
 module _ (units : Units) where
+  -- a struct of a source
+  pub record IsStruct (s : StructOf) : Type 0 where
+    pub unit : TypedUnit
+    pub at : slice_get units s.source ≡ Some unit
+    pub known : s.number < length unit.types.members
+
+  -- a type of a source
+  pub record IsTypeOf (t : TypeOf) : Type 0 where
+    pub unit : TypedUnit
+    pub at : slice_get units t.source ≡ Some unit
+    pub known : IsKnown unit.types t.number
+
   -- the entity e of the source s
   pub record IsEntity (s e : ℕ) (is : Entity) : Type 0 where
     pub unit : TypedUnit

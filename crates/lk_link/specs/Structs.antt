@@ -1,105 +1,133 @@
--- When types of two sources are one (C99 6.2.7). Structs compare by their tags and members, struct by struct; what finds no difference is a relation that its own comparisons keep.
-use Rattle.std.specs.Prelude.{◌≡◌, ◌<◌, ◌⊎◌, ℕ, Bool, true, false, List, [], ◌∷◌, Option, Some, slice_get}
-use Rattle.lk_link.specs.Sources.{Units}
-use Rattle.lk_base.specs.declared.kind.Kind.{Kind}
+-- When structs of several sources are one, and so their types (C99 6.2.7). Structs compare by their tags and members, struct by struct; what finds no difference is a list of pairs that its own comparisons keep.
+use Rattle.std.specs.Prelude.{◌≡◌, ◌⊎◌, ℕ, Bool, true, false, List, [], Option, Some, slice_get, unwrap_or, length, All}
+use Rattle.std.specs.List.{AllZip}
+use Rattle.std.specs.Option.{option_map, option_and_then}
+use Rattle.lk_link.specs.Comparing.{SideTable}
+use Rattle.lk_link.specs.Pairs.{IsAmong, AreAmong, IsLonger}
+use Rattle.lk_link.specs.Sources.{Units, IsStruct, ComesBefore}
+use Rattle.lk_link.specs.Types.{AreOne}
+use Rattle.lk_link.specs.declared.place.SizeRule.{SizeRule}
+use Rattle.lk_link.specs.declared.place.SizeRule.TheVariants.{Same, SameOrAbsent}
+use Rattle.lk_link.specs.declared.place.StructOf.{StructOf}
+use Rattle.lk_link.specs.declared.place.StructPair.{StructPair}
+use Rattle.lk_link.specs.declared.place.TypeOf.{TypeOf}
 use Rattle.lk_typed.specs.declared.unit.StructTag.{StructTag}
 use Rattle.lk_typed.specs.declared.unit.TypedUnit.{TypedUnit}
-use Rattle.lk_types.specs.Equal.{SizesOrNone}
+use Rattle.lk_types.specs.Building.{IsTable}
+use Rattle.lk_types.specs.Table.{is_empty, members_of}
 use Rattle.lk_types.specs.declared.c_type.CType.{CType}
-use Rattle.lk_types.specs.declared.c_type.CType.TheVariants.{Void, Int, ThreadId, Mutex, Cond, Pointer, Array, Struct, Function, Opaque}
 use Rattle.lk_types.specs.declared.member.StructMember.{StructMember}
 
--- a struct: its source and its number there
-pub record StructOf : Type 0 where
-  pub source : ℕ
-  pub number : ℕ
-
--- a type: its source and its number there
-pub record TypeOf : Type 0 where
-  pub source : ℕ
-  pub number : ℕ
-
--- a type and a struct that a type is made of
-abbrev pub inside : TypeOf → ℕ → TypeOf
-inside t a = record { source = t.source; number = a }
-
-abbrev pub struct_in : TypeOf → ℕ → StructOf
-struct_in t a = record { source = t.source; number = a }
+-- a struct that a type of a source is made of
+abbrev pub struct_in : ℕ → ℕ → StructOf
+struct_in source a = record { source = source; number = a }
 
 module _ (units : Units) where
-  abbrev pub HasForm : TypeOf → CType → Type 0
-  HasForm t form = (unit : TypedUnit) × (slice_get units t.source ≡ Some unit) × (slice_get unit.types.types t.number ≡ Some form)
+  -- the types of a source
+  abbrev pub types_in : ℕ → List CType
+  types_in source = unwrap_or (option_map (λ unit. unit.types.types) (slice_get units source)) []
 
-  pub record HasTag (s : StructOf) (tag : StructTag) (members : List StructMember) : Type 0 where
-    pub unit : TypedUnit
-    pub at : slice_get units s.source ≡ Some unit
-    pub tagged : slice_get unit.structs s.number ≡ Some tag
-    pub has : slice_get unit.types.members s.number ≡ Some members
+  -- the members of a struct, none where it is incomplete
+  abbrev pub members_in : StructOf → List StructMember
+  members_in s = unwrap_or (option_map (λ unit. members_of unit.types s.number) (slice_get units s.source)) []
 
-  -- a complete struct with this tag at file scope
-  abbrev pub IsComplete : StructOf → (tag : List ℕ) → Type 0
-  IsComplete s name = (first : StructMember) × (others : List StructMember) × HasTag s (record { tag = Some name; is_outside = true }) (first ∷ others)
+  -- its tag, and whether it is declared at file scope
+  abbrev pub tag_in : StructOf → Option StructTag
+  tag_in s = option_and_then (λ unit. slice_get unit.structs s.number) (slice_get units s.source)
+
+  abbrev pub tag_name : StructOf → Option (List ℕ)
+  tag_name s = option_and_then (λ of. of.tag) (tag_in s)
+
+  -- a struct of this tag at file scope
+  abbrev pub IsOutside : StructOf → (tag : List ℕ) → Type 0
+  IsOutside s name = tag_in s ≡ Some (record { tag = Some name; is_outside = true })
+
+  pub record IsComplete (s : StructOf) (name : List ℕ) : Type 0 where
+    pub outside : IsOutside s name
+    pub complete : is_empty (members_in s) ≡ false
 
   -- the first of that tag, in the order of the sources
   pub record IsFirstComplete (s : StructOf) (name : List ℕ) : Type 0 where
     pub complete : IsComplete s name
-    pub first : (t : StructOf) → IsComplete t name → (t.source < s.source) → ⊥
+    pub first : (t : StructOf) → IsComplete t name → ComesBefore t.source t.number s.source s.number → ⊥
+
+  -- an incomplete struct of a tag at file scope that some source completes at file scope
+  pub record IsCompletedBy (s t : StructOf) : Type 0 where
+    pub name : List ℕ
+    pub outside : IsOutside s name
+    pub incomplete : is_empty (members_in s) ≡ true
+    pub by : IsFirstComplete t name
 
   -- what a struct is in the program: an incomplete one of a tag at file scope is the first complete one of that tag, where there is one; each other is itself
-  pub data Becomes : StructOf → StructOf → Type 0 where
-    completed : {s t : StructOf} {name : List ℕ} → HasTag s (record { tag = Some name; is_outside = true }) [] → IsFirstComplete t name → Becomes s t
-    left_open : {s : StructOf} {name : List ℕ} → HasTag s (record { tag = Some name; is_outside = true }) [] → ((t : StructOf) → IsComplete t name → ⊥) → Becomes s s
-    in_block : {s : StructOf} {tag : Option (List ℕ)} {members : List StructMember} → HasTag s (record { tag = tag; is_outside = false }) members → Becomes s s
-    whole : {s : StructOf} {tag : StructTag} {first : StructMember} {others : List StructMember} → HasTag s tag (first ∷ others) → Becomes s s
+  pub data Becomes (s : StructOf) : StructOf → Type 0 where
+    completed : {t : StructOf} → IsCompletedBy s t → Becomes s t
+    itself : ((t : StructOf) → IsCompletedBy s t → ⊥) → Becomes s s
 
-  abbrev pub SameSize : ℕ → ℕ → Type 0
-  SameSize n m = n ≡ m
+  -- of each struct of a source what it is in the program
+  pub record IsRowOf (source : ℕ) (row : List StructOf) : Type 0 where
+    pub whole : (unit : TypedUnit) → slice_get units source ≡ Some unit → length row ≡ length unit.types.members
+    pub each : (a : ℕ) (r : StructOf) → slice_get row a ≡ Some r → IsStruct units r × Becomes (struct_in source a) r
 
-  -- two types are one where their structs are, by `one`; absent sizes of arrays may count as any, as Sizes says
-  module _ (Sizes : ℕ → ℕ → Type 0) (one : StructOf → StructOf → Bool) where
-    mutual
-      pub data AreOne : TypeOf → TypeOf → Type 0 where
-        voids : {t u : TypeOf} → HasForm t Void → HasForm u Void → AreOne t u
-        integers : {t u : TypeOf} {kind : Kind} → HasForm t (Int kind) → HasForm u (Int kind) → AreOne t u
-        threads : {t u : TypeOf} → HasForm t ThreadId → HasForm u ThreadId → AreOne t u
-        mutexes : {t u : TypeOf} → HasForm t Mutex → HasForm u Mutex → AreOne t u
-        conditions : {t u : TypeOf} → HasForm t Cond → HasForm u Cond → AreOne t u
-        opaques : {t u : TypeOf} {n : ℕ} → HasForm t (Opaque n) → HasForm u (Opaque n) → AreOne t u
-        pointers : {t u : TypeOf} {a b : ℕ} → HasForm t (Pointer a) → HasForm u (Pointer b) → AreOne (inside t a) (inside u b) → AreOne t u
-        arrays : {t u : TypeOf} {a b n m : ℕ} → HasForm t (Array a n) → HasForm u (Array b m) → AreOne (inside t a) (inside u b) → Sizes n m → AreOne t u
-        structs : {t u : TypeOf} {a b : ℕ} {r q : StructOf} → HasForm t (Struct a) → HasForm u (Struct b) →
-            Becomes (struct_in t a) r → Becomes (struct_in u b) q → one r q ≡ true → AreOne t u
-        functions : {t u : TypeOf} {a b : ℕ} {ps qs : List ℕ} {dots : Bool} → HasForm t (Function a ps dots) → HasForm u (Function b qs dots) →
-            AreOne (inside t a) (inside u b) → AreAllOne t.source ps u.source qs → AreOne t u
+  -- the same of each source
+  pub record AreResolved (rows : List (List StructOf)) : Type 0 where
+    pub sources : length rows ≡ length units
+    pub each : (s : ℕ) (row : List StructOf) → slice_get rows s ≡ Some row → IsRowOf s row
 
-      pub data AreAllOne : ℕ → List ℕ → ℕ → List ℕ → Type 0 where
-        none : {s z : ℕ} → AreAllOne s [] z []
-        more : {s z a b : ℕ} {ps qs : List ℕ} → AreOne (record { source = s; number = a }) (record { source = z; number = b }) → AreAllOne s ps z qs → AreAllOne s (a ∷ ps) z (b ∷ qs)
+  -- the types of a source, and what its structs are in the program
+  pub record IsSideOf (rows : List (List StructOf)) (source : ℕ) (side : SideTable) : Type 0 where
+    pub unit : TypedUnit
+    pub at : slice_get units source ≡ Some unit
+    pub row : List StructOf
+    pub row_at : slice_get rows source ≡ Some row
+    pub is : side ≡ record { types = unit.types; becomes = row }
+    pub table : IsTable unit.types
 
-  -- the members are the same by name, order and type
-  pub data HasNoDifference (one : StructOf → StructOf → Bool) (s z : ℕ) : List StructMember → List StructMember → Type 0 where
-    none : HasNoDifference one s z [] []
-    more : {a b : StructMember} {others more_ : List StructMember} → a.name ≡ b.name →
-        AreOne SameSize one (record { source = s; number = a.ty }) (record { source = z; number = b.ty }) → HasNoDifference one s z others more_ → HasNoDifference one s z (a ∷ others) (b ∷ more_)
+  -- two structs of sources
+  pub record IsPair (pair : StructPair) : Type 0 where
+    pub first : IsStruct units pair.first
+    pub second : IsStruct units pair.second
 
-  -- a relation of structs that its own comparisons keep: of one source a struct is one with itself alone; of two sources, structs of one tag, or without one, whose members show no difference
-  pub data IsKept (one : StructOf → StructOf → Bool) (r q : StructOf) : Type 0 where
-    itself : r.source ≡ q.source → r.number ≡ q.number → IsKept one r q
-    compared : {a b : StructTag} {members others : List StructMember} → (r.source ≡ q.source → ⊥) → HasTag r a members → HasTag q b others → a.tag ≡ b.tag →
-        HasNoDifference one r.source q.source members others → IsKept one r q
+  module _ (pairs : List StructPair) where
+    -- structs of a type of one source and of a type of another are one: they become the same struct, or become a pair of these
+    abbrev pub AreOneBy : (s z a b : ℕ) → Type 0
+    AreOneBy s z a b = (pair : StructPair) × Becomes (struct_in s a) pair.first × Becomes (struct_in z b) pair.second × ((pair.first ≡ pair.second) ⊎ IsAmong pairs pair)
 
-  abbrev pub KeepsItself : (StructOf → StructOf → Bool) → Type 0
-  KeepsItself one = (r q : StructOf) → one r q ≡ true → IsKept one r q
+    -- types of two sources are one, where these pairs of structs are
+    abbrev pub AreOneTypes : SizeRule → TypeOf → TypeOf → Type 0
+    AreOneTypes rule t u = AreOne rule (AreOneBy t.source u.source) (types_in t.source) (types_in u.source) t.number u.number
 
-  -- no comparison finds a difference between two structs
-  abbrev pub IsNoDifference : StructOf → StructOf → Type 0
-  IsNoDifference r q = (one : StructOf → StructOf → Bool) × KeepsItself one × (one r q ≡ true)
+    abbrev type_of : ℕ → StructMember → TypeOf
+    type_of source member = record { source = source; number = member.ty }
+
+    -- members have one name and one type
+    abbrev pub AreOneMember : (s z : ℕ) → StructMember → StructMember → Type 0
+    AreOneMember s z a b = (a.name ≡ b.name) × AreOneTypes Same (type_of s a) (type_of z b)
+
+    -- two structs of different sources with one tag, or both without one, whose members are the same by name, order and type
+    pub record HasNoDifference (pair : StructPair) : Type 0 where
+      pub apart : pair.first.source ≡ pair.second.source → ⊥
+      pub tags : tag_name pair.first ≡ tag_name pair.second
+      pub members : AllZip (AreOneMember pair.first.source pair.second.source) (members_in pair.first) (members_in pair.second)
+
+  -- pairs that their own comparisons keep
+  abbrev pub AreKept : List StructPair → Type 0
+  AreKept pairs = All (HasNoDifference pairs) pairs
+
+  -- what was asked of pairs was answered with all that their comparisons need: they are kept, or no list that has them is
+  pub record IsSettled (old new : List StructPair) (answer : Bool) : Type 0 where
+    pub longer : IsLonger old new
+    pub kept : answer ≡ true → AreKept new
+    pub needed : (pairs : List StructPair) → AreKept pairs → AreAmong old pairs → answer ≡ true
+
+  -- no comparison finds a difference between two structs. Of one source a struct is one with itself alone
+  abbrev pub IsNoDifference : StructPair → Type 0
+  IsNoDifference pair = (pair.first ≡ pair.second) ⊎ ((pairs : List StructPair) × AreKept pairs × IsAmong pairs pair)
 
   -- a chain of such pairs: these structs are one in the program
-  pub data AreOneStruct : StructOf → StructOf → Type 0 where
-    same : {r : StructOf} → AreOneStruct r r
-    next : {r q s : StructOf} → AreOneStruct r q → (IsNoDifference q s ⊎ IsNoDifference s q) → AreOneStruct r s
+  pub data AreOneStruct (r : StructOf) : StructOf → Type 0 where
+    same : AreOneStruct r r
+    next : {q s : StructOf} → AreOneStruct r q → (IsNoDifference (record { first = q; second = s }) ⊎ IsNoDifference (record { first = s; second = q })) → AreOneStruct r s
 
   -- two types are one but for absent sizes of arrays: what two declarations of a name are asked
   abbrev pub AreDeclaredAlike : TypeOf → TypeOf → Type 0
-  AreDeclaredAlike t u = (one : StructOf → StructOf → Bool) × KeepsItself one × AreOne SizesOrNone one t u
+  AreDeclaredAlike t u = (pairs : List StructPair) × AreKept pairs × AreOneTypes pairs SameOrAbsent t u
