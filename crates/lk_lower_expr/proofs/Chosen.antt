@@ -1,7 +1,7 @@
 -- What the rules have in common that choose among several.
 use Rattle.std.proofs.Common.{arith, ◌+◌, sym, ap, ◌∙◌, ◌≡◌, ℕ, Bool, true, false, ◌||◌, Option, None, nat_eq, refl}
 use Rattle.std.specs.Prelude.{if◌then◌else◌, length, map, suc, List, [], ◌∷◌}
-use Rattle.lk_lower_expr.specs.Library.{Called, texts_of, is_text, print_part}
+use Rattle.lk_lower_expr.specs.Library.{texts_of, is_text}
 use Rattle.lk_lower_expr.specs.Naming.{names_of}
 use Rattle.lk_lower_expr.specs.declared.names.SourceNames.{SourceNames}
 use Rattle.lk_types.specs.Table.{Table, type_at}
@@ -14,12 +14,11 @@ use Rattle.lk_tree.specs.declared.operators.StepOperator.{StepOperator}
 use Rattle.lk_typed.specs.declared.expression.Change.{Change}
 use Rattle.lk_base.specs.declared.kind.Kind.TheVariants.{Int as IntKind}
 use Rattle.lk_lower_expr.specs.Counts.{text_count, choice_count, compound_count, step_count}
-use Rattle.lk_lower_expr.specs.Expressions.{part, form_part, library_part, of_callee, of_form, of_library, of_expr}
+use Rattle.lk_lower_expr.specs.Expressions.{part, library_part}
 use Rattle.lk_lower_expr.proofs.Forms.{as_form, of_Choice, of_Compound, of_Step, of_Library}
+use Rattle.lk_lower_expr.proofs.Calls.{of_Print}
 use Rattle.lk_lower_expr.proofs.Nodes.{stands_at}
 use Rattle.lk_lower_expr.specs.Naming.{node_of}
-use Rattle.lk_typed.specs.declared.expression.Callee.TheFolds.{fold-roll-LibraryCall}
-use Rattle.lk_typed.specs.declared.expression.Callee.TheOpen.{LibraryCall-F}
 use Rattle.lk_typed.specs.declared.library.LibraryCall.{LibraryCall}
 use Rattle.lk_typed.specs.declared.library.LibraryCall.TheVariants as library
 use Rattle.lk_typed.specs.declared.expression.TypedExpr.{TypedExpr}
@@ -127,12 +126,6 @@ texts_counted table source (e ∷ es) =
     ap (λ t. if is_text (type_at table t) then suc (length (texts_of (names_of table source) (map (part (names_of table source)) es)))
     else length (texts_of (names_of table source) (map (part (names_of table source)) es))) (type_of (names_of table source) e) ∙
     ap (λ n. if is_text (type_at table e.ty) then suc n else n) (texts_counted table source es)
-
-of_Print : (names : Names) (format : TypedExpr) (args : List TypedExpr) →
-    library_part names (library.Print format args) ≡ (λ node. print_part names node (part names format) (map (part names) args))
-unfolding part form_part library_part
-of_Print names format args = ap (library_part names) (sym (library.rolls-Print format args)) ∙
-    fold-roll-LibraryCall Called (Node → Part) (Node → Part) Part (of_callee names) (of_form names) (of_library names) (of_expr names) (LibraryCall-F.Print format args)
 
 pub print_counts : (table : Table) (source : SourceNames) (call : LibraryCall) (format : TypedExpr) (args : List TypedExpr) (node : Node) → call ≡ library.Print format args →
     text_count table args + 1 ≡ (library_part (names_of table source) call node).count

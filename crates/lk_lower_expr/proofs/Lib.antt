@@ -1,6 +1,10 @@
 pub mod Begun
+pub mod Calls
 pub mod Chosen
 pub mod Forms
 pub mod Given
+pub mod Inside
 pub mod Nodes
 pub mod Operands
+pub mod Stepped
+pub mod Texts

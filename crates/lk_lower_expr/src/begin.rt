@@ -33,7 +33,7 @@ fn place_first(
 /// Where the first of some operands begins; the first step of the node where there is none.
 #[cycle(begins)]
 #[tactic(auto, unfolding(crate::specs::Expressions::part))]
-fn operands_first(
+pub(crate) fn operands_first(
     table: &TypeTable,
     names: &SourceNames,
     operands: &[TypedExpr],

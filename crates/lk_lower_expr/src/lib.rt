@@ -12,10 +12,15 @@ mod lay;
 mod library;
 mod make;
 mod names;
+mod own;
+mod print;
 mod step;
 mod value;
+mod walk;
 
 pub use begin::first_of;
 pub use names::{LocalNames, SourceNames};
+pub use own::own_steps;
 pub use step::{NamedStep, Step};
 pub use value::{count_of, slot_of, value_of};
+pub use walk::push_steps;

@@ -1,23 +1,26 @@
 //! The steps of calls of the library (C99 7, POSIX pthread.h).
 ghost use Rattle.std.specs.Prelude.{◌≡◌, ◌∷◌, [], IfOk};
+ghost use Rattle.std.specs.Option.{option_map};
 ghost use Rattle.lk_facts.specs.declared.action.Action.TheVariants as does;
-ghost use Rattle.lk_lower_expr.specs.Counts.{on_by};
+ghost use Rattle.lk_lower_expr.specs.Expressions.{library_part};
 ghost use Rattle.lk_lower_expr.specs.Library as calls;
 ghost use Rattle.lk_lower_expr.specs.Parts as parts;
-ghost use Rattle.lk_lower_expr.specs.Naming.{at_of, names_of, node_of, part_in, AreFew};
+ghost use Rattle.lk_lower_expr.specs.Naming.{names_of, node_of, part_in, AreFew};
 
+use crate::call::extern_steps;
 use crate::make::{one_step, step, value_type};
 use crate::names::SourceNames;
+use crate::print::{print_steps, scan_steps};
 use crate::step::Step;
 use crate::value::value_of;
-use lk_base::{NoMemory, Seq};
+use lk_base::{Boxed, NoMemory, Seq};
 use lk_facts::Action;
-use lk_typed::TypedExpr;
+use lk_typed::{LibraryCall, TypedExpr};
 use lk_types::{TypeId, TypeTable};
 use std::alloc::Global;
 
 /// The step of a call after which control ends.
-pub(crate) fn end_steps(alloc: Global, e: &TypedExpr, does: Action) -> Result<Vec<Step>, NoMemory>
+fn end_steps(alloc: Global, e: &TypedExpr, does: Action) -> Result<Vec<Step>, NoMemory>
     ensures { IfOk result (λ steps. steps.items ≡ calls.last does e.now.spot ∷ []) }
 {
     let is = Step {
@@ -31,7 +34,7 @@ pub(crate) fn end_steps(alloc: Global, e: &TypedExpr, does: Action) -> Result<Ve
 
 /// The steps of `pthread_create`: the thread, and then the store of its id unless there is none.
 #[tactic(auto, using(crate::proofs::Nodes::stands_at))]
-pub(crate) fn create_steps(
+fn create_steps(
     alloc: Global,
     table: &TypeTable,
     names: &SourceNames,
@@ -64,7 +67,7 @@ pub(crate) fn create_steps(
 }
 
 /// The steps of `pthread_cond_wait`: the mutex is released and then taken again.
-pub(crate) fn wait_steps(
+fn wait_steps(
     alloc: Global,
     table: &TypeTable,
     names: &SourceNames,
@@ -91,8 +94,8 @@ pub(crate) fn wait_steps(
     Ok(steps)
 }
 
-/// The step of `malloc` and `calloc`.
-pub(crate) fn allocate_steps(
+/// The step of an allocation of so many elements.
+fn allocation(
     alloc: Global,
     table: &TypeTable,
     names: &SourceNames,
@@ -116,8 +119,33 @@ pub(crate) fn allocate_steps(
     one_step(alloc, does, value_type(table, names, e.ty), e.spot, on)
 }
 
+/// The step of `malloc` and `calloc`: of the size only the count is computed.
+fn allocate_steps(
+    alloc: Global,
+    table: &TypeTable,
+    names: &SourceNames,
+    e: &TypedExpr,
+    ty: TypeId,
+    count: &Option<Boxed<TypedExpr>>,
+    zero: bool,
+    on: u32,
+) -> Result<Vec<Step>, NoMemory>
+    requires { AreFew names.now }
+    ensures { IfOk result (λ steps.
+        steps.items ≡ (calls.allocate_part (names_of table.now names.now) (node_of e.now) ty
+        (option_map (part_in table.now names.now) count.now) zero).steps on) }
+{
+    match count {
+        None => allocation(alloc, table, names, e, ty, None, zero, on),
+        Some(count) => {
+            let count = value_of(table, names, count.get())?;
+            allocation(alloc, table, names, e, ty, Some(count), zero, on)
+        }
+    }
+}
+
 /// The step of `pthread_equal`.
-pub(crate) fn equal_steps(
+fn equal_steps(
     alloc: Global,
     table: &TypeTable,
     names: &SourceNames,
@@ -141,59 +169,90 @@ pub(crate) fn equal_steps(
     one_step(alloc, does, value_type(table, names, e.ty), e.spot, on)
 }
 
-/// The step of a read of a text, at the operand that points to it.
-#[tactic(auto, using(crate::proofs::Nodes::stands_at))]
-pub(crate) fn scan_step(
-    alloc: Global,
-    table: &TypeTable,
-    names: &SourceNames,
-    text: &TypedExpr,
-    gives: Option<TypeId>,
-    on: u32,
-) -> Result<Step, NoMemory>
-    requires { AreFew names.now }
-    ensures { IfOk result (λ is.
-        is ≡ calls.scan (names_of table.now names.now) (part_in table.now names.now text.now) gives on) }
-{
-    let does = Action::Scan(value_of(table, names, text)?);
-    step(alloc, does, gives, text.spot, on)
-}
-
-/// The step of a call that reads one text.
-pub(crate) fn scan_steps(
+/// The steps of a call of the library.
+#[tactic(auto, unfolding(crate::specs::Expressions::library_part))]
+pub(crate) fn library_steps(
     alloc: Global,
     table: &TypeTable,
     names: &SourceNames,
     e: &TypedExpr,
-    text: &TypedExpr,
+    call: &LibraryCall,
     on: u32,
 ) -> Result<Vec<Step>, NoMemory>
     requires { AreFew names.now }
     ensures { IfOk result (λ steps.
-        steps.items ≡ (calls.scan_part (names_of table.now names.now) (node_of e.now)
-        (part_in table.now names.now text.now)).steps on) }
+        steps.items ≡ (library_part (names_of table.now names.now) call.now (node_of e.now)).steps on) }
 {
     let gives = value_type(table, names, e.ty);
-    let is = scan_step(alloc, table, names, text, gives, on)?;
-    Ok(vec![in alloc; is]?)
-}
-
-/// Where control goes on before the step `k` of a call that reads that many texts more.
-pub(crate) fn text_point(
-    names: &SourceNames,
-    node: u32,
-    k: u32,
-    left: u32,
-    on: u32,
-) -> Result<u32, NoMemory>
-    requires { AreFew names.now }
-    ensures { IfOk result (λ point. point ≡ on_by left (at_of names.now node k) on) }
-{
-    if left == 0 {
-        return Ok(on);
+    match call {
+        LibraryCall::Create(id, entity, argument) => create_steps(
+            alloc,
+            table,
+            names,
+            e,
+            id.get(),
+            *entity,
+            argument.get(),
+            on,
+        ),
+        LibraryCall::Join(a) => {
+            let a = value_of(table, names, a.get())?;
+            one_step(alloc, Action::Join(a), gives, e.spot, on)
+        }
+        LibraryCall::Detach(a) => {
+            let a = value_of(table, names, a.get())?;
+            one_step(alloc, Action::Detach(a), gives, e.spot, on)
+        }
+        LibraryCall::Init(a) => {
+            let a = value_of(table, names, a.get())?;
+            one_step(alloc, Action::Init(a), gives, e.spot, on)
+        }
+        LibraryCall::Destroy(a) => {
+            let a = value_of(table, names, a.get())?;
+            one_step(alloc, Action::Destroy(a), gives, e.spot, on)
+        }
+        LibraryCall::Lock(a) => {
+            let a = value_of(table, names, a.get())?;
+            one_step(alloc, Action::Lock(a), gives, e.spot, on)
+        }
+        LibraryCall::Unlock(a) => {
+            let a = value_of(table, names, a.get())?;
+            one_step(alloc, Action::Unlock(a), gives, e.spot, on)
+        }
+        LibraryCall::Signal(a) => {
+            let a = value_of(table, names, a.get())?;
+            one_step(alloc, Action::Signal(a), gives, e.spot, on)
+        }
+        LibraryCall::Free(a) => {
+            let a = value_of(table, names, a.get())?;
+            one_step(alloc, Action::Free(a), gives, e.spot, on)
+        }
+        LibraryCall::ExitThread(_) => end_steps(alloc, e, Action::ExitThread),
+        LibraryCall::Exit(_) => end_steps(alloc, e, Action::ExitProcess),
+        LibraryCall::SelfId => one_step(alloc, Action::SelfId, gives, e.spot, on),
+        LibraryCall::Equal(a, b) => equal_steps(alloc, table, names, e, a.get(), b.get(), on),
+        LibraryCall::Wait(cond, mutex) => wait_steps(
+            alloc,
+            table,
+            names,
+            e,
+            cond.get(),
+            mutex.get(),
+            on,
+        ),
+        LibraryCall::Allocate(ty, count, zero) => {
+            allocate_steps(alloc, table, names, e, *ty, count, *zero, on)
+        }
+        LibraryCall::Scan(a) => scan_steps(alloc, table, names, e, a.get(), on),
+        LibraryCall::Print(format, args) => print_steps(
+            alloc,
+            table,
+            names,
+            e,
+            format.get(),
+            args.list(),
+            on,
+        ),
+        LibraryCall::Compute(args) => extern_steps(alloc, table, names, e, args.list(), on),
     }
-    if k >= 1 << 31 {
-        return Err(NoMemory);
-    }
-    Ok(names.at(node, k))
 }

@@ -120,14 +120,14 @@ fn step_count(table: &TypeTable, place: TypeId, computed: TypeId) -> u32
 }
 
 /// A number of steps with more of them.
-fn with_more(count: u32, more: u32) -> Result<u32, NoMemory>
+pub(crate) fn with_more(count: u32, more: u32) -> Result<u32, NoMemory>
     ensures { IfOk result (λ sum. sum ≡ count + more) }
 {
     count.checked_add(more).ok_or(NoMemory)
 }
 
 /// Whether a type is `char *`.
-fn is_text(table: &TypeTable, ty: TypeId) -> bool
+pub(crate) fn is_text(table: &TypeTable, ty: TypeId) -> bool
     ensures { result ≡ calls.is_text (type_at table.now ty) }
 {
     if ty.0 >= table.count() {
@@ -148,7 +148,7 @@ fn is_text(table: &TypeTable, ty: TypeId) -> bool
 }
 
 /// How many of the operands of `printf` are read as texts.
-fn text_count(table: &TypeTable, args: &[TypedExpr]) -> Result<u32, NoMemory>
+pub(crate) fn text_count(table: &TypeTable, args: &[TypedExpr]) -> Result<u32, NoMemory>
     ensures { IfOk result (λ count. count ≡ counts.text_count table.now args.now) }
 {
     let mut count = 0;
@@ -272,7 +272,7 @@ fn written_step(table: &TypeTable, place: TypeId, computed: TypeId) -> u32
 }
 
 /// The step behind those that a place or a value has at its node, where its value is read or converted.
-fn behind(
+pub(crate) fn behind(
     table: &TypeTable,
     names: &SourceNames,
     node: u32,
