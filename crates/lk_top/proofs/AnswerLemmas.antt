@@ -1,16 +1,19 @@
 -- What the parts of an answer say of the whole.
-use Rattle.std.proofs.Common.{Vec, Global, ℕ, ◌≡◌, ◌≤◌, List, [], ◌∷◌, Option, Some, None, length, refl}
+use Rattle.std.proofs.Common.{Vec, Global, ℕ, ◌≡◌, ◌<◌, ◌≤◌, List, [], ◌∷◌, Option, Some, None, length, drop, refl}
+use Rattle.std.proofs.lemmas.List.Elements.{All-drop}
+use Rattle.std.specs.List.{All}
 use Rattle.std.specs.Option.{ForSome}
 use Rattle.lk_base.specs.declared.code.Code.TheVariants.{TooLong, Form}
 use Rattle.lk_io.specs.Shelf.{Held, IsLonger}
-use Rattle.lk_lex.specs.Answer.{AreTokens, IsRefused}
 use Rattle.lk_base.specs.declared.refusal.Refusal.{Refusal as BaseRefusal}
 use Rattle.lk_lex.specs.declared.token.Token.{Token}
+use Rattle.lk_parse_expr.specs.Input.{spot_of}
+use Rattle.lk_tree.specs.declared.statement.Unit as tree
 use Rattle.lk_form.specs.declared.tree.Program.{Program}
 use Rattle.lk_form.specs.Form.{IsOfForm}
 use Rattle.lk_top.specs.declared.answer.Answer.{Answer}
 use Rattle.lk_top.specs.declared.answer.Answer.TheVariants.{Report, Refusal, Unread}
-use Rattle.lk_top.specs.Outcome.{Refused, Judged, IsUnformed, no_tokens, tokens_alone, too_long, not_of_form, of_form, refusal_of}
+use Rattle.lk_top.specs.Outcome.{Refused, Judged, IsTreeOf, HasNoTree, IsUnformed, without_tree, tree_alone, too_long, not_of_form, of_form, refusal_of}
 use Rattle.lk_top.specs.Run.{Shelved, IsAsBefore}
 use Rattle.lk_top.specs.Answer.{IsLineIn, Reported, Refuses, Unforms, Judges, Answers}
 
@@ -25,10 +28,10 @@ judged_form name source (Report text status) short none refuses = absurd refuses
 judged_form name source (Refusal line) short none (file, refusal, is, line_is) = (file, refusal, not_of_form file refusal short none is, line_is)
 judged_form name source (Unread line) short none refuses = absurd refuses
 
-pub form_refused : (name source : List ℕ) (answer : Answer) (tokens : List Token) (last : List (List ℕ)) → AreTokens (name ∷ []) 0 source last tokens → Refuses name Form answer → Unforms name source answer
-form_refused name source (Report text status) tokens last are refuses = absurd refuses
-form_refused name source (Refusal line) tokens last are refuses = (name, refusal_of Form, tokens_alone tokens last are refl refl, refuses)
-form_refused name source (Unread line) tokens last are refuses = absurd refuses
+pub form_refused : (name source : List ℕ) (answer : Answer) (unit : tree.Unit) (last : List (List ℕ)) → IsTreeOf (name ∷ []) source last unit → Refuses name Form answer → Unforms name source answer
+form_refused name source (Report text status) unit last is refuses = absurd refuses
+form_refused name source (Refusal line) unit last is refuses = (name, refusal_of Form, tree_alone unit last is refl refl, refuses)
+form_refused name source (Unread line) unit last is refuses = absurd refuses
 
 longer : (name : List ℕ) (file : Option (List ℕ)) → IsLonger file 1048576 → (source : List ℕ) × (file ≡ Some source) × Judged name source (Refused name (refusal_of TooLong))
 longer name None long = absurd long
@@ -43,6 +46,14 @@ answered_too_long name shelf (Refusal line) calm long refuses =
     (calm, (name, refusal_of TooLong, refuses, where_told name shelf.files long))
 answered_too_long name shelf (Unread line) calm long refuses = absurd refuses
 
--- a source that the lexer refuses, with the line of that
-pub tokens_refused : (name source : List ℕ) (last : List (List ℕ)) (refusal : BaseRefusal) (line : Vec ℕ Global) → IsRefused (name ∷ []) 0 source last refusal → IsLineIn last refusal line.items → Unforms name source (Refusal line)
-tokens_refused name source last refusal line refused (file, at, line_is) = (file, refusal, no_tokens last refused at, line_is)
+-- a source without a tree, with the line of that
+pub tree_refused : (name source : List ℕ) (last : List (List ℕ)) (refusal : BaseRefusal) (line : Vec ℕ Global) → HasNoTree (name ∷ []) source last refusal → IsLineIn last refusal line.items → Unforms name source (Refusal line)
+tree_refused name source last refusal line none (file, at, line_is) = (file, refusal, without_tree last none at, line_is)
+
+-- the file of the place of a token that is left is among so many; with none left it is the first
+pub in_files : (count left : ℕ) (tokens : List Token) → 0 < count → All (λ token. token.spot.file < count) tokens → (spot_of (drop left tokens)).file < count
+in_files count left tokens some all = first_of (drop left tokens) (All-drop _ left tokens all)
+  where
+    first_of : (rest : List Token) → All (λ token. token.spot.file < count) rest → (spot_of rest).file < count
+    first_of [] all = some
+    first_of (first ∷ others) all = all.0

@@ -5,7 +5,6 @@ use Rattle.std.proofs.Math.Seq.{take-length}
 use Rattle.lk_base.specs.declared.status.Status.{Status}
 use Rattle.lk_base.specs.declared.status.Status.TheVariants as status
 use Rattle.lk_io.specs.Sink.{Takes}
-use Rattle.lk_lex.specs.Laws.{HasOneAnswer}
 use Rattle.lk_form.specs.declared.tree.Program.{Program}
 use Rattle.lk_facts.specs.declared.verdict.Verdict.{Verdict}
 use Rattle.lk_top.specs.Texts.{unwritten_line, refused_line, unread_line}
@@ -82,11 +81,11 @@ module _ (words : List (List ℕ)) (name : List ℕ) (is_command : command words
         in
         published_fails words shelf out err wanted ends text.items told_report published (is_no_fault wanted answers.1) failed
 
-    module _ (one_program : HasOneProgram) (one_answer : HasOneAnswer) where
+    module _ (one_program : HasOneProgram) where
       pub report_always : ForSome shelf.files (λ files. NoneHasRisen shelf out err → AlwaysReports words files ends)
       report_always files held none n program verdicts comes =
           let (source, file, (p, vs, judgement, text_is, status_is)) = answers.2 files held in
-          let same : Verdicts name p vs ≡ Verdicts n program verdicts = one_outcome one_program one_answer (judged name source _ is_command file judgement) comes in
+          let same : Verdicts name p vs ≡ Verdicts n program verdicts = one_outcome one_program (judged name source _ is_command file judgement) comes in
           let verdicts_same : vs ≡ verdicts = cc in
           elim published [
             | inl (e, got, calm, quiet) ↦ inl (e ∙ (status_is ∙ ap status_of verdicts_same))
@@ -96,7 +95,7 @@ module _ (words : List (List ℕ)) (name : List ℕ) (is_command : command words
       pub report_never_refuses : ForSome shelf.files (λ files. NoneHasRisen shelf out err → AlwaysRefuses words files ends)
       report_never_refuses files held none n refusal comes =
           let (source, file, (p, vs, judgement, text_is, status_is)) = answers.2 files held in
-          let same : Verdicts name p vs ≡ Refused n refusal = one_outcome one_program one_answer (judged name source _ is_command file judgement) comes in
+          let same : Verdicts name p vs ≡ Refused n refusal = one_outcome one_program (judged name source _ is_command file judgement) comes in
           cc
 
   module _ (line : Vec ℕ Global) (answers : Answers name shelf (Refusal line)) (told : Told status.Refused line.items err ends) where
@@ -123,12 +122,11 @@ module _ (words : List (List ℕ)) (name : List ℕ) (is_command : command words
         let told_line = subst (λ l. Told status.Refused l err ends) line_is told in
         told_fails words shelf out err status.Refused ends (refused_line file refusal) quiet row told_line (λ e. cc) failed
 
-    pub refusal_never_reports : HasOneProgram → HasOneAnswer → ForSome shelf.files (λ files. NoneHasRisen shelf out err → AlwaysReports words files ends)
-    refusal_never_reports one_program one_answer files held none n program verdicts comes =
+    pub refusal_never_reports : HasOneProgram → ForSome shelf.files (λ files. NoneHasRisen shelf out err → AlwaysReports words files ends)
+    refusal_never_reports one_program files held none n program verdicts comes =
         let (file, refusal, line_is, judgement) = answers.1 in
         let (source, there, refused_so) = judgement files held in
-        let same : Refused file refusal ≡ Verdicts n program verdicts = one_outcome one_program one_answer (judged name source _ is_command there refused_so) comes in
-        cc
+        absurd (one_outcome one_program (judged name source _ is_command there refused_so) comes)
 
   module _ (line : Vec ℕ Global) (answers : Answers name shelf (Unread line)) (told : Told status.ReadFault line.items err ends) where
     pub misses : ends ≡ status.ReadFault → Misses words shelf err

@@ -1,11 +1,16 @@
 -- What a command comes to: which of usage, a missing file, a refusal or verdicts.
 use Rattle.std.specs.Prelude.{ℕ, ◌≡◌, ◌<◌, ◌≤◌, List, [], ◌∷◌, length, slice_get, Some, None}
+use Rattle.lk_base.specs.declared.fault.Fault.{Fault}
+use Rattle.lk_base.specs.declared.fault.Fault.TheVariants as fault
 use Rattle.lk_base.specs.declared.refusal.Refusal.{Refusal}
 use Rattle.lk_base.specs.declared.code.Code.{Code}
 use Rattle.lk_base.specs.declared.code.Code.TheVariants.{TooLong, Form}
 use Rattle.lk_io.specs.Shelf.{Held}
 use Rattle.lk_lex.specs.Answer.{AreTokens, IsRefused}
 use Rattle.lk_lex.specs.declared.token.Token.{Token}
+use Rattle.lk_parse_unit.specs.Parsing.{IsRefusal}
+use Rattle.lk_parse_unit.specs.Tree.{IsTree}
+use Rattle.lk_tree.specs.declared.statement.Unit as tree
 use Rattle.lk_form.specs.declared.tree.Program.{Program}
 use Rattle.lk_form.specs.Form.{IsOfForm}
 use Rattle.lk_facts.specs.declared.verdict.Verdict.{Verdict}
@@ -36,11 +41,27 @@ pub data Outcome : Type 0 where
   Refused : (file : List ℕ) (refusal : Refusal) → Outcome
   Verdicts : (name : List ℕ) (program : Program) (verdicts : List Verdict) → Outcome
 
--- Why a source that is not of the form is refused, and the name of the file in which the place of that stands: its bytes are no tokens of the
--- subset, or a word among them is refused (C99 6.4); where neither is so, the form itself.
+-- The bytes of a source are tokens of the subset, and these are this tree, at most 200 deep (C99 6.4 to 6.9). The names of its files grow from the first to the last.
+pub record IsTreeOf (names : List (List ℕ)) (source : List ℕ) (last : List (List ℕ)) (unit : tree.Unit) : Type 0 where
+  pub tokens : List Token
+  pub are : AreTokens names 0 source last tokens
+  pub is : IsTree 200 source tokens unit
+
+-- Why a source has no such tree: its bytes are no tokens of the subset, or a word among them is refused (C99 6.4); or its tokens are no tree of the grammar, or a
+-- deeper one alone (C99 6.5 to 6.9).
+pub data HasNoTree (names : List (List ℕ)) (source : List ℕ) (last : List (List ℕ)) (refusal : Refusal) : Type 0 where
+  no_tokens : IsRefused names 0 source last refusal → HasNoTree names source last refusal
+  no_tree : (tokens : List Token) → AreTokens names 0 source last tokens → IsRefusal 200 source tokens refusal → HasNoTree names source last refusal
+
+-- a cause whose file is among the names; or want of memory
+abbrev pub IsTreeFault : List (List ℕ) → List ℕ → List (List ℕ) → Fault → Type 0
+IsTreeFault names source last fault.NoMemory = Unit {0}
+IsTreeFault names source last (fault.Refused refusal) = HasNoTree names source last refusal × (refusal.spot.file < length last)
+
+-- Why a source that is not of the form is refused, and the name of the file in which the place of that stands: it has no tree; where it has one, the form itself.
 pub data IsUnformed (name source file : List ℕ) (refusal : Refusal) : Type 0 where
-  no_tokens : (last : List (List ℕ)) → IsRefused (name ∷ []) 0 source last refusal → slice_get last refusal.spot.file ≡ Some file → IsUnformed name source file refusal
-  tokens_alone : (tokens : List Token) (last : List (List ℕ)) → AreTokens (name ∷ []) 0 source last tokens → file ≡ name → refusal ≡ refusal_of Form → IsUnformed name source file refusal
+  without_tree : (last : List (List ℕ)) → HasNoTree (name ∷ []) source last refusal → slice_get last refusal.spot.file ≡ Some file → IsUnformed name source file refusal
+  tree_alone : (unit : tree.Unit) (last : List (List ℕ)) → IsTreeOf (name ∷ []) source last unit → file ≡ name → refusal ≡ refusal_of Form → IsUnformed name source file refusal
 
 -- what a source comes to
 pub data Judged (name source : List ℕ) : Outcome → Type 0 where

@@ -1,8 +1,8 @@
 //! What a command comes to, before anything is written.
-ghost use Rattle.std.specs.Prelude.{◌≡◌, ◌<◌, ◌≤◌, [], ◌∷◌, length, IfOk};
+ghost use Rattle.std.specs.Prelude.{◌≡◌, ◌<◌, ◌≤◌, [], ◌∷◌, length, IfOk, IfErr};
 ghost use Rattle.lk_io.specs.Shelf.{IsFileName};
 ghost use Rattle.lk_form.specs.Form.{AreResolved};
-ghost use Rattle.lk_top.specs.Outcome.{refusal_of};
+ghost use Rattle.lk_top.specs.Outcome.{refusal_of, IsTreeOf, IsTreeFault};
 ghost use Rattle.lk_top.specs.Run.{shelved, status_of};
 ghost use Rattle.lk_top.specs.Answer.{IsLineIn, Reported, Refuses, Unforms, Judges, Answers};
 
@@ -14,7 +14,9 @@ use lk_form::{Program, read_program};
 use lk_io::{ReadFault, Shelf, read_whole};
 use lk_lex::tokens;
 use lk_lower::lower;
+use lk_parse_unit::parse_unit;
 use lk_solve::solve;
+use lk_tree::Unit;
 use std::alloc::Global;
 
 /// What a command with a FILE comes to: the text that is to be written.
@@ -108,14 +110,26 @@ fn line_in(alloc: Global, files: &Files, refusal: &Refusal) -> Result<Vec<u8>, N
     Ok(line)
 }
 
+/// The tree of a source, which is the first of the files. The names of its line marks are put behind it.
+fn tree_of(alloc: Global, source: &[u8], files: &mut Files) -> Result<Unit, Fault>
+    requires few { length source.now ≤ 1048576 }
+    requires own { length files.old ≡ 1 }
+    ensures tree { IfOk result (IsTreeOf files.old source.now files.new) }
+    ensures err { IfErr result (IsTreeFault files.old source.now files.new) }
+{
+    let list = tokens(alloc, source, FIRST_BYTE.file, files)?;
+    let unit = parse_unit(alloc, source, &list)?;
+    Ok(unit)
+}
+
 /// What a source comes to that is not of the form: it is refused.
 fn unformed(alloc: Global, name: &[u8], source: &[u8]) -> Result<Answer, NoMemory>
     requires { length source.now ≤ 1048576 }
     ensures { IfOk result (λ answer. Unforms name.now source.now answer) }
 {
     let mut files = files_of(alloc, name)?;
-    match tokens(alloc, source, FIRST_BYTE.file, &mut files) {
-        Ok(_) => {
+    match tree_of(alloc, source, &mut files) {
+        Ok(_unit) => {
             let answer = refuse(alloc, name, Code::Form)?;
             Ok(answer)
         }

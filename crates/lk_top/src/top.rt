@@ -9,7 +9,6 @@ use crate::answer::{Answer, examine};
 use crate::words::command;
 use lk_base::{NoMemory, Status};
 use lk_io::{Failed, Shelf, Sink, write_whole};
-use lk_lex::one_split;
 use std::alloc::Global;
 
 const USAGE_LINE: &[u8] = b"usage: lsrace check [--externs FILE] FILE...\n";
@@ -92,8 +91,6 @@ pub fn run<F: Shelf, S: Sink, E: Sink>(
     let Some(name) = command(words) else {
         return tell(err, USAGE_LINE, Status::Usage);
     };
-    // By this law the tokens of a source, or why it has none, are one thing.
-    one_split();
     match examine(alloc, name, shelf) {
         Ok(Answer::Report { text, status }) => publish(out, err, &text, status),
         Ok(Answer::Refusal { line }) => tell(err, &line, Status::Refused),

@@ -18,11 +18,11 @@ returns-in-Ok-Report-clause-fails g c =
 
 pub returns-in-Ok-Report-clause-always_reports : goal.returns-in-Ok-Report-clause-always_reports
 returns-in-Ok-Report-clause-always_reports g c =
-    report_always _ _ (search rules) _ _ _ _ c.in-Ok-Report.text _ (rw c.in-Ok-Report.field-0-is at c.in-Ok-Report.ensures.answer) (rw c.deref.ensures.value at c.publish.ensures.published) one_program c.one_split.ensures.answer
+    report_always _ _ (search rules) _ _ _ _ c.in-Ok-Report.text _ (rw c.in-Ok-Report.field-0-is at c.in-Ok-Report.ensures.answer) (rw c.deref.ensures.value at c.publish.ensures.published) one_program
 
 pub returns-in-Ok-Report-clause-always_refuses : goal.returns-in-Ok-Report-clause-always_refuses
 returns-in-Ok-Report-clause-always_refuses g c =
-    report_never_refuses _ _ (search rules) _ _ _ _ c.in-Ok-Report.text _ (rw c.in-Ok-Report.field-0-is at c.in-Ok-Report.ensures.answer) (rw c.deref.ensures.value at c.publish.ensures.published) one_program c.one_split.ensures.answer
+    report_never_refuses _ _ (search rules) _ _ _ _ c.in-Ok-Report.text _ (rw c.in-Ok-Report.field-0-is at c.in-Ok-Report.ensures.answer) (rw c.deref.ensures.value at c.publish.ensures.published) one_program
 
 pub returns-in-Ok-Refusal-clause-refuses : goal.returns-in-Ok-Refusal-clause-refuses
 returns-in-Ok-Refusal-clause-refuses g c =
@@ -34,7 +34,7 @@ returns-in-Ok-Refusal-clause-fails g c =
 
 pub returns-in-Ok-Refusal-clause-always_reports : goal.returns-in-Ok-Refusal-clause-always_reports
 returns-in-Ok-Refusal-clause-always_reports g c =
-    refusal_never_reports _ _ (search rules) _ _ _ _ c.in-Ok-Refusal.line (rw c.in-Ok-Refusal.field-0-is at c.in-Ok-Refusal.ensures.answer) (rw c.deref-in-Ok-Refusal.ensures.value at c.tell-in-Ok-Refusal.ensures) one_program c.one_split.ensures.answer
+    refusal_never_reports _ _ (search rules) _ _ _ _ c.in-Ok-Refusal.line (rw c.in-Ok-Refusal.field-0-is at c.in-Ok-Refusal.ensures.answer) (rw c.deref-in-Ok-Refusal.ensures.value at c.tell-in-Ok-Refusal.ensures) one_program
 
 pub returns-in-Ok-Unread-clause-misses : goal.returns-in-Ok-Unread-clause-misses
 returns-in-Ok-Unread-clause-misses g c =

@@ -1,0 +1,3 @@
+int n = ;
+float f;
+int main(void) { return 0; }

@@ -1,0 +1,3 @@
+int n;
+n = 1;
+int main(void) { return 0; }

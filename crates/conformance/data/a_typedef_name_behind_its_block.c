@@ -1,0 +1,1 @@
+int main(void) { { typedef int T; } T n; return 0; }

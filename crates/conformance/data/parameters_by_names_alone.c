@@ -1,0 +1,2 @@
+int f(n) int n; { return n; }
+int main(void) { return f(0); }
