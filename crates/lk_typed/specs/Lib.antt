@@ -8,6 +8,7 @@ pub mod Conversions
 pub mod DeclarationRules
 pub mod Declarations
 pub mod DeclaratorRules
+pub mod Elements
 pub mod Env
 pub mod ExprRules
 pub mod Expressions
