@@ -1,5 +1,5 @@
 -- What the rows and lines of single rules come to.
-use Rattle.std.proofs.Common.{◌≡◌, ◌∙◌, ◌++◌, Bool, true, false, List, [], ◌∷◌, ℕ, Option, Some, None, refl, sym, ap, subst}
+use Rattle.std.proofs.Common.{◌≡◌, ◌∙◌, Bool, true, false, List, [], ◌∷◌, ℕ, Option, Some, None, refl, sym, ap, subst}
 use Rattle.std.specs.Prelude.{if◌then◌else◌, ◌||◌, not, is_some}
 use Rattle.std.proofs.lemmas.Bool.{false≢true}
 use Rattle.lk_base.specs.declared.code.Code.{Code}

@@ -5,14 +5,30 @@
 #![tactic(auto)]
 
 mod assignments;
+mod calls;
 mod choices;
 mod constants;
+mod fields;
+mod formats;
+mod library;
 mod literals;
+mod looks;
 mod operators;
 mod places;
+mod signatures;
+mod sizes;
+mod texts;
+mod words;
 
 pub use assignments::{assign, cast, converted};
+pub use calls::{Argument, call};
 pub use choices::{choice, comma};
+pub use fields::{arrow, dot};
+pub use library::{Asks, LibraryFunction, Parameter, Passing};
 pub use literals::{character, number};
+pub use looks::Look;
 pub use operators::binary;
 pub use places::{index, prefix, step};
+pub use sizes::size_of;
+pub use texts::text;
+pub use words::{NameUse, word};

@@ -1,3 +1,4 @@
+pub mod Elements
 pub mod FirstTypes
 pub mod LeastCodes
 pub mod Meanings

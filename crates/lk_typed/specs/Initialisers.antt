@@ -7,7 +7,6 @@ use Rattle.lk_tree.specs.declared.declaration.Init.{Init, out-Init}
 use Rattle.lk_tree.specs.declared.declaration.Init.TheFolds.{fold-Init}
 use Rattle.lk_tree.specs.declared.declaration.Init.TheOpen.{Init-F, Entry-F, InitList-F}
 use Rattle.lk_tree.specs.declared.declaration.InitList.{InitList, out-InitList}
-use Rattle.lk_tree.specs.declared.expression.Expr.{Expr}
 use Rattle.lk_typed.specs.Env.{Env, Additions, nothing, both, extend, converted_to}
 use Rattle.lk_typed.specs.Faults.{Breach}
 use Rattle.lk_typed.specs.InitialiserRules.{Object, Braces, entry_type, expression_rules, list_rules, size_given, with_zero}

@@ -1,8 +1,6 @@
 -- What each layer of a declaration tells, from what its parts tell (C99 6.7.2 to 6.7.6).
 use Rattle.std.specs.Prelude.{ℕ, ◌&&◌, ◌||◌, Bool, true, false, not, Option, Some, None, List, [], ◌∷◌, ◌++◌, if◌then◌else◌, ℤ}
 use Rattle.lk_base.specs.declared.spot.Spot.{Spot}
-use Rattle.lk_typed.specs.declared.entity.Linkage.TheVariants as linkage
-use Rattle.lk_typed.specs.declared.entity.Defines.TheVariants as defines
 use Rattle.lk_typed.specs.DeclarationRules.{InType, type_in}
 use Rattle.lk_typed.specs.DeclaratorRules.{Size, adjusted, array_rules, array_type, function_rules, parameter_rules, pointer_rules}
 use Rattle.lk_typed.specs.Env.{Env, Additions, Name, AnObject, AFaultyName, Field, nothing, both, past_scope, extend, enter}

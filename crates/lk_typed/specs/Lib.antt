@@ -11,6 +11,7 @@ pub mod DeclarationRules
 pub mod Declarations
 pub mod DeclaratorRules
 pub mod Elaborated
+pub mod Elements
 pub mod Entities
 pub mod Env
 pub mod ExprRules

@@ -1,5 +1,5 @@
 -- The library as one table: each function's type, and how each of its arguments is passed (POSIX, pthread.h; C99 7.19, 7.20); and the other predeclared names.
-use Rattle.std.specs.Prelude.{Bool, true, false, Option, None, List, [], ◌∷◌, ◌++◌, map, codes}
+use Rattle.std.specs.Prelude.{Bool, true, false, Option, List, [], ◌∷◌, ◌++◌, map, codes}
 use Rattle.lk_base.specs.declared.code.Code.{Code}
 use Rattle.lk_base.specs.declared.code.Code.TheVariants.{Attribute, JoinResult}
 use Rattle.lk_typed.specs.declared.entity.Linkage.{Linkage}

@@ -1,5 +1,5 @@
 -- What the code's names, tags and roles stand for, in the words of the rules.
-use Rattle.std.specs.Prelude.{ℕ, Bool, true, false, ⊤}
+use Rattle.std.specs.Prelude.{Bool, true, false, ⊤}
 use Rattle.lk_types.specs.Table.{Table, IsKnown}
 use Rattle.lk_typed.specs.Env as env
 use Rattle.lk_typed.specs.Meaning.{meaning, meaning_of, IsKnownType}

@@ -22,7 +22,6 @@ use Rattle.lk_tree.specs.declared.statement.Decl.{Decl}
 use Rattle.lk_tree.specs.declared.statement.Decl.TheVariants as decl
 use Rattle.lk_tree.specs.declared.statement.ForFirst.{ForFirst}
 use Rattle.lk_tree.specs.declared.statement.ForFirst.TheVariants as first
-use Rattle.lk_tree.specs.declared.statement.Function.{Function}
 use Rattle.lk_tree.specs.declared.statement.Stmt.{Stmt}
 use Rattle.lk_tree.specs.declared.statement.StmtForm.{StmtForm, out-StmtForm}
 use Rattle.lk_base.specs.declared.code.Code.TheVariants.{Incomplete}
@@ -44,7 +43,7 @@ use Rattle.lk_typed.specs.Parts.{added_by, first_adds, inner_adds, size_in}
 use Rattle.lk_typed.specs.Redeclared.{name_rules}
 use Rattle.lk_typed.specs.Stands.{Mark}
 use Rattle.lk_typed.specs.StatementRules.{Around, Returned, Nothing, Converted, break_rules, case_rules, condition_rules, continue_rules, default_rules, dropped_rules, goto_rules, label_rules, return_rules, switch_rules}
-use Rattle.lk_typed.specs.Told.{Named, with_optional}
+use Rattle.lk_typed.specs.Told.{with_optional}
 use Rattle.lk_typed.specs.Ty.{Ty, is_void}
 use Rattle.lk_typed.specs.Expressions.{declarator_found, expr_breaches, expr_constant, expr_conversion, expr_type, expr_word, has_expr_type, item_found, parameter_found, specifiers_found, type_found}
 

@@ -1,6 +1,5 @@
 -- The parts of a node, each in its environment: the one place that says which names stand where (C99 6.2.1).
 use Rattle.std.specs.Prelude.{Bool, false, not, Option, Some, None, List, [], ◌∷◌, ◌++◌, map, ℤ}
-use Rattle.lk_tree.specs.declared.declaration.Declare.{Declare}
 use Rattle.lk_tree.specs.declared.expression.DeclaratorForm.TheOpen.{DeclaratorForm-F, Specifier-F}
 use Rattle.lk_tree.specs.declared.expression.Declarator.{Declarator}
 use Rattle.lk_tree.specs.declared.expression.DeclaratorForm.{DeclaratorForm}

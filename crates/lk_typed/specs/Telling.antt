@@ -2,7 +2,7 @@
 use Rattle.std.specs.Prelude.{ℕ, ◌||◌, Bool, true, false, Option, Some, None, [], ◌∷◌, ℤ}
 use Rattle.lk_tree.specs.declared.expression.DeclaratorForm.TheOpen.{DeclaratorForm-F, MemberDeclarator-F, Specifier-F, Declarator-F, Item-F, Member-F, Parameter-F, TypeName-F}
 use Rattle.lk_typed.specs.DeclaratorRules.{Size}
-use Rattle.lk_typed.specs.Env.{Env, Additions, Field, nothing, both, extend, look_up, as_operand}
+use Rattle.lk_typed.specs.Env.{Env, Additions, nothing, both, extend, look_up, as_operand}
 use Rattle.lk_typed.specs.Layers.{Placed, DeclaratorLayer, ParameterTeller, MemberDeclaratorTeller, layer, inner_of, named_told, pointer_layer, array_told, function_layer, parameter_told, type_name_told, plain_member, faulty_member, member_told, item_told}
 use Rattle.lk_typed.specs.Told.{SpecifierTeller, MemberTeller, ItemTeller, TypeTold, no_specifier, of_type_alone, struct_named, struct_use, struct_defined, enum_named, enum_defined, typedef_of, next_value, written_value}
 use Rattle.lk_typed.specs.declared.constant.Constant.{Constant}

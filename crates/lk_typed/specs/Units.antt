@@ -1,6 +1,5 @@
 -- The faults of a source: which code holds at which node, and the least of them.
 use Rattle.std.specs.Prelude.{◌++◌, false, Option, Some, None, List, [], ◌∷◌}
-use Rattle.lk_tree.specs.declared.declaration.Declare.{Declare}
 use Rattle.lk_tree.specs.declared.statement.Decl.{Decl}
 use Rattle.lk_tree.specs.declared.statement.Decl.TheVariants as decl
 use Rattle.lk_tree.specs.declared.statement.Unit.{Unit}
