@@ -43,8 +43,8 @@ module _ (old new : Table) (good : IsTable old) (new_good : IsTable new) (longer
   few_added : (form : CType) → new.types ≡ old.types ++ form ∷ [] → IsFew old form → HasFewElements new
   few_added form types is t known =
       elim (within_or t (length old.types)) [
-        inl below ↦ few_older t below
-      | inr past ↦ few_last t form known (subst (λ k. slice_get new.types k ≡ Some form) (sym (last_one t past known)) (subst (λ ts. slice_get ts (length old.types) ≡ Some form) (sym types) (last_got old.types form))) (last_one t past known) is
+        | inl below ↦ few_older t below
+        | inr past ↦ few_last t form known (subst (λ k. slice_get new.types k ≡ Some form) (sym (last_one t past known)) (subst (λ ts. slice_get ts (length old.types) ≡ Some form) (sym types) (last_got old.types form))) (last_one t past known) is
       ]
     where
       last_one : (t : ℕ) → length old.types ≤ t → IsKnown new t → t ≡ length old.types
