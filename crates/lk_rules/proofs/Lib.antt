@@ -1,3 +1,4 @@
+pub mod Asked
 pub mod First
 pub mod Found
 pub mod Listed

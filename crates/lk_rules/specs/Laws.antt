@@ -5,9 +5,10 @@ use Rattle.lk_tree.specs.declared.expression.ExprForm.{out-ExprForm}
 use Rattle.lk_typed.specs.Env.{Env}
 use Rattle.lk_typed.specs.ExprRules.{judged}
 use Rattle.lk_tree.specs.declared.expression.TypeName.{TypeName}
-use Rattle.lk_typed.specs.Expressions.{expression, named, type_found}
+use Rattle.lk_typed.specs.Expressions.{expression, expr_breaches, named, type_found}
 use Rattle.lk_typed.specs.Faults.{Breach, Fault, IsLeast}
-use Rattle.lk_typed.specs.Nodes.{Node, Placed}
+use Rattle.lk_typed.specs.NodeRules.{breaches}
+use Rattle.lk_typed.specs.Nodes.{Node, AnExpression, Placed}
 use Rattle.lk_typed.specs.Stands.{IsIn, IsFault, Mark}
 use Rattle.lk_typed.specs.Typing.{Named}
 use Rattle.lk_rules.specs.FaultLists.{IsWithin, faults_in}
@@ -20,6 +21,10 @@ name_found type env = named (type_found type) env
 -- what is found of an expression is what the rule of its form says of its parts, each in its own environment
 abbrev pub ExpressionsFollowTheirRules : Type 0
 ExpressionsFollowTheirRules = (e : Expr) (env : Env) → expression e env ≡ judged expression name_found env e.ordinal (out-ExprForm e.form)
+
+-- the codes that hold at an expression are those of its form's rule, which says nothing where a part has no type
+abbrev pub ExpressionsAreAsked : Type 0
+ExpressionsAreAsked = (at_end env : Env) (e : Expr) → breaches at_end env (AnExpression e) ≡ expr_breaches e env
 
 -- the list of the faults of what stands in a node has these, and no others, where the list goes deep enough
 abbrev pub FaultsAreListed : Type 0

@@ -130,7 +130,7 @@ breach_at AnotherForm code = breach code
 abbrev pub expr_breaches : Expr → Env → List Breach
 expr_breaches e env = map (breach_at (written e)) (rules.codes_at expression name_of env e.ordinal (out-ExprForm e.form))
 
-abbrev at_pair : (Env × Node) → Placed
+abbrev pub at_pair : (Env × Node) → Placed
 at_pair (env, node) = at env node
 
 abbrev pub expr_parts : Expr → Env → List Placed

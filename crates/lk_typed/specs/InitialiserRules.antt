@@ -114,6 +114,19 @@ abbrev pub is_text : Ty → Option ℕ → Bool
 is_text element None = false
 is_text element (Some bytes) = is_character_type element
 
+-- whether a list that is a text alone initialises an object of this type, as the text would without the braces (C99 6.7.8, 14)
+abbrev pub is_text_for : Ty → Option ℕ → Bool
+is_text_for Void text = false
+is_text_for (Int k) text = false
+is_text_for ThreadId text = false
+is_text_for Mutex text = false
+is_text_for Cond text = false
+is_text_for (Pointer t) text = false
+is_text_for (Array t n) text = is_text t text
+is_text_for (Struct s) text = false
+is_text_for (Function result params dots) text = false
+is_text_for (Opaque n) text = false
+
 -- too many entries (C99 6.7.8, 2); an array without a size has as many as its list
 abbrev pub count_rules : ℕ → ℕ → List Breach
 count_rules entries n = unless (nat_eq n 0 || nat_le entries n) BadInitialiser

@@ -9,7 +9,7 @@ use Rattle.lk_tree.specs.declared.declaration.Init.TheOpen.{Init-F, Entry-F, Ini
 use Rattle.lk_tree.specs.declared.declaration.InitList.{InitList, out-InitList}
 use Rattle.lk_typed.specs.Env.{Env, Additions, nothing, both, extend, converted_to}
 use Rattle.lk_typed.specs.Faults.{Breach}
-use Rattle.lk_typed.specs.InitialiserRules.{Object, Braces, entry_type, expression_rules, list_rules, size_given, with_zero}
+use Rattle.lk_typed.specs.InitialiserRules.{Object, Braces, entry_type, expression_rules, is_text_for, list_rules, size_given, with_zero}
 use Rattle.lk_typed.specs.MemberRules.{fields_in}
 use Rattle.lk_typed.specs.Nodes.{AnInitialiser, AnExpression, Placed, at}
 use Rattle.lk_typed.specs.Ty.{Ty, Void, Int, ThreadId, Mutex, Cond, Pointer, Array, Struct, Function, Opaque}
@@ -44,9 +44,10 @@ abbrev pub inner_object : Object → Option Ty → Option Object
 inner_object object None = None
 inner_object object (Some t) = Some (record object { type = t; is_inner = true })
 
-abbrev pub entry_object : Env → Option Object → ℕ → Option Object
-entry_object env None k = None
-entry_object env (Some object) k = inner_object object (entry_type (fields_in env) object.type k)
+-- what the entry with this number initialises: a text that is all of the list the array itself, where it may; else the element or member
+abbrev pub entry_object : Env → Option Object → Option ℕ → ℕ → Option Object
+entry_object env None text k = None
+entry_object env (Some object) text k = if is_text_for object.type text then Some object else inner_object object (entry_type (fields_in env) object.type k)
 
 abbrev pub designator_part : Env → Designator → List Placed
 designator_part env (designator.Member name) = []
@@ -86,13 +87,13 @@ of_list node = in_turn node.entries
 unfoldable pub init_adds : Init → Adder
 init_adds = fold-Init Adder Adder Adder of_init of_entry of_list
 
--- the entries of a list, each with the element or member that it initialises
-abbrev pub entries_in_turn : Option Object → Env → ℕ → List Entry → List Placed
-entries_in_turn object env k [] = []
-entries_in_turn object env k (e ∷ es) =
+-- the entries of a list, each with what it initialises; `text` has the bytes of the text that is all of the list
+abbrev pub entries_in_turn : Option Object → Option ℕ → Env → ℕ → List Entry → List Placed
+entries_in_turn object text env k [] = []
+entries_in_turn object text env k (e ∷ es) =
     let behind = extend env (designators_add env e.designators) in
-    designator_parts env e.designators ++ at behind (AnInitialiser (entry_object behind object k) e.init) ∷
-    entries_in_turn object (extend behind (init_adds e.init behind)) (suc k) es
+    designator_parts env e.designators ++ at behind (AnInitialiser (entry_object behind object text k) e.init) ∷
+    entries_in_turn object text (extend behind (init_adds e.init behind)) (suc k) es
 
 -- an expression that initialises an object is converted to its type
 abbrev pub as_initialiser : Option Object → Env → Env
@@ -106,7 +107,7 @@ unless_word (Some lock) parts = []
 
 abbrev pub parts_of_init : Option Object → Env → Init-F Init Entry InitList → List Placed
 parts_of_init object env (Init-F.Expr e) = unless_word (expr_word e env) (at (as_initialiser object env) (AnExpression e) ∷ [])
-parts_of_init object env (Init-F.List list) = entries_in_turn object env 0 (out-InitList list).entries
+parts_of_init object env (Init-F.List list) = entries_in_turn object (text_alone (out-InitList list).entries) env 0 (out-InitList list).entries
 
 -- ---- rules
 

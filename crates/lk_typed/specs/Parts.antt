@@ -139,9 +139,10 @@ abbrev pub size_in : Option Expr → Env → Size
 size_in None env = None
 size_in (Some e) env = Some (expr_constant e env)
 
-abbrev pub array_left : Env → Left → Option Expr → Left
-array_left env left size =
-    inner_left left (unless_broken (array_rules env left.may_be_absent left.type (size_in size env)) (then_type left.type (array_type (size_in size env))))
+-- the size stands in the environment behind the declarator inside; whether the elements are complete is asked where the declarator begins
+abbrev pub array_left : Env → Env → Left → Option Expr → Left
+array_left env behind left size =
+    inner_left left (unless_broken (array_rules env left.may_be_absent left.type (size_in size behind)) (then_type left.type (array_type (size_in size behind))))
 
 abbrev pub function_left : Env → Left → List Parameter → Bool → Left
 function_left env left ps dots =
@@ -154,7 +155,7 @@ declarator_parts env left (DeclaratorForm-F.Star qualifiers inner) =
 declarator_parts env left (DeclaratorForm-F.Named name) = []
 declarator_parts env left (DeclaratorForm-F.Group inner) = inner_part env (inner_left left left.type) (Some inner)
 declarator_parts env left (DeclaratorForm-F.ArrayOf inner size) =
-    let behind = extend env (inner_adds inner env) in inner_part env (array_left behind left size) inner ++ perhaps behind AnExpression size
+    let behind = extend env (inner_adds inner env) in inner_part env (array_left env behind left size) inner ++ perhaps behind AnExpression size
 declarator_parts env left (DeclaratorForm-F.FunctionOf inner ps dots) =
     let behind = extend env (inner_adds inner env) in inner_part env (function_left behind left ps dots) inner ++ parameters_in_turn (is_lone ps dots) (enter behind) ps
 
