@@ -217,6 +217,26 @@ fn is_text(types: &TypeTable, element: TypeId, text: Option<u32>) -> bool
     text.is_some() && is_character_type(types, element)
 }
 
+/// Whether a list that is a text alone initialises an object of this type, as the text would without the braces
+/// (C99 6.7.8, 14).
+fn is_text_for(types: &TypeTable, t: TypeId, text: Option<u32>) -> bool
+    requires { IsKnown types.now t }
+    ensures { result ≡ spec.is_text_for (meaning types.now t) text }
+{
+    match form(types, t) {
+        CType::Array(element, _) => is_text(types, *element, text),
+        CType::Void
+        | CType::Int(_)
+        | CType::ThreadId
+        | CType::Mutex
+        | CType::Cond
+        | CType::Pointer(_)
+        | CType::Struct(_)
+        | CType::Function { .. }
+        | CType::Opaque(_) => false,
+    }
+}
+
 /// The members of a struct that are known.
 fn fields_of(structs: &[Members], s: u32) -> &[Field]
     ensures { (table : Table) → map (λ field. meaning table field.ty) result.now
@@ -332,18 +352,23 @@ pub fn entry_type(types: &TypeTable, structs: &[Members], t: TypeId, number: u32
     }
 }
 
-/// What the entry with this number, from 0 on, of a list round an object initialises, where there is something.
+/// What the entry with this number, from 0 on, of a list round an object initialises, where there is something: a text that
+/// is all of the list the array itself, where it may, else the element or member.
 pub fn entry_target(
     types: &TypeTable,
     structs: &[Members],
     target: &Target,
+    text: Option<u32>,
     number: u32,
 ) -> Option<Target>
     requires { IsKnown types.now target.now.ty }
     ensures { (env : Env) → env.structs ≡ structs_in types.now structs.now →
         option_map (object_in types.now) result
-        ≡ entry_object env (Some (object_in types.now target.now)) number }
+        ≡ entry_object env (Some (object_in types.now target.now)) text number }
 {
+    if is_text_for(types, target.ty, text) {
+        return Some(*target);
+    }
     match entry_type(types, structs, target.ty, number) {
         Some(ty) => Some(Target {
             ty,
