@@ -100,7 +100,7 @@ module _ (table : Table) (good : IsTable table) where
       let r_less : r < t = All-head (λ v. v < t) r ps i in
       let s_less : s < u = All-head (λ w. w < u) s qs j in
       functions p (subst (λ x. slice_get table.types u ≡ Some (forms.Function s qs x)) (sym (same_flag d f flags.1)) q)
-        (below r s r_less (omega arith) (omega arith) parts.0) (all_from t u below kt ku ps qs (All-tail (λ v. v < t) r ps i) (All-tail (λ w. w < u) s qs j) parts.1)
+      (below r s r_less (omega arith) (omega arith) parts.0) (all_from t u below kt ku ps qs (All-tail (λ v. v < t) r ps i) (All-tail (λ w. w < u) s qs j) parts.1)
   from_forms t u (forms.Function r ps d) _ below kt ku p q i j e = absurd (false≢true e)
   from_forms t u (forms.Opaque s) (forms.Opaque n) below kt ku p q i j e =
       same (good.different t u (forms.Opaque s) p (subst (λ x. slice_get table.types u ≡ Some (forms.Opaque x)) (sym (eqb-true s n e)) q))
@@ -110,8 +110,8 @@ module _ (table : Table) (good : IsTable table) where
   from_below zero t u less kt ku e = absurd (omega (arith, less))
   from_below (suc n) t u less kt ku e =
       from_forms t u (type_at table t) (type_at table u) (λ v w v_less kv kw same. from_below n v w (omega arith) kv kw same) kt ku
-        (form_there table t kt) (form_there table u ku) (good.types t kt).made_of (good.types u ku).made_of
-        (rw (meaning_is table good t kt, meaning_is table good u ku) at e)
+      (form_there table t kt) (form_there table u ku) (good.types t kt).made_of (good.types u ku).made_of
+      (rw (meaning_is table good t kt, meaning_is table good u ku) at e)
 
   -- ---- to trees
 
@@ -132,7 +132,7 @@ module _ (table : Table) (good : IsTable table) where
         let r_less : r < t = All-head (λ v. v < t) r ps i in
         let s_less : s < u = All-head (λ w. w < u) s qs j in
         rw (meaning_by table good t (forms.Function r ps dots) kt p, meaning_by table good u (forms.Function s qs dots) ku q)
-          (both_hold (both_hold (to_trees d (omega arith) (omega arith)) (all_to_trees t u ds kt ku (All-tail (λ v. v < t) r ps i) (All-tail (λ w. w < u) s qs j))) (flag_itself dots))
+        (both_hold (both_hold (to_trees d (omega arith) (omega arith)) (all_to_trees t u ds kt ku (All-tail (λ v. v < t) r ps i) (All-tail (λ w. w < u) s qs j))) (flag_itself dots))
 
     all_to_trees : (t u : ℕ) {ps qs : List ℕ} → AreEqualBut SizesOrNone table.types ps qs → IsKnown table t → IsKnown table u → All (λ v. v < t) ps → All (λ w. w < u) qs →
         are_equal_but sizes_or_none (types_of (map m ps)) (types_of (map m qs)) ≡ true
