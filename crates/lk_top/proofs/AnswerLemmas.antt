@@ -1,19 +1,23 @@
 -- What the parts of an answer say of the whole.
-use Rattle.std.proofs.Common.{Vec, Global, ℕ, ◌≡◌, ◌<◌, ◌≤◌, List, [], ◌∷◌, Option, Some, None, length, drop, refl}
+use Rattle.std.proofs.Common.{Vec, Global, ℕ, ◌≡◌, ◌<◌, ◌≤◌, List, [], ◌∷◌, Option, Some, None, length, drop, refl, sym, subst, arith}
 use Rattle.std.proofs.lemmas.List.Elements.{All-drop}
 use Rattle.std.specs.List.{All}
 use Rattle.std.specs.Option.{ForSome}
 use Rattle.lk_base.specs.declared.code.Code.TheVariants.{TooLong, Form}
+use Rattle.lk_base.specs.declared.fault.Fault.{Fault}
+use Rattle.lk_base.specs.declared.fault.Fault.TheVariants as fault
+use Rattle.lk_lex.specs.Answer.{AreTokens, Extends}
 use Rattle.lk_io.specs.Shelf.{Held, IsLonger}
 use Rattle.lk_base.specs.declared.refusal.Refusal.{Refusal as BaseRefusal}
 use Rattle.lk_lex.specs.declared.token.Token.{Token}
 use Rattle.lk_parse_expr.specs.Input.{spot_of}
+use Rattle.lk_parse_unit.specs.Parsing as parsing
 use Rattle.lk_tree.specs.declared.statement.Unit as tree
 use Rattle.lk_form.specs.declared.tree.Program.{Program}
 use Rattle.lk_form.specs.Form.{IsOfForm}
 use Rattle.lk_top.specs.declared.answer.Answer.{Answer}
 use Rattle.lk_top.specs.declared.answer.Answer.TheVariants.{Report, Refusal, Unread}
-use Rattle.lk_top.specs.Outcome.{Refused, Judged, IsTreeOf, HasNoTree, IsUnformed, without_tree, tree_alone, too_long, not_of_form, of_form, refusal_of}
+use Rattle.lk_top.specs.Outcome.{Refused, Judged, IsTreeOf, HasNoTree, no_tree, IsTreeFault, without_tree, tree_alone, too_long, not_of_form, of_form, refusal_of}
 use Rattle.lk_top.specs.Run.{Shelved, IsAsBefore}
 use Rattle.lk_top.specs.Answer.{IsLineIn, Reported, Refuses, Unforms, Judges, Answers}
 
@@ -52,8 +56,21 @@ tree_refused name source last refusal line none (file, at, line_is) = (file, ref
 
 -- the file of the place of a token that is left is among so many; with none left it is the first
 pub in_files : (count left : ℕ) (tokens : List Token) → 0 < count → All (λ token. token.spot.file < count) tokens → (spot_of (drop left tokens)).file < count
-in_files count left tokens some all = first_of (drop left tokens) (All-drop _ left tokens all)
+in_files count left tokens some all = first_of (drop left tokens) (All-drop (λ token. token.spot.file < count) left tokens all)
   where
     first_of : (rest : List Token) → All (λ token. token.spot.file < count) rest → (spot_of rest).file < count
     first_of [] all = some
-    first_of (first ∷ others) all = all.0
+    first_of (first ∷ others) all = all 0 first (omega arith)
+
+-- the names of files don't become fewer
+pub some_file : (before last : List (List ℕ)) → length before ≡ 1 → Extends before last → 0 < length last
+some_file [] last one extends = absurd (omega (arith, one))
+some_file (first ∷ others) last one (more, is) = subst (λ names. 0 < length names) (sym is) (omega arith)
+
+-- what a parser answers for the tokens of a source
+pub parse_refused : (names : List (List ℕ)) (source : List ℕ) (last : List (List ℕ)) (tokens : List Token) (fault : Fault) → 0 < length last → AreTokens names 0 source last tokens →
+    All (λ token. token.spot.file < length last) tokens → parsing.IsRefused 200 source tokens fault → IsTreeFault names source last fault
+parse_refused names source last tokens fault.NoMemory some are filed refused = refused
+parse_refused names source last tokens (fault.Refused refusal) some are filed refused =
+    let place = refused.place in
+    (no_tree tokens are refused, subst (λ spot. spot.file < length last) (sym place.1) (in_files (length last) place.0 tokens some filed))

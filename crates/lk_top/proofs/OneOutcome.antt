@@ -1,5 +1,6 @@
 -- Words come to one outcome, but that several refusals may be right.
-use Rattle.std.proofs.Common.{ℕ, ◌≡◌, ◌∙◌, ⊤, tt, List, [], ◌∷◌, Some, refl, sym, ap, subst, arith}
+use Rattle.std.specs.Bool.{⊤}
+use Rattle.std.proofs.Common.{ℕ, ◌≡◌, ◌∙◌, List, refl, sym, ap, subst, arith}
 use Rattle.lk_io.specs.Shelf.{Held}
 use Rattle.lk_form.specs.declared.tree.Program.{Program}
 use Rattle.lk_form.specs.Form.{IsOfForm}

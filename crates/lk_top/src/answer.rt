@@ -129,7 +129,7 @@ fn unformed(alloc: Global, name: &[u8], source: &[u8]) -> Result<Answer, NoMemor
 {
     let mut files = files_of(alloc, name)?;
     match tree_of(alloc, source, &mut files) {
-        Ok(_unit) => {
+        Ok(_) => {
             let answer = refuse(alloc, name, Code::Form)?;
             Ok(answer)
         }
