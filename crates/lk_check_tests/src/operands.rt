@@ -1,5 +1,6 @@
 //! Rules of expressions over operands whose types are known.
 ghost use Rattle.std.specs.Prelude.{IfOk};
+ghost use Rattle.lk_typed.specs.Elements.{HasFewElements};
 ghost use Rattle.lk_typed.specs.Meaning.{IsKnownType, IsReady};
 ghost use Rattle.lk_typed.specs.Typings.{IsOperand};
 
@@ -73,8 +74,10 @@ const CASES: [Case; 9] = [
 ];
 
 /// The table of the predeclared types.
-fn table(alloc: Global) -> Result<TypeTable, NoMemory>
-    ensures { IfOk result (λ table. IsReady table) }
+#[tactic(auto, using(lk_typed::proofs::Elements::few_first))]
+pub(crate) fn table(alloc: Global) -> Result<TypeTable, NoMemory>
+    ensures ready { IfOk result (λ table. IsReady table) }
+    ensures few { IfOk result (λ table. HasFewElements table) }
 {
     let table = TypeTable::new(alloc)?;
     table.is_table();
