@@ -1,15 +1,15 @@
 #!/usr/bin/env python3
-"""Writes sources of nearly 1 MiB on which the parsers are to be timed, and times gcc's syntax check on them.
+"""Writes sources of nearly 1 MiB, and times gcc's syntax check and a built lsrace on them.
 
-usage: bench/parsing.py FOLDER
+usage: bench/parsing.py FOLDER PATH-OF-LSRACE
 
 In the new folder it writes one source a kind: functions as they are written by hand, a call of 100,000 arguments, a list of
 200,000 entries, 100,000 declarations, and 40,000 statements that use names behind as many declarations. For each it prints
 the bytes, about how many tokens there are, and the seconds of `gcc -fsyntax-only` (the least of three runs).
 
-The parsers are timed by a program that reads a source from standard input, calls `tokens` of lk_lex and `parse_unit` of
-lk_parse_unit on it, and prints the microseconds of each (`Instant::now` and `elapsed`, as in `bench/paths.py`). The times are
-to grow with the tokens: none of the long ones should take much more a token than the first. It proves nothing.
+None of them is of the form that lsrace analyses, so it reads their tokens and their tree and refuses them with 19. Its seconds are those
+of the processor, the least of three runs, with the most memory that it held. They are to grow with the tokens: none of the long
+sources should take much more a token than the first. It proves nothing.
 """
 import os
 import re
@@ -118,12 +118,27 @@ def seconds_of_gcc(path):
     return min(took)
 
 
+def of_lsrace(lsrace, path):
+    """The least processor seconds of three runs, and the most memory of one in MB."""
+    best, most = None, 0
+    for _ in range(3):
+        run = subprocess.Popen([lsrace, "check", os.path.basename(path)], cwd=os.path.dirname(path), stderr=subprocess.PIPE)
+        told = run.stderr.read().decode()
+        _, status, used = os.wait4(run.pid, 0)
+        if os.waitstatus_to_exitcode(status) != 2 or "refused 19 " not in told:
+            sys.exit(f"lsrace: {told}")
+        took = used.ru_utime + used.ru_stime
+        best = took if best is None else min(best, took)
+        most = max(most, used.ru_maxrss / 1000)
+    return best, most
+
+
 def main():
-    if len(sys.argv) != 2:
+    if len(sys.argv) != 3:
         sys.exit(__doc__)
-    folder = os.path.abspath(sys.argv[1])
+    folder, lsrace = os.path.abspath(sys.argv[1]), os.path.abspath(sys.argv[2])
     os.makedirs(folder)
-    print("source             bytes  tokens  gcc s")
+    print("source             bytes  tokens  gcc s  lsrace s    MB")
     for name, make in SOURCES.items():
         text = make()
         if len(text) > MOST:
@@ -131,7 +146,8 @@ def main():
         path = os.path.join(folder, f"{name}.c")
         with open(path, "w") as file:
             file.write(text)
-        print(f"{name:14} {len(text):9} {tokens_in(text):7} {seconds_of_gcc(path):6.2f}", flush=True)
+        seconds, memory = of_lsrace(lsrace, path)
+        print(f"{name:14} {len(text):9} {tokens_in(text):7} {seconds_of_gcc(path):6.2f} {seconds:9.2f} {memory:5.0f}", flush=True)
 
 
 if __name__ == "__main__":
