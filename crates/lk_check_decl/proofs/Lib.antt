@@ -1,7 +1,6 @@
-mod Told
-mod Sizes
+pub mod Told
+pub mod Sizes
 mod Made
 mod MemberSizes
-mod CaseLemmas
 mod MainLemmas
 mod FieldLemmas

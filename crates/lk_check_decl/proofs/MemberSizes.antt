@@ -1,18 +1,18 @@
 -- A struct with one more member: whether it is over a bound.
 use Rattle.std.proofs.Common.{◌≡◌, ◌∙◌, ◌++◌, ℕ, Bool, true, false, List, [], ◌∷◌, Option, Some, None, map, refl, sym, ap}
-use Rattle.std.specs.Prelude.{◌&&◌, not}
+use Rattle.std.specs.Prelude.{not}
 use Rattle.lk_base.specs.declared.code.Code.TheVariants.{LargeType}
 use Rattle.lk_types.specs.Building.{IsTable}
 use Rattle.lk_types.specs.Sizes.{Fits, start_size, with_part, size_at, is_too_large}
 use Rattle.lk_types.specs.Table.{Table, IsKnown}
 use Rattle.lk_types.specs.declared.size.TypeSize.{TypeSize}
-use Rattle.lk_typed.specs.Bounds.{is_large, plain, size_of}
+use Rattle.lk_typed.specs.Bounds.{plain, size_of}
 use Rattle.lk_typed.specs.DeclaratorRules.{unless}
 use Rattle.lk_typed.specs.Env.{Env, Field}
 use Rattle.lk_typed.specs.Meaning.{meaning}
 use Rattle.lk_typed.specs.MemberRules.{fields_in}
 use Rattle.lk_typed.specs.Ty.{Ty}
-use Rattle.lk_check_decl.proofs.Sizes.{with_parts, tree_size, known_small}
+use Rattle.lk_check_decl.proofs.Sizes.{with_parts, tree_size}
 use Rattle.lk_check_decl.specs.Breaches.{told}
 use Rattle.lk_check_decl.specs.Making.{AreFields}
 use Rattle.lk_check_decl.specs.Members.{size_with, types_of, IsWithMember}
@@ -22,11 +22,11 @@ one_more : (below : Ty → TypeSize) (size : TypeSize) (ts : List Ty) (t : Ty) �
 one_more below size [] t = refl
 one_more below size (u ∷ ts) t = one_more below (with_part size (below u)) ts t
 
-told_large : (a b : Bool) → a ≡ false → b ≡ true → told (unless (not a && not b) LargeType) ≡ Some LargeType
-told_large a b p q = rw p (rw q refl)
+told_large : (large : Bool) → large ≡ true → told (unless (not large) LargeType) ≡ Some LargeType
+told_large large is = rw is refl
 
-told_small : (a b : Bool) → a ≡ false → b ≡ false → told (unless (not a && not b) LargeType) ≡ None
-told_small a b p q = rw p (rw q refl)
+told_small : (large : Bool) → large ≡ false → told (unless (not large) LargeType) ≡ None
+told_small large is = rw is refl
 
 pub with_member : (table : Table) → IsTable table → (t : ℕ) → IsKnown table t → (size : TypeSize) (env : Env) (before : List Field) →
     AreFields table (fields_in env) → size ≡ size_with env (types_of before) → (answer : Option TypeSize) → Fits (with_part size (size_at table t)) answer →
@@ -36,9 +36,6 @@ with_member table good t known size env before same is answer fits = of answer f
     tree : Ty
     tree = meaning table t
 
-    small : is_large (fields_in env) tree ≡ false
-    small = known_small table good (fields_in env) same t known
-
     whole : with_part size (size_at table t) ≡ size_with env (types_of before ++ tree ∷ [])
     whole =
         ap (λ size. with_part size (size_at table t)) is ∙
@@ -46,6 +43,6 @@ with_member table good t known size env before same is answer fits = of answer f
         sym (one_more (size_of (fields_in env)) start_size (types_of before) tree)
 
     of : (answer : Option TypeSize) → Fits (with_part size (size_at table t)) answer → IsWithMember env before tree answer
-    of None large = told_large (is_large (fields_in env) tree) (is_too_large (size_with env (types_of before ++ tree ∷ []))) small (ap is_too_large (sym whole) ∙ large)
+    of None large = told_large (is_too_large (size_with env (types_of before ++ tree ∷ []))) (ap is_too_large (sym whole) ∙ large)
     of (Some found) fits =
-        (fits.0 ∙ whole, told_small (is_large (fields_in env) tree) (is_too_large (size_with env (types_of before ++ tree ∷ []))) small (ap is_too_large (sym whole) ∙ fits.1))
+        (fits.0 ∙ whole, told_small (is_too_large (size_with env (types_of before ++ tree ∷ []))) (ap is_too_large (sym whole) ∙ fits.1))

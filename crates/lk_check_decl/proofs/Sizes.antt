@@ -89,6 +89,9 @@ module _ (table : Table) (good : IsTable table) where
       holds_form table (meaning table) (holds_within n table) t (type_at table t) (good.types t known).made_of
       (λ u less. holds_same n u (omega (arith, below, less)) (omega (arith, known, less)))
 
+  pub holds_is : (t : ℕ) → IsKnown table t → spec.holds_struct (meaning table t) ≡ walk.holds_struct table t
+  holds_is t known = holds_same (suc t) t (omega arith) known
+
   tag_same : (t : ℕ) → IsKnown table t → (spec.is_void (meaning table t) || spec.holds_struct (meaning table t)) ≡ has_tag table t
   tag_same t known =
       ap (λ b. b || spec.holds_struct (meaning table t)) (ap spec.is_void (meaning_is table good t known) ∙ void_same (meaning table) (type_at table t)) ∙

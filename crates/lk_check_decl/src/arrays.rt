@@ -1,18 +1,18 @@
 //! The rules of `declarator[size]` (C99 6.7.5.2).
-ghost use Rattle.std.specs.Prelude.{◌≡◌, ◌*◌, ℕ, Some, true, IfSome};
+ghost use Rattle.std.specs.Prelude.{◌≡◌, ◌*◌, ℕ, Some, None, true, IfSome};
 ghost use Rattle.std.specs.Option.{option_map};
 ghost use Rattle.lk_types.specs.Table.{IsKnown};
 ghost use Rattle.lk_typed.specs.DeclaratorRules as spec;
 ghost use Rattle.lk_typed.specs.Env.{Env};
 ghost use Rattle.lk_typed.specs.Meaning.{meaning};
+ghost use Rattle.lk_typed.specs.Sizes.{is_complete as spec_complete};
 ghost use Rattle.lk_typed.specs.Ty.{Ty, Array};
-ghost use Rattle.lk_typed.specs.Typings.{structs_in};
 ghost use Rattle.lk_check_decl.specs.Arrays.{size_of, is_in_range, IsCount, IsSize};
 ghost use Rattle.lk_check_decl.specs.Breaches.{told};
 
 use crate::breaches::unless;
 use lk_base::Code;
-use lk_typed::{Constant, Members, form, is_complete, lesser};
+use lk_typed::{Constant, form, lesser};
 use lk_types::{CType, TypeId, TypeTable};
 
 /// The most elements that an array has, those of arrays in it counted.
@@ -114,19 +114,21 @@ fn has_size(
     }
 }
 
-/// The code of an array whose elements have this type.
+/// The code of an array whose elements have this type, which is complete or not.
 fn sized_code(
     types: &TypeTable,
-    structs: &[Members],
     may_be_absent: bool,
     element: TypeId,
+    is_complete: bool,
     size: ArraySize,
 ) -> Option<Code>
     requires { IsKnown types.now element }
-    ensures { (env : Env) → env.structs ≡ structs_in types.now structs.now → result
+    ensures sized { result ≡ None →
+        spec.has_size may_be_absent (Some (meaning types.now element)) (size_of size) ≡ true }
+    ensures rules { (env : Env) → is_complete ≡ spec_complete env.structs (meaning types.now element) → result
         ≡ told (spec.array_rules env may_be_absent (Some (meaning types.now element)) (size_of size)) }
 {
-    let incomplete = unless(is_complete(types, structs, element), Code::Incomplete);
+    let incomplete = unless(is_complete, Code::Incomplete);
     let variable = unless(
         has_size(types, may_be_absent, Some(element), size),
         Code::VariableArray,
@@ -135,20 +137,24 @@ fn sized_code(
 }
 
 /// The code of an array: 25 where its elements are of no complete type (C99 6.7.5.2, 1), 31 where its size is no constant
-/// in range, or makes with the arrays inside too many elements, or is missing though it may not be.
+/// in range, or makes with the arrays inside too many elements, or is missing though it may not be. `is_complete` says of the
+/// elements whether their type is complete where the declarator begins.
 pub fn array_code(
     types: &TypeTable,
-    structs: &[Members],
     may_be_absent: bool,
     element: Option<TypeId>,
+    is_complete: bool,
     size: ArraySize,
 ) -> Option<Code>
     requires { IfSome element (IsKnown types.now) }
-    ensures { (env : Env) → env.structs ≡ structs_in types.now structs.now → result
+    ensures sized { result ≡ None →
+        spec.has_size may_be_absent (option_map (meaning types.now) element) (size_of size) ≡ true }
+    ensures rules { (env : Env) →
+        IfSome element (λ t. is_complete ≡ spec_complete env.structs (meaning types.now t)) → result
         ≡ told (spec.array_rules env may_be_absent (option_map (meaning types.now) element) (size_of size)) }
 {
     match element {
-        Some(t) => sized_code(types, structs, may_be_absent, t, size),
+        Some(t) => sized_code(types, may_be_absent, t, is_complete, size),
         None => unless(
             has_size(types, may_be_absent, None, size),
             Code::VariableArray,

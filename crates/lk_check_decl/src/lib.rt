@@ -36,7 +36,7 @@ pub use storages::{
     specifier_code,
 };
 pub use switches::{
-    CaseValue, Label, Switch, break_code, case_code, case_value, continue_code, default_code,
-    goto_code, label_code,
+    Label, Switch, break_code, case_code, case_value, continue_code, default_code, goto_code,
+    label_code,
 };
 pub use words::{Given, Holder, Scope};

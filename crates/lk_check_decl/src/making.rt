@@ -1,8 +1,9 @@
 //! Types that declarators make (C99 6.7.5). A type over one of its bounds isn't made: code 32 holds there.
-ghost use Rattle.std.specs.Prelude.{◌≡◌, ◌∷◌, All, OnErr, IfOk, IfSome};
+ghost use Rattle.std.specs.Prelude.{◌≡◌, ◌∷◌, ◌*◌, ◌<◌, ◌^◌, All, OnErr, IfOk, IfSome};
 ghost use Rattle.lk_types.specs.Building.{IsForm, IsLonger, IsPartOfObjects, IsPassed};
 ghost use Rattle.lk_types.specs.Table.{IsKnown};
-ghost use Rattle.lk_typed.specs.DeclaratorRules.{adjusted};
+ghost use Rattle.lk_typed.specs.DeclaratorRules.{adjusted, elements};
+ghost use Rattle.lk_typed.specs.Elements.{HasFewElements, IsFew};
 ghost use Rattle.lk_typed.specs.Meaning.{meaning, tree_of};
 ghost use Rattle.lk_typed.specs.Ty.{Pointer, Array};
 ghost use Rattle.lk_check_decl.specs.Making.{function_tree, IsAdjusted, IsDerived, IsMade};
@@ -17,6 +18,8 @@ fn made(types: &mut TypeTable, form: CType) -> Result<Option<TypeId>, NoMemory>
     requires derived { IsDerived form }
     ensures ok { IfOk result (IsMade types.old types.new (tree_of (meaning types.old) form)) }
     ensures longer { IsLonger types.old types.new }
+    ensures members { types.new.members ≡ types.old.members }
+    ensures few { IsFew types.old form → HasFewElements types.old → HasFewElements types.new }
     ensures err { OnErr result (types.new ≡ types.old) }
 {
     types.is_table();
@@ -36,6 +39,8 @@ pub fn pointer_to(types: &mut TypeTable, target: TypeId) -> Result<Option<TypeId
     requires { IsKnown types.old target }
     ensures ok { IfOk result (IsMade types.old types.new (Pointer (meaning types.old target))) }
     ensures longer { IsLonger types.old types.new }
+    ensures members { types.new.members ≡ types.old.members }
+    ensures few { HasFewElements types.old → HasFewElements types.new }
     ensures err { OnErr result (types.new ≡ types.old) }
 {
     made(types, CType::Pointer(target))
@@ -50,6 +55,9 @@ pub fn array_of(
     requires { IsPartOfObjects types.old element }
     ensures ok { IfOk result (IsMade types.old types.new (Array (meaning types.old element) count)) }
     ensures longer { IsLonger types.old types.new }
+    ensures members { types.new.members ≡ types.old.members }
+    ensures few { count * elements (meaning types.old element) < 2 ^ 64 →
+        HasFewElements types.old → HasFewElements types.new }
     ensures err { OnErr result (types.new ≡ types.old) }
 {
     made(types, CType::Array(element, count))
@@ -65,6 +73,8 @@ pub fn function_of(
     requires { All (IsPassed types.old) (returned ∷ params) }
     ensures ok { IfOk result (IsMade types.old types.new (function_tree types.old returned params dots)) }
     ensures longer { IsLonger types.old types.new }
+    ensures members { types.new.members ≡ types.old.members }
+    ensures few { HasFewElements types.old → HasFewElements types.new }
     ensures err { OnErr result (types.new ≡ types.old) }
 {
     made(
@@ -103,6 +113,8 @@ pub fn adjusted(types: &mut TypeTable, t: TypeId) -> Result<Option<TypeId>, NoMe
     requires { IsKnown types.old t }
     ensures ok { IfOk result (IsMade types.old types.new (adjusted (meaning types.old t))) }
     ensures longer { IsLonger types.old types.new }
+    ensures members { types.new.members ≡ types.old.members }
+    ensures few { HasFewElements types.old → HasFewElements types.new }
     ensures err { OnErr result (types.new ≡ types.old) }
 {
     types.is_table();

@@ -5,9 +5,8 @@ ghost use Rattle.std.specs.Option.{option_map};
 ghost use Rattle.lk_typed.specs.Labels.{has_label, has_label_before};
 ghost use Rattle.lk_typed.specs.StatementRules as spec;
 ghost use Rattle.lk_typed.specs.StatementRules.{Around};
-ghost use Rattle.lk_typed.specs.Statements as statements;
 ghost use Rattle.lk_check_decl.specs.Breaches.{told};
-ghost use Rattle.lk_check_decl.specs.Switches.{label_of, case_of, switch_of, is_earlier_value};
+ghost use Rattle.lk_check_decl.specs.Switches.{label_of, switch_of};
 
 use crate::breaches::unless;
 use lk_arith::{convert, promoted};
@@ -23,22 +22,15 @@ pub struct Label {
     pub ordinal: u32,
 }
 
-/// A case of a `switch`.
-#[derive(Clone, Copy, Drop)]
-pub struct CaseValue {
-    /// The number of its node.
-    pub ordinal: u32,
-    /// Its value, converted to the promoted type of the `switch`; nothing where none is known.
-    pub value: Option<i128>,
-}
-
-/// What belongs to a `switch`.
+/// A `switch`, as far as it stands before a statement in it.
 #[derive(Drop)]
 pub struct Switch {
-    /// Its cases.
-    pub cases: Seq<CaseValue>,
-    /// The numbers of its `default` nodes.
-    pub defaults: Seq<u32>,
+    /// The kind of its value, where that is an integer.
+    pub kind: Option<Kind>,
+    /// The values of its cases so far, converted to its promoted type; nothing for one of which none is known.
+    pub values: Seq<Option<i128>>,
+    /// Whether it has a `default` already.
+    pub has_default: bool,
 }
 
 /// Whether a label of this name is there.
@@ -99,7 +91,7 @@ pub fn continue_code(in_loop: bool) -> Option<Code>
 /// The value of a case: converted to the promoted type of its `switch` (C99 6.8.4.2, 5), where that has an integer kind and
 /// the value is known.
 pub fn case_value(kind: Option<Kind>, value: Option<Constant>) -> Option<i128>
-    ensures { result ≡ statements.case_value kind value }
+    ensures { result ≡ spec.case_value kind value }
 {
     match kind {
         Some(kind) => match value {
@@ -110,57 +102,38 @@ pub fn case_value(kind: Option<Kind>, value: Option<Constant>) -> Option<i128>
     }
 }
 
-/// The value of the case whose node has this number.
-fn value_at(cases: &[CaseValue], ordinal: u32) -> Option<i128>
-    ensures { result ≡ spec.value_at (map case_of cases.now) ordinal }
+/// Whether two values are known and equal.
+fn are_equal(value: Option<i128>, other: Option<i128>) -> bool
+    ensures { result ≡ spec.are_equal value other }
 {
-    for case in cases {
-        if case.ordinal == ordinal {
-            return case.value;
-        }
-    }
-    None
-}
-
-/// Whether a case has this value.
-fn is_value(case: &CaseValue, value: i128) -> bool
-    ensures { result ≡ spec.are_equal case.now.value (Some value) }
-{
-    match case.value {
-        Some(other) => other == value,
-        None => false,
+    match (value, other) {
+        (Some(value), Some(other)) => value == other,
+        (Some(_), None) | (None, Some(_)) | (None, None) => false,
     }
 }
 
-/// Whether a case before the node with this number has this value.
-fn has_value_before(cases: &[CaseValue], ordinal: u32, value: i128) -> bool
-    ensures { result ≡ list_any (is_earlier_value ordinal (Some value)) (map case_of cases.now) }
+/// Whether one of the values is this one.
+fn has_value(values: &[Option<i128>], value: Option<i128>) -> bool
+    ensures { result ≡ list_any (spec.are_equal value) values.now }
 {
-    for case in cases {
-        if case.ordinal < ordinal && is_value(case, value) {
+    for other in values {
+        if are_equal(value, *other) {
             return true;
         }
     }
     false
 }
 
-/// Whether an earlier case has the value of the case whose node has this number.
-fn is_case_again(cases: &[CaseValue], ordinal: u32) -> bool
-    ensures { result ≡ spec.is_case_again (map case_of cases.now) ordinal }
-{
-    match value_at(cases, ordinal) {
-        Some(value) => has_value_before(cases, ordinal, value),
-        None => false,
-    }
-}
-
 /// The code of a case by the `switch` round it: 26 where there is none, or where an earlier case has its value (C99 6.8.1, 2;
 /// 6.8.4.2, 3).
-fn place_code(switch: Option<&Switch>, ordinal: u32) -> Option<Code>
-    ensures { result ≡ told (spec.place_rules (option_map switch_of (option_copied switch.entry)) ordinal) }
+fn place_code(switch: Option<&Switch>, value: Option<Constant>) -> Option<Code>
+    ensures { result ≡ told (spec.place_rules (option_map switch_of (option_copied switch.entry)) value) }
 {
     match switch {
-        Some(switch) => unless(!is_case_again(switch.cases.list(), ordinal), Code::BadLabel),
+        Some(switch) => {
+            let value = case_value(switch.kind, value);
+            unless(!has_value(switch.values.list(), value), Code::BadLabel)
+        }
         None => Some(Code::BadLabel),
     }
 }
@@ -175,37 +148,24 @@ fn constant_code(value: Option<Constant>) -> Option<Code>
     }
 }
 
-/// The code of `case value:`, the node with this number: 24 where its value isn't constant; 26 outside a `switch`, or where
-/// an earlier case of it has its value. `switch` is the innermost one round it, with its cases, this one among them.
-pub fn case_code(switch: Option<&Switch>, ordinal: u32, value: Option<Constant>) -> Option<Code>
+/// The code of `case value:`: 24 where its value isn't constant; 26 outside a `switch`, or where an earlier case of it has its
+/// value. `switch` is the innermost one round it, as far as it stands before the case.
+pub fn case_code(switch: Option<&Switch>, value: Option<Constant>) -> Option<Code>
     ensures { (around : Around) → around.switch ≡ option_map switch_of (option_copied switch.entry) →
-        result ≡ told (spec.case_rules around ordinal value) }
+        result ≡ told (spec.case_rules around value) }
 {
     let constant = constant_code(value);
-    let place = place_code(switch, ordinal);
+    let place = place_code(switch, value);
     lesser(constant, place)
 }
 
-/// Whether one of the numbers is less than this one.
-fn is_earlier(numbers: &[u32], ordinal: u32) -> bool
-    ensures { result ≡ spec.is_earlier numbers.now ordinal }
-{
-    for number in numbers {
-        if *number < ordinal {
-            return true;
-        }
-    }
-    false
-}
-
-/// The code of `default:`, the node with this number: 26 outside a `switch`, or where that has an earlier one (C99 6.8.1, 2;
-/// 6.8.4.2, 3).
-pub fn default_code(switch: Option<&Switch>, ordinal: u32) -> Option<Code>
+/// The code of `default:`: 26 outside a `switch`, or where that has an earlier one (C99 6.8.1, 2; 6.8.4.2, 3).
+pub fn default_code(switch: Option<&Switch>) -> Option<Code>
     ensures { (around : Around) → around.switch ≡ option_map switch_of (option_copied switch.entry) →
-        result ≡ told (spec.default_rules around ordinal) }
+        result ≡ told (spec.default_rules around) }
 {
     match switch {
-        Some(switch) => unless(!is_earlier(switch.defaults.list(), ordinal), Code::BadLabel),
+        Some(switch) => unless(!switch.has_default, Code::BadLabel),
         None => Some(Code::BadLabel),
     }
 }

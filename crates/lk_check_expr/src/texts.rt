@@ -27,6 +27,7 @@ pub fn text(types: &mut TypeTable, bytes: &[u8]) -> Result<Verdict, NoMemory>
     requires room { length types.old.types < 4294967295 }
     ensures value { IfOk result (λ v. (n : ℕ) → IsVerdict types.new v (text_rule n bytes.now)) }
     ensures longer { IsLonger types.old types.new }
+    ensures members { types.new.members ≡ types.old.members }
     ensures ready { IsReady types.new }
     ensures few { HasFewElements types.new }
     ensures err { OnErr result (types.new ≡ types.old) }

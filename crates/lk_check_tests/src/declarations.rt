@@ -158,14 +158,14 @@ const SIZES: [(ArraySize, Option<Code>); 6] = [
 /// Whether this is the code of an array of `int` with such a size.
 fn is_sized(table: &TypeTable, size: ArraySize, wanted: Option<Code>) -> bool {
     TypeId::INT.0 < table.count()
-        && array_code(table, &[], false, Some(TypeId::INT), size) == wanted
+        && array_code(table, false, Some(TypeId::INT), true, size) == wanted
 }
 
 /// Whether `[]` is told behind `int` and `void`, where it may stand.
 fn is_absent_told(table: &TypeTable) -> bool {
     TypeId::INT.0 < table.count()
-        && array_code(table, &[], true, Some(TypeId::INT), ArraySize::Absent).is_none()
-        && array_code(table, &[], true, Some(TypeId::VOID), ArraySize::Absent)
+        && array_code(table, true, Some(TypeId::INT), true, ArraySize::Absent).is_none()
+        && array_code(table, true, Some(TypeId::VOID), false, ArraySize::Absent)
             == Some(Code::Incomplete)
 }
 

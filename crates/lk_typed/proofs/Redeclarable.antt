@@ -1,13 +1,12 @@
 -- Numbers of a table are redeclarable exactly where their trees are.
-use Rattle.std.proofs.Common.{◌≡◌, ◌∙◌, ◌<◌, ◌⊎◌, inl, inr, ℕ, zero, suc, Bool, true, false, List, [], ◌∷◌, map, refl, sym, ap, subst, arith, All, Some, nat_eq}
+use Rattle.std.proofs.Common.{◌≡◌, ◌<◌, inl, inr, ℕ, zero, suc, Bool, true, false, List, [], ◌∷◌, map, refl, sym, subst, arith, All, Some, nat_eq}
 use Rattle.std.specs.Prelude.{◌&&◌, ◌||◌, ◌↔◌, IsTrue}
 use Rattle.std.specs.Bool.{beq}
 use Rattle.std.specs.List.{slice_get}
 use Rattle.std.proofs.lemmas.Bool.{and_parts, eqb-true, false≢true}
 use Rattle.std.proofs.lemmas.List.Elements.{All-head, All-tail}
-use Rattle.std.proofs.lemmas.Option.{slice_get_within}
 use Rattle.lk_types.specs.Building.{IsTable, IsMadeOf}
-use Rattle.lk_types.specs.Equal.{IsRedeclarable, IsEqualBut, AreEqualBut, SizesOrNone}
+use Rattle.lk_types.specs.Equal.{IsRedeclarable, AreEqualBut, SizesOrNone}
 use Rattle.lk_types.specs.Equal.IsEqualBut.{same, pointers, arrays, functions}
 use Rattle.lk_types.specs.Equal.AreEqualBut.{none as no_types, more as one_more}
 use Rattle.lk_types.specs.Table.{Table, type_at, IsKnown}

@@ -1,21 +1,16 @@
 -- Address constants: what the operators make of them (C99 6.6, 9; 6.5.6, 7 and 8). An address outside its array and its end is Nowhere; one past the end is accepted.
-use Rattle.std.specs.Prelude.{ℕ, Bool, true, false, ◌&&◌, Option, Some, None, List, [], ◌∷◌, ◌++◌, ℤ, pos, neg_ℤ, ◌+ℤ◌, int_le, unsigned_abs, nat_eq, nat_lt, if◌then◌else◌}
+use Rattle.std.specs.Prelude.{ℕ, Bool, true, false, ◌&&◌, List, [], ◌∷◌, ◌++◌, ℤ, pos, neg_ℤ, ◌+ℤ◌, int_le, unsigned_abs, nat_eq, nat_lt, if◌then◌else◌}
 use Rattle.lk_base.specs.declared.cell.CellStep.TheVariants.{Field, Index}
 use Rattle.lk_base.specs.declared.cell.CellStep.{CellStep}
+use Rattle.lk_typed.specs.DeclaratorRules.{most_elements}
 use Rattle.lk_typed.specs.Ty.{Ty, Void, Int, ThreadId, Mutex, Cond, Pointer, Array, Struct, Function, Opaque}
 use Rattle.lk_typed.specs.declared.constant.Constant.{Constant}
 use Rattle.lk_typed.specs.declared.constant.Constant.TheVariants.{NotConstant, Undefined, Known}
 use Rattle.lk_typed.specs.Typing.{Typing, Address, Position, NotAddress, NullAddress, FunctionAddress, Inside, Nowhere, value_of_type}
 
--- whether there is an element with this index
-abbrev pub is_there : ℕ → Option ℕ → Bool
-is_there index None = true
-is_there index (Some count) = nat_lt index count
-
 -- whether a pointer may stand at this index: at an element, or one past the last
-abbrev pub is_within : ℤ → Option ℕ → Bool
-is_within index None = int_le (pos 0) index
-is_within index (Some count) = int_le (pos 0) index && int_le index (pos count)
+abbrev pub is_within : ℤ → ℕ → Bool
+is_within index count = int_le (pos 0) index && int_le index (pos count)
 
 -- the steps to a place
 abbrev pub steps_to : Position → List CellStep
@@ -23,14 +18,14 @@ steps_to position = if position.is_element then position.steps ++ Index position
 
 -- a part of a place that is there
 abbrev pub part_of : Position → Position → Address
-part_of position part = if is_there position.index position.count then Inside part else Nowhere
+part_of position part = if nat_lt position.index position.count then Inside part else Nowhere
 
 -- the first element of the array at a place, and the member with this number of the struct there
-abbrev pub first_element : Option ℕ → Position → Position
+abbrev pub first_element : ℕ → Position → Position
 first_element count position = record { anchor = position.anchor; steps = steps_to position; is_element = true; index = 0; count = count }
 
 abbrev pub member_at : ℕ → Position → Position
-member_at k position = record { anchor = position.anchor; steps = steps_to position ++ Field k ∷ []; is_element = false; index = 0; count = Some 1 }
+member_at k position = record { anchor = position.anchor; steps = steps_to position ++ Field k ∷ []; is_element = false; index = 0; count = 1 }
 
 abbrev pub inside : (Position → Position) → Address → Address
 inside part NotAddress = NotAddress
@@ -39,9 +34,9 @@ inside part (FunctionAddress n) = Nowhere
 inside part (Inside position) = part_of position (part position)
 inside part Nowhere = Nowhere
 
--- how many elements an array type has; 0 stands for no size
-abbrev pub count_of : ℕ → Option ℕ
-count_of n = if nat_eq n 0 then None else Some n
+-- how many elements an array type has; one without a size counts as one with the most elements that an array may have
+abbrev pub count_of : ℕ → ℕ
+count_of n = if nat_eq n 0 then most_elements else n
 
 -- an address with so much added to it
 abbrev pub moved_by : ℤ → Address → Address

@@ -7,9 +7,12 @@ use Rattle.lk_tree.specs.declared.specifiers.Storage.{Storage}
 use Rattle.lk_typed.specs.declared.entity.Linkage.{Linkage}
 use Rattle.lk_typed.specs.DeclarationRules.{InDeclaration, Scope, Given, Bare, Initialised, has, is_extern, linkage_of, defines_of, meaning_of, type_in}
 use Rattle.lk_typed.specs.Env.{Env, Additions, Name, Declared, nothing, both, extend, look_up, or_else}
+use Rattle.lk_typed.specs.DeclaratorRules.{elements}
+use Rattle.lk_typed.specs.InitialiserRules.{given_rules}
 use Rattle.lk_typed.specs.Initialisers.{completed_by, init_adds}
+use Rattle.lk_typed.specs.Layers.{type_made}
 use Rattle.lk_typed.specs.Redeclared.{is_linked_alike, object_type, function_type}
-use Rattle.lk_typed.specs.Told.{SpecifierTold, Named, with_optional}
+use Rattle.lk_typed.specs.Told.{SpecifierTold, Named, unless_broken, with_optional}
 use Rattle.lk_typed.specs.Ty.{Ty, Void, Int, ThreadId, Mutex, Cond, Pointer, Array, Struct, Function, Opaque, Tys, none, more, target_of, array_of, function_of, is_function, is_redeclarable}
 use Rattle.lk_typed.specs.Expressions.{declarator_found, specifiers_found}
 
@@ -56,10 +59,20 @@ may_lack_size ss None = has is_extern ss
 may_lack_size ss (Some init) = true
 
 -- the type with the size that an initialiser gives (C99 6.7.8, 22)
-abbrev pub completed : Option Ty → Option Init → Option Ty
-completed None init = None
-completed (Some t) None = Some t
-completed (Some t) (Some init) = Some (completed_by init t)
+abbrev pub sized_by : Option Init → Option Ty → Option Ty
+sized_by init None = None
+sized_by None (Some t) = Some t
+sized_by (Some init) (Some t) = Some (completed_by init t)
+
+-- how many elements an object has that has an initialiser
+abbrev pub elements_given : Option Init → Option Ty → ℕ
+elements_given init None = 0
+elements_given None (Some t) = 0
+elements_given (Some init) (Some t) = elements (completed_by init t)
+
+-- the same type, missing where it has too many elements by that: 31
+abbrev pub completed : Option Init → Option Ty → Option Ty
+completed init t = unless_broken (given_rules (elements_given init t)) (sized_by init t)
 
 -- a name with linkage has the composite type (C99 6.2.7, 4)
 abbrev pub type_with_old : Env → Name → Linkage → Option Ty → Option Ty
@@ -70,14 +83,26 @@ abbrev pub is_function_type : Option Ty → Bool
 is_function_type None = false
 is_function_type (Some t) = is_function t
 
--- a declared name (C99 6.2.2, 6.2.4); its declaration is faulty where its type is missing
-abbrev pub declared_as : Env → Scope → List Storage → Given → Name → ℕ → Option Ty → Declared
-declared_as env scope ss given name n t =
-    let reach = linkage_of env scope ss (is_function_type t) name in
+-- the linkage of a name of this type
+abbrev pub reach_of : Env → Scope → List Storage → Name → Option Ty → Linkage
+reach_of env scope ss name t = linkage_of env scope ss (is_function_type t) name
+
+-- the type that a declared name has by its declarator and the declarations before it
+abbrev pub composite_type : Env → Scope → List Storage → Name → Option Ty → Option Ty
+composite_type env scope ss name t = type_with_old env name (reach_of env scope ss name t) t
+
+-- the same of a name that may be missing
+abbrev pub type_of_name : Env → Scope → List Storage → Option Named → Option Ty → Option Ty
+type_of_name env scope ss None t = t
+type_of_name env scope ss (Some named) t = composite_type env scope ss named.name t
+
+-- a declared name (C99 6.2.2, 6.2.4), with the size that its initialiser gives; its declaration is faulty where its type is missing
+abbrev pub declared_as : Env → Scope → List Storage → Given → Option Init → Name → ℕ → Option Ty → Declared
+declared_as env scope ss given init name n t =
     record {
       name = name;
-      meaning = meaning_of scope ss (type_with_old env name reach t);
-      linkage = reach;
+      meaning = meaning_of scope ss (completed init (composite_type env scope ss name t));
+      linkage = reach_of env scope ss name t;
       defines = defines_of scope ss (is_function_type t) given;
       ordinal = n;
     }
@@ -85,9 +110,9 @@ declared_as env scope ss given name n t =
 abbrev pub one_name : Declared → Additions
 one_name d = record { declared = d ∷ []; tags = []; structs = [] }
 
-abbrev pub named_additions : Env → Scope → List Storage → Given → Option Named → Option Ty → Additions
-named_additions env scope ss given None t = nothing
-named_additions env scope ss given (Some named) t = one_name (declared_as env scope ss given named.name named.ordinal t)
+abbrev pub named_additions : Env → Scope → List Storage → Given → Option Init → Option Named → Option Ty → Additions
+named_additions env scope ss given init None t = nothing
+named_additions env scope ss given init (Some named) t = one_name (declared_as env scope ss given init named.name named.ordinal t)
 
 abbrev pub initialiser_adds : Env → Option Init → Additions
 initialiser_adds env None = nothing
@@ -98,8 +123,8 @@ abbrev pub name_adds : Scope → SpecifierTold → Env → InitDeclarator → Ad
 name_adds scope told env d =
     let inner = declarator_found d.declarator in
     let a = inner.additions env in
-    let t = inner.type env (may_lack_size told.storages d.init) (type_in InDeclaration told) in
-    both a (named_additions (extend env a) scope told.storages (given_by d.init) inner.name (completed t d.init))
+    let t = type_made env (may_lack_size told.storages d.init) (type_in InDeclaration told) inner in
+    both a (named_additions (extend env a) scope told.storages (given_by d.init) d.init inner.name t)
 
 abbrev pub declarator_adds : Scope → SpecifierTold → Env → InitDeclarator → Additions
 declarator_adds scope told env d =

@@ -1,10 +1,10 @@
 -- What a declarator makes of the type on its left, and the rules that it may break (C99 6.7.5). A type is missing where something on the left is faulty.
-use Rattle.std.specs.Prelude.{ℕ, ◌*◌, ◌++◌, Bool, true, false, not, ◌&&◌, ◌||◌, Option, Some, None, List, [], ◌∷◌, nat_lt, ℤ, pos, int_le, unsigned_abs}
+use Rattle.std.specs.Prelude.{ℕ, ◌*◌, ◌++◌, Bool, true, false, not, ◌&&◌, ◌||◌, Option, Some, None, List, [], ◌∷◌, nat_lt, if◌then◌else◌, ℤ, pos, int_le, unsigned_abs}
 use Rattle.lk_base.specs.declared.code.Code.{Code}
 use Rattle.lk_base.specs.declared.code.Code.TheVariants.{Mismatch, Incomplete, VariableArray, OwnVararg, StructValue, MutexValue}
-use Rattle.lk_typed.specs.Env.{Env}
+use Rattle.lk_typed.specs.Env.{Env, Members}
 use Rattle.lk_typed.specs.Faults.{Breach, breach}
-use Rattle.lk_typed.specs.Sizes.{is_complete}
+use Rattle.lk_typed.specs.Sizes.{is_broken, is_complete}
 use Rattle.lk_typed.specs.declared.constant.Constant.{Constant}
 use Rattle.lk_typed.specs.Typing.{known_value}
 use Rattle.lk_typed.specs.Ty.{Ty, Void, Int, ThreadId, Mutex, Cond, Pointer, Array, Struct, Function, Opaque, function_of, holds_of, is_array, is_function, is_lock, is_struct, is_void}
@@ -74,6 +74,10 @@ abbrev pub array_type : Size → Ty → Option Ty
 array_type None t = Some (Array t 0)
 array_type (Some None) t = None
 array_type (Some (Some c)) t = array_of_size (known_value c) t
+
+-- the type of `declarator[size]` for this element; a faulty struct has none, and no fault
+abbrev pub array_made : List Members → Size → Ty → Option Ty
+array_made structs size t = if is_broken structs t then None else array_type size t
 
 -- ---- pointers (C99 6.7.5.1)
 

@@ -156,8 +156,7 @@ module _ (tables : Tables) (folded : Bool) where
     pub data IsTyped : InPlace → TypedExpr → Type 0 where
       -- names (C99 6.5.1, 2)
       static_object : {p : InPlace} {d : Declared} {ty : Ty} {e : ℕ} {t : TypedExpr} → StandsFor p d → d.meaning ≡ AnObject ty true → IsEntityAt tables d.ordinal e → MakesOwn p (TypedForm-F.Object (storage.Entity e)) t → IsTyped p t
-      local_object : {p : InPlace} {d : Declared} {ty : Ty} {l : ℕ} {local : Local} {t : TypedExpr} → StandsFor p d → d.meaning ≡ AnObject ty false → IsLocalAt tables d.ordinal l local → local.is_slot ≡ false → MakesOwn p (TypedForm-F.Object (storage.Local l)) t → IsTyped p t
-      slot : {p : InPlace} {d : Declared} {ty : Ty} {l : ℕ} {local : Local} {t : TypedExpr} → StandsFor p d → d.meaning ≡ AnObject ty false → IsLocalAt tables d.ordinal l local → local.is_slot ≡ true → MakesOwn p (TypedForm-F.Slot l) t → IsTyped p t
+      local_object : {p : InPlace} {d : Declared} {ty : Ty} {l : ℕ} {local : Local} {t : TypedExpr} → StandsFor p d → d.meaning ≡ AnObject ty false → IsLocalAt tables d.ordinal l local → MakesOwn p (TypedForm-F.Object (storage.Local l)) t → IsTyped p t
       function : {p : InPlace} {d : Declared} {ty : Ty} {e : ℕ} {t : TypedExpr} → StandsFor p d → d.meaning ≡ AFunction ty → IsEntityAt tables d.ordinal e → MakesOwn p (TypedForm-F.TypedForm::Function e) t → IsTyped p t
       enumerator : {p : InPlace} {d : Declared} {z : ℤ} {t : TypedExpr} → StandsFor p d → d.meaning ≡ AnEnumerator z → MakesOwn p (TypedForm-F.Number z) t → IsTyped p t
       -- constants and texts (C99 6.4.4, 6.4.5)

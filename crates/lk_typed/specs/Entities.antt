@@ -11,6 +11,7 @@ use Rattle.lk_typed.specs.DeclarationRules.{InDefinition, Scope, type_in}
 use Rattle.lk_typed.specs.Declarations.{composite_if_equal, declarator_adds, is_alone, name_adds}
 use Rattle.lk_typed.specs.Env.{Env, Name, Declared, Meaning, AnObject, AFunction, ATypedef, AnEnumerator, AnInitialiserWord, AFaultyName, extend, look_up}
 use Rattle.lk_typed.specs.Expressions.{AWord, declarator_found, specifiers_found, written}
+use Rattle.lk_typed.specs.Layers.{type_made}
 use Rattle.lk_typed.specs.NodeParts.{behind_declarator, parts, type_declared}
 use Rattle.lk_typed.specs.NodeRules.{breaches, hiding, mark_of}
 use Rattle.lk_typed.specs.Nodes.{Node, ADeclaration, ADefinition, AnExpression}
@@ -52,13 +53,13 @@ behind_name env node = let told = specifiers_found node.specifiers env false in 
 
 abbrev pub defined_type : Env → Definition → Option Ty
 defined_type env node =
-    let told = specifiers_found node.specifiers env false in (declarator_found node.declarator).type (extend env told.additions) false (type_in InDefinition told)
+    let told = specifiers_found node.specifiers env false in type_made (extend env told.additions) false (type_in InDefinition told) (declarator_found node.declarator)
 
 -- a node declares a name
 pub data DeclaresName (env : Env) : Node → NameDeclared → Type 0 where
   in_declaration : {scope : Scope} {node : Declare} {env' : Env} {d : InitDeclarator} {named : Named} {is : Declared} {t : Ty} → IsDeclaratorOf scope env node env' d →
       (declarator_found d.declarator).name ≡ Some named → look_up (extend env' (name_adds scope (specifiers_of env node) env' d)) named.name ≡ Some is →
-      type_declared (specifiers_of env node) env' d ≡ Some t → DeclaresName env (ADeclaration scope node) (record { is = is; spot = named.spot; type = t })
+      type_declared scope (specifiers_of env node) env' d ≡ Some t → DeclaresName env (ADeclaration scope node) (record { is = is; spot = named.spot; type = t })
   by_definition : {node : Definition} {named : Named} {is : Declared} {t : Ty} → (declarator_found node.declarator).name ≡ Some named →
       look_up (behind_name env node) named.name ≡ Some is → defined_type env node ≡ Some t → DeclaresName env (ADefinition node) (record { is = is; spot = named.spot; type = t })
 

@@ -1,5 +1,5 @@
 -- What an initialiser gives to the parts of an object, in the order of the entries (C99 6.7.8, 10 to 22). Each inner struct and array has braces of its own, or is an array that a text initialises.
-use Rattle.std.specs.Prelude.{ℕ, suc, ◌≡◌, ◌++◌, Bool, true, false, Option, Some, None, List, [], ◌∷◌, length, nat_lt, if◌then◌else◌}
+use Rattle.std.specs.Prelude.{ℕ, suc, ◌≡◌, ◌++◌, true, false, Option, Some, None, List, [], ◌∷◌, length, nat_lt, if◌then◌else◌}
 use Rattle.lk_base.specs.declared.cell.CellStep.{CellStep}
 use Rattle.lk_base.specs.declared.cell.CellStep.TheVariants as to
 use Rattle.lk_base.specs.declared.spot.Spot.{Spot}
@@ -11,7 +11,7 @@ use Rattle.lk_tree.specs.declared.expression.Expr.{Expr}
 use Rattle.lk_typed.specs.Elaborated.{InPlace}
 use Rattle.lk_typed.specs.Env.{Env, converted_to, extend}
 use Rattle.lk_typed.specs.Expressions.{AText, expr_word, written}
-use Rattle.lk_typed.specs.InitialiserRules.{entry_type, is_text}
+use Rattle.lk_typed.specs.InitialiserRules.{entry_type, is_text_for}
 use Rattle.lk_typed.specs.Initialisers.{designators_add, init_adds, text_alone}
 use Rattle.lk_typed.specs.MemberRules.{fields_in}
 use Rattle.lk_typed.specs.Ty.{Ty, Void, Int, ThreadId, Mutex, Cond, Pointer, Array, Struct, Function, Opaque, is_array}
@@ -48,19 +48,6 @@ step_to (Struct s) k = Some (to.Field k)
 step_to (Function result params dots) k = None
 step_to (Opaque n) k = None
 
--- whether a list is a text in its own braces, for an array of this type
-abbrev pub is_braced_text : Ty → List Entry → Bool
-is_braced_text Void entries = false
-is_braced_text (Int k) entries = false
-is_braced_text ThreadId entries = false
-is_braced_text Mutex entries = false
-is_braced_text Cond entries = false
-is_braced_text (Pointer t) entries = false
-is_braced_text (Array t n) entries = is_text t (text_alone entries)
-is_braced_text (Struct s) entries = false
-is_braced_text (Function result params dots) entries = false
-is_braced_text (Opaque n) entries = false
-
 abbrev only : List CellStep → Ty → Beginning → List PartGiven
 only path t begins = record { path = path; type = t; begins = begins } ∷ []
 
@@ -73,9 +60,9 @@ mutual
     text : {env : Env} {element : Ty} {n : ℕ} {path : List CellStep} {init : Init} {e : Expr} {bytes : List ℕ} → out-Init init ≡ Init-F.Expr e → written e ≡ AText bytes →
         AreGiven env (Array element n) path init (only path (Array element n) (TheBytes e.spot e.ordinal (bytes_given n bytes)))
     braced_text : {env : Env} {t : Ty} {path : List CellStep} {init : Init} {list : InitList} {entry : Entry} {given : List PartGiven} → out-Init init ≡ Init-F.List list →
-        (out-InitList list).entries ≡ entry ∷ [] → is_braced_text t (entry ∷ []) ≡ true → AreGiven env t path entry.init given → AreGiven env t path init given
+        (out-InitList list).entries ≡ entry ∷ [] → is_text_for t (text_alone (entry ∷ [])) ≡ true → AreGiven env t path entry.init given → AreGiven env t path init given
     list : {env : Env} {t : Ty} {path : List CellStep} {init : Init} {list : InitList} {given : List PartGiven} → out-Init init ≡ Init-F.List list →
-        is_braced_text t (out-InitList list).entries ≡ false → AreGivenByEntries env t path 0 (out-InitList list).entries given → AreGiven env t path init given
+        is_text_for t (text_alone (out-InitList list).entries) ≡ false → AreGivenByEntries env t path 0 (out-InitList list).entries given → AreGiven env t path init given
 
   -- those that the entries name, the first of which is the entry k of the list
   pub data AreGivenByEntries : Env → Ty → List CellStep → ℕ → List Entry → List PartGiven → Type 0 where

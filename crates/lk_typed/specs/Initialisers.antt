@@ -73,14 +73,14 @@ abbrev pub in_turn : List Adder → Adder
 in_turn [] env = nothing
 in_turn (a ∷ others) env = let first = a env in both first (in_turn others (extend env first))
 
-abbrev of_init : Init-F Adder Adder Adder → Adder
+abbrev pub of_init : Init-F Adder Adder Adder → Adder
 of_init (Init-F.Expr e) = expr_adds e
 of_init (Init-F.List entries) = entries
 
-abbrev of_entry : Entry-F Adder Adder Adder → Adder
+abbrev pub of_entry : Entry-F Adder Adder Adder → Adder
 of_entry entry env = let a = designators_add env entry.designators in both a (entry.init (extend env a))
 
-abbrev of_list : InitList-F Adder Adder Adder → Adder
+abbrev pub of_list : InitList-F Adder Adder Adder → Adder
 of_list node = in_turn node.entries
 
 -- what an initialiser adds

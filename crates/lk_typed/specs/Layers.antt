@@ -2,11 +2,12 @@
 use Rattle.std.specs.Prelude.{ℕ, ◌&&◌, ◌||◌, Bool, true, false, not, Option, Some, None, List, [], ◌∷◌, ◌++◌, if◌then◌else◌, ℤ}
 use Rattle.lk_base.specs.declared.spot.Spot.{Spot}
 use Rattle.lk_typed.specs.DeclarationRules.{InType, type_in}
-use Rattle.lk_typed.specs.DeclaratorRules.{Size, adjusted, array_rules, array_type, function_rules, parameter_rules, pointer_rules}
+use Rattle.lk_typed.specs.DeclaratorRules.{Size, adjusted, array_made, array_rules, function_rules, parameter_rules, pointer_rules}
 use Rattle.lk_typed.specs.Env.{Env, Additions, Name, AnObject, AFaultyName, Field, nothing, both, past_scope, extend, enter}
 use Rattle.lk_typed.specs.Faults.{Breach}
-use Rattle.lk_typed.specs.MemberRules.{member_rules}
-use Rattle.lk_typed.specs.Told.{SpecifierTold, SpecifierTeller, Named, DeclaratorTold, TypeTold, MemberTold, ItemTold, MemberTeller, with_optional, unless_broken, then_type, some_type, specifiers, type_of, then_member, no_member, enumerator, declares}
+use Rattle.lk_typed.specs.MemberRules.{is_over, large_struct_rules, member_rules, within_bounds}
+use Rattle.lk_typed.specs.Sizes.{is_broken}
+use Rattle.lk_typed.specs.Told.{SpecifierTold, SpecifierTeller, Named, Span, DeclaratorTold, TypeTold, MemberTold, ItemTold, MemberTeller, with_optional, unless_broken, then_type, some_type, specifiers, type_of, then_member, no_member, enumerator, declares}
 use Rattle.lk_typed.specs.Ty.{Ty, Pointer, Function, is_void, types_of}
 
 -- a form that waits for the place and number of its node
@@ -16,27 +17,48 @@ Placed A = Spot → ℕ → A
 -- ---- declarators (C99 6.7.5)
 
 abbrev pub bare : DeclaratorTold
-bare = record { name = None; additions = λ env. nothing; type = λ env may_be_absent t. t; parameters = λ env. nothing; holds_sizeof = λ env. false }
+bare = record { name = None; additions = λ env. nothing; type = λ span t. t; is_large = λ span t. false; parameters = λ env. nothing; holds_sizeof = λ env. false }
+
+-- the span of a declarator that begins in this environment
+abbrev pub span_of : Env → Bool → DeclaratorTold → Span
+span_of env may_be_absent d = record { env = env; behind = extend env (d.additions env); may_be_absent = may_be_absent }
+
+-- the type that a declarator makes, behind the type on its left
+abbrev pub type_made : Env → Bool → Option Ty → DeclaratorTold → Option Ty
+type_made env may_be_absent t d = d.type (span_of env may_be_absent d) t
+
+-- what a form makes of the type on its left, which is then on the left of the declarator inside
+abbrev pub Maker : Type 0
+Maker = Span → Option Ty → Option Ty
+
+-- a type that is over a bound isn't made
+abbrev pub type_through : Maker → DeclaratorTold → Span → Option Ty → Option Ty
+type_through make inner span t = inner.type span (within_bounds span.behind (make span t))
+
+abbrev pub is_large_through : Maker → DeclaratorTold → Span → Option Ty → Bool
+is_large_through make inner span t = is_over span.behind (make span t) || inner.is_large span (within_bounds span.behind (make span t))
+
+abbrev pub pointer_made : Option Ty → Option Ty
+pointer_made t = unless_broken (pointer_rules t) (some_type Pointer t)
 
 -- `* declarator`
 abbrev pub pointer_told : DeclaratorTold → DeclaratorTold
 pointer_told inner =
-    record {
-      name = inner.name;
-      additions = inner.additions;
-      type = λ env may_be_absent t. inner.type env may_be_absent (unless_broken (pointer_rules t) (some_type Pointer t));
-      parameters = inner.parameters;
-      holds_sizeof = inner.holds_sizeof;
-    }
+    record inner { type = type_through (λ span t. pointer_made t) inner; is_large = is_large_through (λ span t. pointer_made t) inner }
+
+-- the elements are asked where the declarator begins
+abbrev pub array_by : Span → Size → Option Ty → Option Ty
+array_by span n t = unless_broken (array_rules span.env span.may_be_absent t n) (then_type t (array_made span.env.structs n))
 
 -- `declarator[size]`: the size stands behind the declarator inside
 abbrev pub array_told : DeclaratorTold → (Env → Size) → (Env → Additions) → (Env → Bool) → DeclaratorTold
 array_told inner size added holds =
+    let make = λ (span : Span) (t : Option Ty). array_by span (size (extend span.env (inner.additions span.env))) t in
     record {
       name = inner.name;
       additions = λ env. let a = inner.additions env in both a (added (extend env a));
-      type = λ env may_be_absent t. let n = size (extend env (inner.additions env)) in
-          inner.type env may_be_absent (unless_broken (array_rules env may_be_absent t n) (then_type t (array_type n)));
+      type = type_through make inner;
+      is_large = is_large_through make inner;
       parameters = inner.parameters;
       holds_sizeof = λ env. inner.holds_sizeof env || holds (extend env (inner.additions env));
     }
@@ -82,14 +104,18 @@ abbrev pub function_type : Bool → Option (List Ty) → Ty → Option Ty
 function_type dots None result = None
 function_type dots (Some params) result = Some (Function result (types_of params) dots)
 
+abbrev pub function_by : Bool → Option (List Ty) → Option Ty → Option Ty
+function_by dots types t = unless_broken (function_rules t) (then_type t (function_type dots types))
+
 -- `declarator(parameters)`, where the declarator may be the name itself, perhaps in parentheses
 abbrev pub function_told : DeclaratorTold → Bool → List ParameterTeller → Bool → DeclaratorTold
 function_told inner is_beside ps dots =
+    let make = λ (span : Span) (t : Option Ty). function_by dots (parameters_of ps dots (enter (extend span.env (inner.additions span.env)))).types t in
     record {
       name = inner.name;
       additions = λ env. let a = inner.additions env in both a (past_scope (parameters_of ps dots (enter (extend env a))).additions);
-      type = λ env may_be_absent t. let told = parameters_of ps dots (enter (extend env (inner.additions env))) in
-          inner.type env may_be_absent (unless_broken (function_rules t) (then_type t (function_type dots told.types)));
+      type = type_through make inner;
+      is_large = is_large_through make inner;
       parameters = if is_beside then (λ env. (parameters_of ps dots env).additions) else inner.parameters;
       holds_sizeof = λ env. inner.holds_sizeof env || (parameters_of ps dots (enter (extend env (inner.additions env)))).holds_sizeof;
     }
@@ -128,7 +154,7 @@ with_declarator env may_be_absent told inner =
     let d = (inner_of inner).told in
     let after = extend env told.additions in
     record {
-      type = d.type after may_be_absent (type_in InType told);
+      type = type_made after may_be_absent (type_in InType told) d;
       additions = both told.additions (d.additions after);
       name = d.name;
       holds_sizeof = told.holds_sizeof || d.holds_sizeof after;
@@ -188,15 +214,17 @@ abbrev pub field_unless : List Breach → Name → Ty → MemberTold → MemberT
 field_unless [] name t faulty = record faulty { fields = record { name = name; type = t } ∷ []; sound = true }
 field_unless (breach ∷ others) name t faulty = faulty
 
+-- a member whose type is a faulty struct is faulty, and breaks no rule by that
 abbrev pub field_told : Env → List Field → Option Named → Option Ty → MemberTold → MemberTold
 field_told env before None t faulty = faulty
 field_told env before (Some named) None faulty = faulty
-field_told env before (Some named) (Some t) faulty = field_unless (member_rules env before named.name t) named.name t faulty
+field_told env before (Some named) (Some t) faulty =
+    if is_broken env.structs t then faulty else field_unless (member_rules env before named.name t ++ large_struct_rules env before t) named.name t faulty
 
 abbrev pub plain_member : DeclaratorLayer → MemberDeclaratorTeller
 plain_member inner env t before =
     let d = inner.told in
-    field_told (extend env (d.additions env)) before d.name (d.type env false t) (faulty_member (d.additions env) (d.holds_sizeof env))
+    field_told (extend env (d.additions env)) before d.name (type_made env false t d) (faulty_member (d.additions env) (d.holds_sizeof env))
 
 abbrev pub declarators_in_turn : List MemberDeclaratorTeller → MemberDeclaratorTeller
 declarators_in_turn [] env t before = no_member

@@ -1,4 +1,4 @@
--- What the declaration of a local gives it (C99 6.7.8): a slot its value; another object the parts that its initialiser names, and the cells that it doesn't name.
+-- What the declaration of a local gives it (C99 6.7.8): the parts that its initialiser names, and the cells that it doesn't name.
 use Rattle.std.specs.Prelude.{ℕ, ◌≡◌, ◌⊎◌, true, false, Some, None, List, [], ◌∷◌}
 use Rattle.lk_base.specs.declared.spot.Spot.{Spot}
 use Rattle.lk_tree.specs.declared.declaration.Declare.{Declare}
@@ -20,12 +20,10 @@ use Rattle.lk_typed.specs.Tables.{Tables, IsLocalAt}
 use Rattle.lk_typed.specs.Told.{Named, SpecifierTold}
 use Rattle.lk_typed.specs.Ty.{Ty, Means}
 use Rattle.lk_typed.specs.declared.expression.TypedExpr.{TypedExpr}
-use Rattle.lk_typed.specs.declared.initialiser.AbsentCells.{AbsentCells}
 use Rattle.lk_typed.specs.declared.initialiser.LocalPart.{LocalPart}
 use Rattle.lk_typed.specs.declared.initialiser.LocalValue.{LocalValue}
 use Rattle.lk_typed.specs.declared.initialiser.LocalValue.TheVariants as value
 use Rattle.lk_typed.specs.declared.statement.LocalInit.{LocalInit}
-use Rattle.lk_typed.specs.declared.statement.LocalInit.TheVariants as init
 use Rattle.lk_typed.specs.declared.unit.Local.{Local}
 
 module _ (tables : Tables) where
@@ -48,11 +46,13 @@ module _ (tables : Tables) where
   -- ---- objects
 
   -- the initialiser of an object of this type, which stands in this environment
-  pub data IsLocalInit (env : Env) (t : Ty) (given : Init) (ordinal : ℕ) : LocalInit → Type 0 where
-    slot : {l : ℕ} {local : Local} {p : InPlace} {e : TypedExpr} → IsLocalAt tables ordinal l local → local.is_slot ≡ true →
-        AreGiven env t [] given (record { path = []; type = t; begins = AValue p } ∷ []) → IsConverted tables false p t e → IsLocalInit env t given ordinal (init.Slot l e)
-    object : {l : ℕ} {local : Local} {parts : List PartGiven} {named : List LocalPart} {absent : List AbsentCells} → IsLocalAt tables ordinal l local → local.is_slot ≡ false →
-        AreGiven env t [] given parts → AreLocalParts parts named → AreAllAbsent (fields_in env) t named absent → IsLocalInit env t given ordinal (init.Object l named absent)
+  pub record IsLocalInit (env : Env) (t : Ty) (given : Init) (ordinal : ℕ) (is : LocalInit) : Type 0 where
+    pub local : Local
+    pub is_there : IsLocalAt tables ordinal is.local local
+    pub parts : List PartGiven
+    pub gives : AreGiven env t [] given parts
+    pub named : AreLocalParts parts is.named
+    pub absent : AreAllAbsent (fields_in env) t is.named is.absent
 
   -- ---- the declarators of a declaration in a block, in their order: those of locals with an initialiser
 

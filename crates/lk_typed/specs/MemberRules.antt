@@ -1,5 +1,5 @@
 -- The rules of members of a struct (C99 6.7.2.1).
-use Rattle.std.specs.Prelude.{ℕ, ◌&&◌, ◌++◌, not, List, [], ◌∷◌, map, is_some, if◌then◌else◌}
+use Rattle.std.specs.Prelude.{ℕ, ◌++◌, Bool, false, not, Option, Some, None, List, [], ◌∷◌, map, is_some, if◌then◌else◌}
 use Rattle.lk_base.specs.declared.code.Code.TheVariants.{Redeclared, Incomplete, LargeType}
 use Rattle.lk_typed.specs.Bounds.{is_large, is_large_struct}
 use Rattle.lk_typed.specs.DeclaratorRules.{unless}
@@ -22,11 +22,16 @@ fields_in env s = types_in (members_of env.structs s)
 abbrev pub member_rules : Env → List Field → Name → Ty → List Breach
 member_rules env before name t = (if is_some (field_of before name) then breach_of Redeclared name ∷ [] else []) ++ unless (is_complete env.structs t) Incomplete
 
--- 32 of a declarator
-abbrev pub large_rules : Env → Ty → List Breach
-large_rules env t = unless (not (is_large (fields_in env) t)) LargeType
+-- whether a type is over a bound
+abbrev pub is_over : Env → Option Ty → Bool
+is_over env None = false
+is_over env (Some t) = is_large (fields_in env) t
 
--- 32 of a member's declarator: its type, or the struct up to and with it
-abbrev pub large_member_rules : Env → List Field → Ty → List Breach
-large_member_rules env before t =
-    unless (not (is_large (fields_in env) t) && not (is_large_struct (fields_in env) (map (λ field. field.type) before ++ t ∷ []))) LargeType
+-- a type, unless it is over a bound
+abbrev pub within_bounds : Env → Option Ty → Option Ty
+within_bounds env None = None
+within_bounds env (Some t) = if is_large (fields_in env) t then None else Some t
+
+-- 32 of a member's declarator, besides its types: the struct up to and with it
+abbrev pub large_struct_rules : Env → List Field → Ty → List Breach
+large_struct_rules env before t = unless (not (is_large_struct (fields_in env) (map (λ field. field.type) before ++ t ∷ []))) LargeType

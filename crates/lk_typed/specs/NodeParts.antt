@@ -1,6 +1,6 @@
 -- The parts of each node of a source, in the order of the text, each in its environment.
-use Rattle.std.specs.Prelude.{ℕ, Bool, true, false, Option, Some, None, List, [], ◌∷◌, ◌++◌}
-use Rattle.lk_tree.specs.declared.declaration.Init.{Init, out-Init}
+use Rattle.std.specs.Prelude.{Bool, true, false, Option, Some, None, List, [], ◌∷◌, ◌++◌}
+use Rattle.lk_tree.specs.declared.declaration.Init.{out-Init}
 use Rattle.lk_tree.specs.declared.declaration.Declare.{Declare}
 use Rattle.lk_tree.specs.declared.declaration.InitDeclarator.{InitDeclarator}
 use Rattle.lk_tree.specs.declared.expression.DeclaratorForm.TheOpen.{MemberDeclarator-F}
@@ -22,12 +22,12 @@ use Rattle.lk_tree.specs.declared.statement.Function.{Function}
 use Rattle.lk_tree.specs.declared.statement.Stmt.{Stmt}
 use Rattle.lk_tree.specs.declared.statement.StmtForm.{StmtForm, out-StmtForm}
 use Rattle.lk_typed.specs.DeclarationRules.{InDeclaration, InDefinition, InType, Scope, AtFile, Defined, is_static_object, type_in}
-use Rattle.lk_typed.specs.Declarations.{completed, declaration_adds, declarator_adds, given_by, is_alone, may_lack_size, name_adds, named_additions}
+use Rattle.lk_typed.specs.Declarations.{completed, declaration_adds, declarator_adds, elements_given, given_by, is_alone, may_lack_size, name_adds, named_additions, type_of_name}
 use Rattle.lk_typed.specs.Env.{Env, Additions, Field, nothing, both, past_scope, extend, enter}
-use Rattle.lk_typed.specs.DeclaratorRules.{elements}
 use Rattle.lk_typed.specs.InitialiserRules.{Object}
 use Rattle.lk_typed.specs.Initialisers.{parts_of_init}
 use Rattle.lk_typed.specs.Labels.{labels}
+use Rattle.lk_typed.specs.Layers.{type_made}
 use Rattle.lk_typed.specs.Nodes.{Node, AnExternal, ADeclaration, ADefinition, AMember, AnItem, AParameter, ATypeName, ADeclarator, AnInitialiser, AStatement, AnExpression, Placed, at, Left, NameUse, Declares, IsMember, IsParameter, Unnamed}
 use Rattle.lk_typed.specs.Parts.{declarator_parts, items_in_turn, perhaps, specifiers_parts, statement_parts}
 use Rattle.lk_typed.specs.StatementRules.{in_function}
@@ -38,29 +38,32 @@ use Rattle.lk_typed.specs.Expressions.{declarator_found, expr_parts, member_decl
 
 -- ---- declarations
 
--- the declared type, and that with the size of its initialiser
-abbrev pub type_declared : SpecifierTold → Env → InitDeclarator → Option Ty
-type_declared told env d =
+-- the type of a declared name, before its initialiser gives it a size
+abbrev pub type_without_size : Scope → SpecifierTold → Env → InitDeclarator → Option Ty
+type_without_size scope told env d =
     let inner = declarator_found d.declarator in
-    completed (inner.type env (may_lack_size told.storages d.init) (type_in InDeclaration told)) d.init
+    type_of_name (extend env (inner.additions env)) scope told.storages inner.name (type_made env (may_lack_size told.storages d.init) (type_in InDeclaration told) inner)
+
+abbrev pub type_declared : Scope → SpecifierTold → Env → InitDeclarator → Option Ty
+type_declared scope told env d = completed d.init (type_without_size scope told env d)
 
 abbrev pub object_of : Option Ty → Bool → Option Object
 object_of None is_static = None
 object_of (Some t) is_static = Some (record { type = t; is_inner = false; is_static = is_static })
 
--- how many elements an initialiser gives
-abbrev pub elements_given : Option Ty → Option Init → ℕ
-elements_given None init = 0
-elements_given (Some t) None = 0
-elements_given (Some t) (Some init) = elements t
-
 abbrev pub initialiser_part : Scope → SpecifierTold → Env → InitDeclarator → List Placed
 initialiser_part scope told env d =
-    perhaps (extend env (name_adds scope told env d)) (AnInitialiser (object_of (type_declared told env d) (is_static_object scope told.storages))) d.init
+    perhaps (extend env (name_adds scope told env d)) (AnInitialiser (object_of (type_declared scope told env d) (is_static_object scope told.storages))) d.init
 
 abbrev pub declared_left : Scope → SpecifierTold → Env → Env → InitDeclarator → Left
 declared_left scope told at_end env d =
-    record { type = type_in InDeclaration told; may_be_absent = may_lack_size told.storages d.init; use_of_name = Declares scope told.storages (given_by d.init) (elements_given (type_declared told env d) d.init) at_end; is_whole = true }
+    record {
+      type = type_in InDeclaration told;
+      may_be_absent = may_lack_size told.storages d.init;
+      behind = extend env ((declarator_found d.declarator).additions env);
+      use_of_name = Declares scope told.storages (given_by d.init) (elements_given d.init (type_without_size scope told env d)) at_end;
+      is_whole = true;
+    }
 
 abbrev pub declarators_in_turn : Env → Scope → SpecifierTold → Env → List InitDeclarator → List Placed
 declarators_in_turn at_end scope told env [] = []
@@ -106,7 +109,7 @@ abbrev pub behind_declarator : SpecifierTold → Env → Function → Env
 behind_declarator told env node =
     let inner = declarator_found node.declarator in
     let after = extend env (inner.additions env) in
-    extend after (named_additions after AtFile told.storages Defined inner.name (inner.type env false (type_in InDefinition told)))
+    extend after (named_additions after AtFile told.storages Defined None inner.name (type_made env false (type_in InDefinition told) inner))
 
 -- the parameters in the scope of the body: their names and tags; the structs among them have their numbers from the declarator, in whose environment they stand
 abbrev pub parameters_of_body : Env → Function → Additions
@@ -116,25 +119,50 @@ parameters_of_body env node = record ((declarator_found node.declarator).paramet
 abbrev pub in_body : SpecifierTold → Env → Function → Env
 in_body told env node =
     let inner = declarator_found node.declarator in
-    record (extend (enter (behind_declarator told env node)) (parameters_of_body env node)) { result = result_of (inner.type env false (type_in InDefinition told)) }
+    record (extend (enter (behind_declarator told env node)) (parameters_of_body env node)) { result = result_of (type_made env false (type_in InDefinition told) inner) }
+
+abbrev pub defined_left : SpecifierTold → Env → Env → Function → Left
+defined_left told at_end env node =
+    record {
+      type = type_in InDefinition told;
+      may_be_absent = false;
+      behind = extend env ((declarator_found node.declarator).additions env);
+      use_of_name = Declares AtFile told.storages Defined 0 at_end;
+      is_whole = true;
+    }
 
 abbrev pub definition_parts : Env → Env → Function → List Placed
 definition_parts at_end env node =
     let told = specifiers_found node.specifiers env false in
     let after = extend env told.additions in
     specifiers_parts false env node.specifiers ++
-    at after (ADeclarator (record { type = type_in InDefinition told; may_be_absent = false; use_of_name = Declares AtFile told.storages Defined 0 at_end; is_whole = true }) node.declarator) ∷
+    at after (ADeclarator (defined_left told at_end after node) node.declarator) ∷
     items_in_turn (in_function (labels node.body)) (in_body told after node) (body_items (out-StmtForm node.body.form))
 
 -- ---- members, parameters and type names
 
-abbrev pub type_left : SpecifierTold → Bool → NameUse → Left
-type_left told may_be_absent name = record { type = type_in InType told; may_be_absent = may_be_absent; use_of_name = name; is_whole = true }
+-- a declarator of a member, a parameter or a type name
+abbrev pub type_left : Env → SpecifierTold → Bool → NameUse → Declarator → Left
+type_left env told may_be_absent name d =
+    record {
+      type = type_in InType told;
+      may_be_absent = may_be_absent;
+      behind = extend env ((declarator_found d).additions env);
+      use_of_name = name;
+      is_whole = true;
+    }
+
+abbrev pub type_part : Env → SpecifierTold → Bool → NameUse → Declarator → Placed
+type_part env told may_be_absent name d = at env (ADeclarator (type_left env told may_be_absent name d) d)
+
+abbrev pub type_part_if_there : Env → SpecifierTold → Bool → NameUse → Option Declarator → List Placed
+type_part_if_there env told may_be_absent name None = []
+type_part_if_there env told may_be_absent name (Some d) = type_part env told may_be_absent name d ∷ []
 
 abbrev pub member_part : Env → SpecifierTold → List Field → MemberDeclarator-F DeclaratorForm ExprForm MemberDeclarator Specifier Declarator Expr Item Member Parameter TypeName → List Placed
-member_part env told before (MemberDeclarator-F.Plain inner) = at env (ADeclarator (type_left told false (IsMember before)) inner) ∷ []
+member_part env told before (MemberDeclarator-F.Plain inner) = type_part env told false (IsMember before) inner ∷ []
 member_part env told before (MemberDeclarator-F.Field inner width) =
-    at env (ADeclarator (type_left told false (IsMember before)) inner) ∷ at (extend env ((declarator_found inner).additions env)) (AnExpression width) ∷ []
+    type_part env told false (IsMember before) inner ∷ at (extend env ((declarator_found inner).additions env)) (AnExpression width) ∷ []
 member_part env told before (MemberDeclarator-F.Unnamed width) = at env (AnExpression width) ∷ []
 
 abbrev pub members_in_turn : SpecifierTold → Env → List Field → List MemberDeclarator → List Placed
@@ -152,7 +180,7 @@ member_parts env before m =
 abbrev pub type_parts : Env → Bool → NameUse → List Specifier → Option Declarator → List Placed
 type_parts env may_be_absent name ss d =
     let told = specifiers_found ss env false in
-    specifiers_parts false env ss ++ perhaps (extend env told.additions) (ADeclarator (type_left told may_be_absent name)) d
+    specifiers_parts false env ss ++ type_part_if_there (extend env told.additions) told may_be_absent name d
 
 -- ---- all nodes
 
@@ -187,7 +215,7 @@ external_adds env (decl.Function node) =
     let inner = declarator_found node.declarator in
     let after = extend env told.additions in
     let a = inner.additions after in
-    both told.additions (both a (both (named_additions (extend after a) AtFile told.storages Defined inner.name (inner.type after false (type_in InDefinition told))) (past_body told after node)))
+    both told.additions (both a (both (named_additions (extend after a) AtFile told.storages Defined None inner.name (type_made after false (type_in InDefinition told) inner)) (past_body told after node)))
 external_adds env (decl.Declare node) = declaration_adds AtFile env node
 external_adds env (decl.Empty node) = nothing
 

@@ -1,5 +1,5 @@
 -- The codes that hold at each node of a source, by the rules of its kind: where its parts have types; and where a node stands.
-use Rattle.std.specs.Prelude.{ℕ, ◌&&◌, ◌||◌, ◌++◌, Bool, true, false, Option, Some, None, List, [], ◌∷◌, is_some, if◌then◌else◌, ℤ, pos}
+use Rattle.std.specs.Prelude.{ℕ, ◌&&◌, ◌||◌, ◌++◌, Bool, true, false, not, Option, Some, None, List, [], ◌∷◌, is_some, if◌then◌else◌, ℤ, pos}
 use Rattle.lk_base.specs.declared.spot.Spot.{Spot}
 use Rattle.lk_tree.specs.declared.declaration.Init.{Init, out-Init}
 use Rattle.lk_tree.specs.declared.declaration.Init.TheOpen.{Init-F}
@@ -24,26 +24,26 @@ use Rattle.lk_tree.specs.declared.statement.ForFirst.{ForFirst}
 use Rattle.lk_tree.specs.declared.statement.ForFirst.TheVariants as first
 use Rattle.lk_tree.specs.declared.statement.Stmt.{Stmt}
 use Rattle.lk_tree.specs.declared.statement.StmtForm.{StmtForm, out-StmtForm}
-use Rattle.lk_base.specs.declared.code.Code.TheVariants.{Incomplete}
+use Rattle.lk_base.specs.declared.code.Code.TheVariants.{Incomplete, LargeType}
 use Rattle.lk_typed.specs.DeclarationRules.{Holder, InDefinition, InType, definition_rules, named_rules, type_in}
 use Rattle.lk_typed.specs.Declarations.{declared_as}
-use Rattle.lk_typed.specs.DeclaratorRules.{array_rules, function_rules, of_type, parameter_rules, pointer_rules}
-use Rattle.lk_typed.specs.Env.{Env, Name, Declared, Meaning, AnObject, AnEnumerator, AFaultyName, extend}
+use Rattle.lk_typed.specs.DeclaratorRules.{array_rules, function_rules, of_type, parameter_rules, pointer_rules, unless}
+use Rattle.lk_typed.specs.Env.{Env, Name, Declared, Meaning, AnObject, AnEnumerator, AFaultyName, enter, extend}
 use Rattle.lk_typed.specs.declared.entity.Linkage.TheVariants as linkage
 use Rattle.lk_typed.specs.declared.entity.Defines.TheVariants as defines
-use Rattle.lk_typed.specs.Layers.{has_name}
+use Rattle.lk_typed.specs.Layers.{has_name, type_made}
 use Rattle.lk_typed.specs.Faults.{Breach, breach}
 use Rattle.lk_typed.specs.HolderRules.{all_specifier_rules, declaration_rules, item_rules, member_node_rules}
 use Rattle.lk_typed.specs.InitialiserRules.{Object, given_rules}
 use Rattle.lk_typed.specs.Initialisers.{as_initialiser, initialiser_rules}
-use Rattle.lk_typed.specs.MemberRules.{large_member_rules, large_rules, member_rules}
+use Rattle.lk_typed.specs.MemberRules.{large_struct_rules, member_rules}
 use Rattle.lk_typed.specs.NodeParts.{parts}
 use Rattle.lk_typed.specs.Nodes.{Node, AnExternal, ADeclaration, ADefinition, AMember, AnItem, AParameter, ATypeName, ADeclarator, AnInitialiser, AStatement, AnExpression, Placed, Left, NameUse, Declares, IsMember, IsParameter, Unnamed}
-use Rattle.lk_typed.specs.Parts.{added_by, first_adds, inner_adds, size_in}
+use Rattle.lk_typed.specs.Parts.{added_by, behind_inner, first_adds, inner_adds, size_in, span_at}
 use Rattle.lk_typed.specs.Redeclared.{name_rules}
 use Rattle.lk_typed.specs.Stands.{Mark}
 use Rattle.lk_typed.specs.StatementRules.{Around, Returned, Nothing, Converted, break_rules, case_rules, condition_rules, continue_rules, default_rules, dropped_rules, goto_rules, label_rules, return_rules, switch_rules}
-use Rattle.lk_typed.specs.Told.{with_optional}
+use Rattle.lk_typed.specs.Told.{DeclaratorTold, Span, with_optional}
 use Rattle.lk_typed.specs.Ty.{Ty, is_void}
 use Rattle.lk_typed.specs.Expressions.{declarator_found, expr_breaches, expr_constant, expr_conversion, expr_type, expr_word, has_expr_type, item_found, parameter_found, specifiers_found, type_found}
 
@@ -61,9 +61,9 @@ parameter_meaning (Some t) = AnObject t false
 abbrev pub plain_name : Name → Meaning → Declared
 plain_name name meaning = record { name = name; meaning = meaning; linkage = linkage.None; defines = defines.Nothing; ordinal = 0 }
 
--- the rules of a name, by what it becomes; none asks which node declares it
+-- the rules of a name, by what it becomes, in the environment where its scope begins; none asks which node declares it
 abbrev pub name_use_rules : Env → Option Ty → Name → NameUse → List Breach
-name_use_rules env t name (Declares scope ss given n at_end) = name_rules env (declared_as env scope ss given name 0 t) ++ of_type t (λ t. named_rules env at_end scope ss name t given) ++ given_rules n
+name_use_rules env t name (Declares scope ss given n at_end) = name_rules env (declared_as env scope ss given None name 0 t) ++ of_type t (λ t. named_rules env at_end scope ss name t given) ++ given_rules n
 name_use_rules env t name (IsMember before) = of_type t (λ t. member_rules env before name t)
 name_use_rules env t name IsParameter = name_rules env (plain_name name (parameter_meaning t)) ++ of_type t void_rules
 name_use_rules env t name Unnamed = []
@@ -72,20 +72,23 @@ name_use_rules env t name Unnamed = []
 
 abbrev pub form_rules : Env → Left → DeclaratorForm-F DeclaratorForm ExprForm MemberDeclarator Specifier Declarator Expr Item Member Parameter TypeName → List Breach
 form_rules env left (DeclaratorForm-F.Star qualifiers inner) = pointer_rules left.type
-form_rules env left (DeclaratorForm-F.Named name) = name_use_rules env left.type name left.use_of_name
+form_rules env left (DeclaratorForm-F.Named name) = name_use_rules left.behind left.type name left.use_of_name
 form_rules env left (DeclaratorForm-F.Group inner) = []
 form_rules env left (DeclaratorForm-F.ArrayOf inner size) = array_rules env left.may_be_absent left.type (size_in size (extend env (inner_adds inner env)))
 form_rules env left (DeclaratorForm-F.FunctionOf inner ps dots) = function_rules left.type
 
--- 32 stands at the whole declarator
-abbrev pub bound_rules : Env → NameUse → Ty → List Breach
-bound_rules env (Declares scope ss given n at_end) t = large_rules env t
-bound_rules env (IsMember before) t = large_member_rules env before t
-bound_rules env IsParameter t = large_rules env t
-bound_rules env Unnamed t = large_rules env t
+-- 32 stands at the whole declarator: of a type that it makes, and of the struct whose member it declares
+abbrev pub struct_bound_rules : Env → NameUse → Ty → List Breach
+struct_bound_rules env (Declares scope ss given n at_end) t = []
+struct_bound_rules env (IsMember before) t = large_struct_rules env before t
+struct_bound_rules env IsParameter t = []
+struct_bound_rules env Unnamed t = []
+
+abbrev pub bound_rules : Span → Left → DeclaratorTold → List Breach
+bound_rules span left d = unless (not (d.is_large span left.type)) LargeType ++ of_type (d.type span left.type) (struct_bound_rules left.behind left.use_of_name)
 
 abbrev pub whole_rules : Env → Left → Declarator → List Breach
-whole_rules env left d = if left.is_whole then of_type ((declarator_found d).type env left.may_be_absent left.type) (bound_rules env left.use_of_name) else []
+whole_rules env left d = if left.is_whole then bound_rules (span_at env left) left (declarator_found d) else []
 
 -- ---- statements
 
@@ -97,7 +100,7 @@ abbrev pub first_rules : Env → ForFirst → List Breach
 first_rules env (first.Expr e) = optional_rules env dropped_rules e
 first_rules env (first.Declare node) = []
 
--- the rules of a for: its condition is one, its other parts are dropped (C99 6.8.5.3)
+-- the rules of a for in the scope round its parts: its condition is one, its other parts are dropped (C99 6.8.5.3)
 abbrev pub for_rules : Env → ForFirst → Option Expr → Option Expr → List Breach
 for_rules env start condition step =
     let behind_first = extend env (first_adds start env) in
@@ -112,17 +115,18 @@ abbrev pub returned : Env → Option Expr → Returned
 returned env None = Nothing
 returned env (Some e) = Converted (converted_rules env e env.result)
 
+-- each expression is asked where it stands
 abbrev pub stmt_rules : Around → Env → ℕ → StmtForm-F BlockItem StmtForm Stmt → List Breach
 stmt_rules around env n (StmtForm-F.Label name inner) = label_rules around name n
-stmt_rules around env n (StmtForm-F.Case value inner) = case_rules around n (expr_constant value env)
-stmt_rules around env n (StmtForm-F.Default inner) = default_rules around n
+stmt_rules around env n (StmtForm-F.Case value inner) = case_rules around (expr_constant value env)
+stmt_rules around env n (StmtForm-F.Default inner) = default_rules around
 stmt_rules around env n (StmtForm-F.Block items) = []
 stmt_rules around env n (StmtForm-F.Do e) = optional_rules env dropped_rules e
-stmt_rules around env n (StmtForm-F.If e taken other) = condition_rules (expr_type e env)
-stmt_rules around env n (StmtForm-F.Switch e inner) = switch_rules (expr_type e env)
-stmt_rules around env n (StmtForm-F.While e inner) = condition_rules (expr_type e env)
-stmt_rules around env n (StmtForm-F.Until inner e) = condition_rules (expr_type e env)
-stmt_rules around env n (StmtForm-F.For start condition step inner) = for_rules env start condition step
+stmt_rules around env n (StmtForm-F.If e taken other) = condition_rules (expr_type e (enter env))
+stmt_rules around env n (StmtForm-F.Switch e inner) = switch_rules (expr_type e (enter env))
+stmt_rules around env n (StmtForm-F.While e inner) = condition_rules (expr_type e (enter env))
+stmt_rules around env n (StmtForm-F.Until inner e) = condition_rules (expr_type e (behind_inner inner (enter env)))
+stmt_rules around env n (StmtForm-F.For start condition step inner) = for_rules (enter env) start condition step
 stmt_rules around env n (StmtForm-F.Goto name) = goto_rules around name
 stmt_rules around env n StmtForm-F.Continue = continue_rules around
 stmt_rules around env n StmtForm-F.Break = break_rules around
@@ -134,7 +138,7 @@ stmt_rules around env n (StmtForm-F.Return e) = return_rules env.result (returne
 abbrev pub type_behind : Env → Holder → Bool → List Specifier → Option Declarator → Option Ty
 type_behind env holder may_be_absent ss None = type_in holder (specifiers_found ss env false)
 type_behind env holder may_be_absent ss (Some d) =
-    let told = specifiers_found ss env false in (declarator_found d).type (extend env told.additions) may_be_absent (type_in holder told)
+    let told = specifiers_found ss env false in type_made (extend env told.additions) may_be_absent (type_in holder told) (declarator_found d)
 
 abbrev pub is_named : Option Declarator → Bool
 is_named None = false

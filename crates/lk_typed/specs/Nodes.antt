@@ -34,6 +34,8 @@ pub record Left : Type 0 where
   pub type : Option Ty
   -- whether `[]` may stand
   pub may_be_absent : Bool
+  -- the environment behind the whole declarator: the scope of its name begins there (C99 6.2.1, 7)
+  pub behind : Env
   pub use_of_name : NameUse
   -- whether it is no part of another declarator
   pub is_whole : Bool

@@ -1,5 +1,5 @@
 -- The parts of a node, each in its environment: the one place that says which names stand where (C99 6.2.1).
-use Rattle.std.specs.Prelude.{Bool, false, not, Option, Some, None, List, [], ◌∷◌, ◌++◌, map, ℤ}
+use Rattle.std.specs.Prelude.{Bool, true, false, not, Option, Some, None, List, [], ◌∷◌, ◌++◌, map, ℤ}
 use Rattle.lk_tree.specs.declared.expression.DeclaratorForm.TheOpen.{DeclaratorForm-F, Specifier-F}
 use Rattle.lk_tree.specs.declared.expression.Declarator.{Declarator}
 use Rattle.lk_tree.specs.declared.expression.DeclaratorForm.{DeclaratorForm}
@@ -19,14 +19,15 @@ use Rattle.lk_tree.specs.declared.statement.Stmt.{Stmt}
 use Rattle.lk_tree.specs.declared.statement.StmtForm.{StmtForm}
 use Rattle.lk_typed.specs.DeclarationRules.{InBlock}
 use Rattle.lk_typed.specs.Declarations.{declaration_adds}
-use Rattle.lk_typed.specs.DeclaratorRules.{Size, array_rules, array_type, function_rules, pointer_rules}
-use Rattle.lk_typed.specs.Layers.{ParameterTeller, function_type, parameters_of}
+use Rattle.lk_typed.specs.DeclaratorRules.{Size}
+use Rattle.lk_typed.specs.Layers.{ParameterTeller, array_by, function_by, parameters_of, pointer_made}
+use Rattle.lk_typed.specs.MemberRules.{within_bounds}
 use Rattle.lk_typed.specs.Env.{Env, Additions, Field, nothing, past_scope, extend, enter, converted_to}
 use Rattle.lk_typed.specs.Nodes.{Node, ADeclaration, AMember, AnItem, AParameter, ADeclarator, AStatement, AnExpression, Placed, at, Left}
-use Rattle.lk_typed.specs.StatementRules.{Around, in_body_of_loop, in_body_of_switch}
-use Rattle.lk_typed.specs.Told.{before_first, some_type, struct_begins, then_type, unless_broken}
-use Rattle.lk_typed.specs.Ty.{Ty, Pointer}
-use Rattle.lk_typed.specs.Statements.{stmt_adds, switch_found}
+use Rattle.lk_typed.specs.StatementRules.{Around, behind_cases, in_body_of_loop, in_body_of_switch}
+use Rattle.lk_typed.specs.Told.{Span, before_first, struct_begins}
+use Rattle.lk_typed.specs.Ty.{Ty}
+use Rattle.lk_typed.specs.Statements.{around_behind, statement, stmt_adds, switch_kind}
 use Rattle.lk_typed.specs.Expressions.{declarator_found, expr_adds, expr_constant, item_found, member_found, parameter_found, specifiers_found}
 
 -- one part, if it is there
@@ -49,10 +50,16 @@ abbrev pub item_part : Around → Env → BlockItem-F BlockItem StmtForm Stmt �
 item_part around env (BlockItem-F.Declare node) = at env (ADeclaration InBlock node)
 item_part around env (BlockItem-F.Stmt inner) = at env (AStatement around inner)
 
+-- what stands round the items behind one
+abbrev pub item_around : Around → Env → BlockItem-F BlockItem StmtForm Stmt → Around
+item_around around env (BlockItem-F.Declare node) = around
+item_around around env (BlockItem-F.Stmt inner) = around_behind around (statement inner env)
+
 -- the items of a block, each behind what those before it add
 abbrev pub items_in_turn : Around → Env → List BlockItem → List Placed
 items_in_turn around env [] = []
-items_in_turn around env (i ∷ is) = item_part around env (out-BlockItem i) ∷ items_in_turn around (extend env (item_adds (out-BlockItem i) env)) is
+items_in_turn around env (i ∷ is) =
+    item_part around env (out-BlockItem i) ∷ items_in_turn (item_around around env (out-BlockItem i)) (extend env (item_adds (out-BlockItem i) env)) is
 
 abbrev pub first_part : Env → ForFirst → List Placed
 first_part env (first.Expr e) = perhaps env AnExpression e
@@ -87,15 +94,16 @@ to_result env (Some result) = converted_to env result
 -- the parts of a statement
 abbrev pub statement_parts : Around → Env → StmtForm-F BlockItem StmtForm Stmt → List Placed
 statement_parts around env (StmtForm-F.Label name inner) = at env (AStatement around inner) ∷ []
-statement_parts around env (StmtForm-F.Case value inner) = at env (AnExpression value) ∷ at (extend env (expr_adds value env)) (AStatement around inner) ∷ []
-statement_parts around env (StmtForm-F.Default inner) = at env (AStatement around inner) ∷ []
+statement_parts around env (StmtForm-F.Case value inner) =
+    at env (AnExpression value) ∷ at (extend env (expr_adds value env)) (AStatement (behind_cases around (expr_constant value env ∷ []) false) inner) ∷ []
+statement_parts around env (StmtForm-F.Default inner) = at env (AStatement (behind_cases around [] true) inner) ∷ []
 statement_parts around env (StmtForm-F.Block items) = items_in_turn around (enter env) items
 statement_parts around env (StmtForm-F.Do e) = perhaps env AnExpression e
 statement_parts around env (StmtForm-F.If e taken other) =
     at (enter env) (AnExpression e) ∷ at (enter (behind e env)) (AStatement around taken) ∷
-    perhaps (enter (behind_inner taken (behind e env))) (AStatement around) other
+    perhaps (enter (behind_inner taken (behind e env))) (AStatement (around_behind around (statement taken (enter (behind e env))))) other
 statement_parts around env (StmtForm-F.Switch e inner) =
-    at (enter env) (AnExpression e) ∷ at (enter (behind e env)) (AStatement (in_body_of_switch around (switch_found e (enter env) inner (enter (behind e env)))) inner) ∷ []
+    at (enter env) (AnExpression e) ∷ at (enter (behind e env)) (AStatement (in_body_of_switch around (switch_kind e (enter env))) inner) ∷ []
 statement_parts around env (StmtForm-F.While e inner) =
     at (enter env) (AnExpression e) ∷ at (enter (behind e env)) (AStatement (in_body_of_loop around) inner) ∷ []
 statement_parts around env (StmtForm-F.Until inner e) =
@@ -110,7 +118,11 @@ statement_parts around env (StmtForm-F.Return e) = perhaps (to_result env env.re
 
 -- a declarator inside another one, with the type that this one makes for it
 abbrev pub inner_left : Left → Option Ty → Left
-inner_left left t = record left { type = t; is_whole = false }
+inner_left left t = record left { type = within_bounds left.behind t; is_whole = false }
+
+-- a declarator that begins in this environment, and what is given to it
+abbrev pub span_at : Env → Left → Span
+span_at env left = record { env = env; behind = left.behind; may_be_absent = left.may_be_absent }
 
 abbrev pub inner_part : Env → Left → Option Declarator → List Placed
 inner_part env left None = []
@@ -139,21 +151,19 @@ abbrev pub size_in : Option Expr → Env → Size
 size_in None env = None
 size_in (Some e) env = Some (expr_constant e env)
 
--- the size stands in the environment behind the declarator inside; whether the elements are complete is asked where the declarator begins
+-- the size stands in the environment behind the declarator inside
 abbrev pub array_left : Env → Env → Left → Option Expr → Left
-array_left env behind left size =
-    inner_left left (unless_broken (array_rules env left.may_be_absent left.type (size_in size behind)) (then_type left.type (array_type (size_in size behind))))
+array_left env behind left size = inner_left left (array_by (span_at env left) (size_in size behind) left.type)
 
 abbrev pub function_left : Env → Left → List Parameter → Bool → Left
-function_left env left ps dots =
-    inner_left left (unless_broken (function_rules left.type) (then_type left.type (function_type dots (parameters_of (tellers ps) dots (enter env)).types)))
+function_left env left ps dots = inner_left left (function_by dots (parameters_of (tellers ps) dots (enter env)).types left.type)
 
 -- the parts of a declarator, and the type that it makes for the one inside
 abbrev pub declarator_parts : Env → Left → DeclaratorForm-F DeclaratorForm ExprForm MemberDeclarator Specifier Declarator Expr Item Member Parameter TypeName → List Placed
 declarator_parts env left (DeclaratorForm-F.Star qualifiers inner) =
-    inner_part env (inner_left left (unless_broken (pointer_rules left.type) (some_type Pointer left.type))) inner
+    inner_part env (inner_left left (pointer_made left.type)) inner
 declarator_parts env left (DeclaratorForm-F.Named name) = []
-declarator_parts env left (DeclaratorForm-F.Group inner) = inner_part env (inner_left left left.type) (Some inner)
+declarator_parts env left (DeclaratorForm-F.Group inner) = inner_part env (record left { is_whole = false }) (Some inner)
 declarator_parts env left (DeclaratorForm-F.ArrayOf inner size) =
     let behind = extend env (inner_adds inner env) in inner_part env (array_left env behind left size) inner ++ perhaps behind AnExpression size
 declarator_parts env left (DeclaratorForm-F.FunctionOf inner ps dots) =

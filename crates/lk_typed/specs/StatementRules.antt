@@ -1,14 +1,17 @@
 -- The rules of statements (C99 6.8). A type is missing where an expression has none; then its statement breaks no rule.
-use Rattle.std.specs.Prelude.{ℕ, ◌&&◌, ◌||◌, ◌++◌, Bool, true, false, not, Option, Some, None, List, [], ◌∷◌, nat_eq, nat_lt, is_some, if◌then◌else◌, ℤ}
+use Rattle.std.specs.Prelude.{ℕ, ◌||◌, ◌++◌, Bool, true, false, not, Option, Some, None, List, [], ◌∷◌, is_some, map, option_map, if◌then◌else◌, ℤ}
 use Rattle.std.specs.List.{list_any}
 use Rattle.std.specs.Ordering.{int_eq}
+use Rattle.lk_arith.specs.Conversions.{convert, promoted}
 use Rattle.lk_base.specs.declared.code.Code.TheVariants.{Mismatch, NotConstant, BadLabel, MutexValue}
+use Rattle.lk_base.specs.declared.kind.Kind.{Kind}
 use Rattle.lk_typed.specs.DeclaratorRules.{of_type, unless}
 use Rattle.lk_typed.specs.Env.{Name}
 use Rattle.lk_typed.specs.Faults.{Breach, breach, breach_of}
 use Rattle.lk_typed.specs.Labels.{Label, has_label, has_label_before}
 use Rattle.lk_typed.specs.Statics.{is_known}
 use Rattle.lk_typed.specs.Ty.{Ty, is_integer, is_lock, is_pointer, is_void}
+use Rattle.lk_typed.specs.Typing.{known_value}
 use Rattle.lk_typed.specs.declared.constant.Constant.{Constant}
 
 -- ---- expressions in statements; the types are those of values, an array or function turned into a pointer (C99 6.3.2.1)
@@ -37,21 +40,25 @@ return_rules result (Converted broken) = of_type result (λ t. if is_void t then
 
 -- ---- labels and jumps: 26
 
--- a case that belongs to a switch: the number of its node, and its value converted to the promoted type (C99 6.8.4.2, 5)
-pub record CaseFound : Type 0 where
-  pub ordinal : ℕ
-  pub value : Option ℤ
+-- the value of a case, converted to the promoted type of the switch (C99 6.8.4.2, 5)
+abbrev pub case_value : Option Kind → Option Constant → Option ℤ
+case_value None value = None
+case_value (Some k) None = None
+case_value (Some k) (Some c) = option_map (convert (promoted k)) (known_value c)
 
+-- the switch round a statement, as far as it stands before it
 pub record Switch : Type 0 where
-  pub cases : List CaseFound
-  -- the numbers of its Default nodes
-  pub defaults : List ℕ
+  -- the kind of its value, where that is an integer
+  pub kind : Option Kind
+  -- the values of its cases so far, missing where none is known
+  pub values : List (Option ℤ)
+  pub has_default : Bool
 
 -- what stands round a statement in its function
 pub record Around : Type 0 where
   pub labels : List Label
   pub in_loop : Bool
-  -- the promoted kind of the innermost switch is in its cases already
+  -- the innermost one
   pub switch : Option Switch
 
 abbrev pub in_switch : Around → Bool
@@ -78,14 +85,9 @@ are_equal None b = false
 are_equal (Some x) None = false
 are_equal (Some x) (Some y) = int_eq x y
 
--- the value of the case whose node has this number
-abbrev pub value_at : List CaseFound → ℕ → Option ℤ
-value_at [] n = None
-value_at (c ∷ cs) n = if nat_eq c.ordinal n then c.value else value_at cs n
-
 -- an earlier case of the switch has the same value
-abbrev pub is_case_again : List CaseFound → ℕ → Bool
-is_case_again cases n = list_any (λ c. nat_lt c.ordinal n && are_equal c.value (value_at cases n)) cases
+abbrev pub is_case_again : Switch → Option Constant → Bool
+is_case_again s value = list_any (are_equal (case_value s.kind value)) s.values
 
 -- the value of a case is constant: 24 (C99 6.8.4.2, 3)
 abbrev pub constant_rules : Option Constant → List Breach
@@ -93,23 +95,20 @@ constant_rules None = []
 constant_rules (Some c) = unless (is_known c) NotConstant
 
 -- `case value:` stands in a switch, and no second time with one value (C99 6.8.1, 2; 6.8.4.2, 3)
-abbrev pub place_rules : Option Switch → ℕ → List Breach
-place_rules None n = breach BadLabel ∷ []
-place_rules (Some s) n = unless (not (is_case_again s.cases n)) BadLabel
+abbrev pub place_rules : Option Switch → Option Constant → List Breach
+place_rules None value = breach BadLabel ∷ []
+place_rules (Some s) value = unless (not (is_case_again s value)) BadLabel
 
-abbrev pub case_rules : Around → ℕ → Option Constant → List Breach
-case_rules around n value = constant_rules value ++ place_rules around.switch n
+abbrev pub case_rules : Around → Option Constant → List Breach
+case_rules around value = constant_rules value ++ place_rules around.switch value
 
-abbrev pub is_earlier : List ℕ → ℕ → Bool
-is_earlier numbers n = list_any (λ m. nat_lt m n) numbers
-
-abbrev pub default_in : Option Switch → ℕ → List Breach
-default_in None n = breach BadLabel ∷ []
-default_in (Some s) n = unless (not (is_earlier s.defaults n)) BadLabel
+abbrev pub default_in : Option Switch → List Breach
+default_in None = breach BadLabel ∷ []
+default_in (Some s) = unless (not s.has_default) BadLabel
 
 -- `default:` stands in a switch, and once
-abbrev pub default_rules : Around → ℕ → List Breach
-default_rules around n = default_in around.switch n
+abbrev pub default_rules : Around → List Breach
+default_rules around = default_in around.switch
 
 abbrev pub in_function : List Label → Around
 in_function labels = record { labels = labels; in_loop = false; switch = None }
@@ -117,5 +116,13 @@ in_function labels = record { labels = labels; in_loop = false; switch = None }
 abbrev pub in_body_of_loop : Around → Around
 in_body_of_loop around = record around { in_loop = true }
 
-abbrev pub in_body_of_switch : Around → Switch → Around
-in_body_of_switch around s = record around { switch = Some s }
+-- with the kind of its value
+abbrev pub in_body_of_switch : Around → Option Kind → Around
+in_body_of_switch around kind = record around { switch = Some (record { kind = kind; values = []; has_default = false }) }
+
+-- behind more cases of the switch, and perhaps a default
+abbrev pub with_cases : List (Option Constant) → Bool → Switch → Switch
+with_cases values has_default s = record s { values = s.values ++ map (case_value s.kind) values; has_default = s.has_default || has_default }
+
+abbrev pub behind_cases : Around → List (Option Constant) → Bool → Around
+behind_cases around values has_default = record around { switch = option_map (with_cases values has_default) around.switch }

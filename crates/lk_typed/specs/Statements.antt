@@ -1,6 +1,5 @@
 -- What statements add, and the cases of a switch (C99 6.8): a fold, in the environments in which the parts stand.
-use Rattle.std.specs.Prelude.{ℕ, ◌++◌, Option, Some, None, List, [], ◌∷◌, map, ℤ, option_map}
-use Rattle.lk_arith.specs.Conversions.{convert, promoted}
+use Rattle.std.specs.Prelude.{ℕ, ◌++◌, Bool, true, false, Option, Some, None, List, [], ◌∷◌, map}
 use Rattle.lk_base.specs.declared.kind.Kind.{Kind}
 use Rattle.lk_tree.specs.declared.expression.Expr.{Expr}
 use Rattle.lk_tree.specs.declared.statement.BlockItem.TheFolds.{fold-Stmt}
@@ -13,10 +12,9 @@ use Rattle.lk_typed.specs.DeclarationRules.{InBlock}
 use Rattle.lk_typed.specs.Declarations.{declaration_adds}
 use Rattle.lk_typed.specs.Expressions.{expr_adds, expr_constant, expr_type}
 use Rattle.lk_typed.specs.Initialisers.{Adder}
-use Rattle.lk_typed.specs.StatementRules.{CaseFound, Switch}
+use Rattle.lk_typed.specs.StatementRules.{Around, behind_cases}
 use Rattle.lk_typed.specs.Ty.{Ty, kind_of}
 use Rattle.lk_typed.specs.declared.constant.Constant.{Constant}
-use Rattle.lk_typed.specs.Typing.{known_value}
 
 abbrev pub optional_adds : Option Expr → Adder
 optional_adds None env = nothing
@@ -39,44 +37,44 @@ pub record StmtTold : Type 0 where
 abbrev pub StmtTeller : Type 0
 StmtTeller = Env → StmtTold
 
-abbrev only : Additions → StmtTold
+abbrev pub only : Additions → StmtTold
 only additions = record { additions = additions; cases = []; defaults = [] }
 
-abbrev then_told : StmtTold → StmtTold → StmtTold
+abbrev pub then_told : StmtTold → StmtTold → StmtTold
 then_told a b = record { additions = both a.additions b.additions; cases = a.cases ++ b.cases; defaults = a.defaults ++ b.defaults }
 
 -- two statements, the second behind the first
-abbrev behind_first : StmtTeller → StmtTeller → StmtTeller
+abbrev pub behind_first : StmtTeller → StmtTeller → StmtTeller
 behind_first a b env = let first = a env in then_told first (b (extend env first.additions))
 
-abbrev all_in_turn : List StmtTeller → StmtTeller
+abbrev pub all_in_turn : List StmtTeller → StmtTeller
 all_in_turn [] env = only nothing
 all_in_turn (a ∷ others) env = behind_first a (all_in_turn others) env
 
 -- what stands in a scope of its own
-abbrev scoped : StmtTeller → StmtTeller
+abbrev pub scoped : StmtTeller → StmtTeller
 scoped inner env = let told = inner (enter env) in record told { additions = past_scope told.additions }
 
-abbrev adding : Adder → StmtTeller
+abbrev pub adding : Adder → StmtTeller
 adding adds env = only (adds env)
 
-abbrev or_nothing : Option StmtTeller → StmtTeller
+abbrev pub or_nothing : Option StmtTeller → StmtTeller
 or_nothing None env = only nothing
 or_nothing (Some inner) env = inner env
 
-abbrev of_first : ForFirst → Adder
+abbrev pub of_first : ForFirst → Adder
 of_first (first.Expr e) env = optional_adds e env
 of_first (first.Declare node) env = declaration_adds InBlock env node
 
-abbrev of_item : BlockItem-F StmtTeller (ℕ → StmtTeller) StmtTeller → StmtTeller
+abbrev pub of_item : BlockItem-F StmtTeller (ℕ → StmtTeller) StmtTeller → StmtTeller
 of_item (BlockItem-F.Declare node) = adding (λ env. declaration_adds InBlock env node)
 of_item (BlockItem-F.Stmt inner) = inner
 
 -- the cases inside a switch belong to it
-abbrev without_cases : StmtTeller → StmtTeller
+abbrev pub without_cases : StmtTeller → StmtTeller
 without_cases inner env = only (inner env).additions
 
-abbrev of_form : StmtForm-F StmtTeller (ℕ → StmtTeller) StmtTeller → ℕ → StmtTeller
+abbrev pub of_form : StmtForm-F StmtTeller (ℕ → StmtTeller) StmtTeller → ℕ → StmtTeller
 of_form (StmtForm-F.Label name inner) n = inner
 of_form (StmtForm-F.Case value inner) n = λ env.
     then_told (record { additions = expr_adds value env; cases = record { ordinal = n; value = expr_constant value env } ∷ []; defaults = [] }) (inner (extend env (expr_adds value env)))
@@ -94,7 +92,7 @@ of_form StmtForm-F.Continue n = adding (λ env. nothing)
 of_form StmtForm-F.Break n = adding (λ env. nothing)
 of_form (StmtForm-F.Return e) n = adding (optional_adds e)
 
-abbrev of_stmt : Stmt-F StmtTeller (ℕ → StmtTeller) StmtTeller → StmtTeller
+abbrev pub of_stmt : Stmt-F StmtTeller (ℕ → StmtTeller) StmtTeller → StmtTeller
 of_stmt node = node.form node.ordinal
 
 unfoldable pub statement : Stmt → StmtTeller
@@ -105,20 +103,18 @@ stmt_adds s env = (statement s env).additions
 
 -- ---- a switch
 
--- the value of a case, converted to the promoted type of the switch (C99 6.8.4.2, 5)
-abbrev pub case_value : Option Kind → Option Constant → Option ℤ
-case_value None value = None
-case_value (Some k) None = None
-case_value (Some k) (Some c) = option_map (convert (promoted k)) (known_value c)
+abbrev pub is_some_number : List ℕ → Bool
+is_some_number [] = false
+is_some_number (n ∷ others) = true
 
-abbrev pub found_case : Option Kind → Case → CaseFound
-found_case kind c = record { ordinal = c.ordinal; value = case_value kind c.value }
-
-abbrev kind_in : Option Ty → Option Kind
+abbrev pub kind_in : Option Ty → Option Kind
 kind_in None = None
 kind_in (Some t) = kind_of t
 
--- the cases and defaults of a switch, by its value and its body, each in its environment
-abbrev pub switch_found : Expr → Env → Stmt → Env → Switch
-switch_found e env s inside =
-    let told = statement s inside in record { cases = map (found_case (kind_in (expr_type e env))) told.cases; defaults = told.defaults }
+-- the kind of the value of a switch
+abbrev pub switch_kind : Expr → Env → Option Kind
+switch_kind e env = kind_in (expr_type e env)
+
+-- what stands round the statements behind one
+abbrev pub around_behind : Around → StmtTold → Around
+around_behind around told = behind_cases around (map (λ c. c.value) told.cases) (is_some_number told.defaults)

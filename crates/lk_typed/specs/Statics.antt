@@ -1,6 +1,6 @@
 -- What the initialiser of an object of static storage must be: an integer constant or an address constant, whatever it converts to (C99 6.6, 7 to 9; 6.7.8, 4).
 -- And what a constant must be that a declaration or a `case` asks for (6.6, 6).
-use Rattle.std.specs.Prelude.{ℕ, zero, suc, Bool, true, false, not, ◌||◌, ◌++◌, List, [], ◌∷◌, if◌then◌else◌}
+use Rattle.std.specs.Prelude.{ℕ, zero, suc, Bool, true, false, not, ◌||◌, ◌++◌, List, [], ◌∷◌, nat_lt, if◌then◌else◌}
 use Rattle.lk_base.specs.declared.cell.CellStep.{CellStep}
 use Rattle.lk_base.specs.declared.cell.CellStep.TheVariants.{Index}
 use Rattle.lk_base.specs.declared.code.Code.{Code}
@@ -8,7 +8,7 @@ use Rattle.lk_base.specs.declared.code.Code.TheVariants as code
 use Rattle.lk_typed.specs.declared.constant.Constant.{Constant}
 use Rattle.lk_typed.specs.declared.constant.Constant.TheVariants.{NotConstant, Undefined, Known}
 use Rattle.lk_typed.specs.Typing.{Typing, Address, Position, NotAddress, NullAddress, FunctionAddress, Inside, Nowhere, if_so}
-use Rattle.lk_typed.specs.Addresses.{is_there, value}
+use Rattle.lk_typed.specs.Addresses.{value}
 
 abbrev pub is_known : Constant → Bool
 is_known NotConstant = false
@@ -46,5 +46,5 @@ element_reached steps (suc before) false = record { steps = steps ++ Index befor
 
 abbrev pub reached : Position → Reached
 reached position =
-    if position.is_element then element_reached position.steps position.index (is_there position.index position.count)
-    else record { steps = position.steps; is_past = not (is_there position.index position.count) }
+    if position.is_element then element_reached position.steps position.index (nat_lt position.index position.count)
+    else record { steps = position.steps; is_past = not (nat_lt position.index position.count) }

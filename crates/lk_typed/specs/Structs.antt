@@ -1,5 +1,5 @@
 -- The structs of a source by their numbers (C99 6.7.2.1, 6.7.2.3): their members behind the whole source, their tags, and whether these are declared at file scope.
-use Rattle.std.specs.Prelude.{ℕ, ◌≡◌, Bool, false, Option, Some, None, List, [], ◌∷◌, length, slice_get, nat_eq}
+use Rattle.std.specs.Prelude.{ℕ, ◌≡◌, Bool, false, Option, Some, None, List, [], ◌∷◌, length, slice_get, nat_eq, if◌then◌else◌}
 use Rattle.lk_tree.specs.declared.expression.Declarator.{Declarator}
 use Rattle.lk_tree.specs.declared.expression.DeclaratorForm.{DeclaratorForm}
 use Rattle.lk_tree.specs.declared.expression.DeclaratorForm.TheOpen.{Specifier-F}
@@ -15,10 +15,10 @@ use Rattle.lk_tree.specs.declared.statement.Unit.{Unit}
 use Rattle.lk_types.specs.declared.c_type.CType.{CType}
 use Rattle.lk_types.specs.declared.member.StructMember.{StructMember}
 use Rattle.lk_typed.specs.Declarations.{is_alone}
-use Rattle.lk_typed.specs.Env.{Env, Name, Field, Members, NotYet, Known, extend}
+use Rattle.lk_typed.specs.Env.{Env, Name, Field, Members, NotYet, Known, Tag, extend}
 use Rattle.lk_typed.specs.Expressions.{specifiers_found}
 use Rattle.lk_typed.specs.Nodes.{Node, AnExternal, ADeclaration, ADefinition, AMember, AnItem, AParameter, ATypeName, ADeclarator, AnInitialiser, AStatement, AnExpression}
-use Rattle.lk_typed.specs.Redeclared.{DefinesStruct}
+use Rattle.lk_typed.specs.Redeclared.{DefinesStruct, TagUse, may_use, tag_meant}
 use Rattle.lk_typed.specs.Told.{struct_meant, struct_use, tag_found}
 use Rattle.lk_typed.specs.Ty.{Means}
 use Rattle.lk_typed.specs.Units.{IsNode}
@@ -44,14 +44,18 @@ abbrev new_by : Option ℕ → Option Name → Option (Option Name)
 new_by None tag = Some tag
 new_by (Some s) tag = None
 
+-- a definition that is 21 begins a struct that no tag names, and another such use none
+abbrev begun_by : Env → TagUse → Option Tag → Option Name → Option (Option Name) → Option (Option Name)
+begun_by env wanted found tag refused = if may_use env found wanted then new_by (struct_meant found) tag else refused
+
 -- the tag of the struct that begins at a specifier, where one does; `alone` says that the specifiers are all of a declaration
 abbrev pub struct_begun : Env → Bool → Specifier-F DeclaratorForm ExprForm MemberDeclarator Specifier Declarator Expr Item Member Parameter TypeName → Option (Option Name)
 struct_begun env alone (Specifier-F.Storage word) = None
 struct_begun env alone Specifier-F.Inline = None
 struct_begun env alone (Specifier-F.Qualifier word) = None
 struct_begun env alone (Specifier-F.Type word) = None
-struct_begun env alone (Specifier-F.Struct tag members) = new_by (struct_meant (tag_found env DefinesStruct tag)) tag
-struct_begun env alone (Specifier-F.StructTag tag) = new_by (struct_meant (tag_found env (struct_use alone) (Some tag))) (Some tag)
+struct_begun env alone (Specifier-F.Struct tag members) = begun_by env DefinesStruct (tag_found env DefinesStruct tag) tag (Some None)
+struct_begun env alone (Specifier-F.StructTag tag) = begun_by env (struct_use alone) (tag_meant env (struct_use alone) tag) (Some tag) None
 struct_begun env alone (Specifier-F.Enum tag items) = None
 struct_begun env alone (Specifier-F.EnumTag tag) = None
 struct_begun env alone (Specifier-F.Typedef name) = None

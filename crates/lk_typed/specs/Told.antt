@@ -36,11 +36,22 @@ pub record Named : Type 0 where
   pub spot : Spot
   pub ordinal : ℕ
 
+-- where a declarator stands
+pub record Span : Type 0 where
+  -- the environment where it begins
+  pub env : Env
+  -- that behind all of it
+  pub behind : Env
+  -- whether `[]` may stand in it
+  pub may_be_absent : Bool
+
 pub record DeclaratorTold : Type 0 where
   pub name : Option Named
   pub additions : Env → Additions
-  -- the declared type, given whether `[]` may stand and the type on the left
-  pub type : Env → Bool → Option Ty → Option Ty
+  -- the declared type, given the type on the left; missing where a rule is broken on the way to it
+  pub type : Span → Option Ty → Option Ty
+  -- whether a type that it makes is over a bound
+  pub is_large : Span → Option Ty → Bool
   -- the parameters of the function declarator that stands directly beside the name
   pub parameters : Env → Additions
   -- the same in each environment
@@ -168,12 +179,12 @@ tag_found env wanted (Some name) = tag_meant env wanted name
 abbrev pub type_if_admitted : Env → TagUse → Option Tag → Ty → Option Ty
 type_if_admitted env wanted found t = if may_use env found wanted then Some t else None
 
--- `struct tag` (C99 6.7.2.3, 7 and 8)
+-- `struct tag` (C99 6.7.2.3, 7 and 8); a use that is 21 adds nothing
 abbrev pub struct_named : Env → TagUse → Name → SpecifierTold
 struct_named env wanted name =
     let found = tag_meant env wanted name in
     let s = meant env found (Some name) in
-    of_type_alone s.additions (type_if_admitted env wanted found (Struct s.number))
+    if may_use env found wanted then of_type_alone s.additions (Some (Struct s.number)) else of_type_alone nothing None
 
 abbrev pub struct_use : Bool → TagUse
 struct_use alone = if alone then DeclaresStruct else NamesStruct
@@ -204,24 +215,30 @@ abbrev pub members_in_turn : List MemberTeller → MemberTeller
 members_in_turn [] env before = no_member
 members_in_turn (m ∷ ms) env before = let first = m env before in then_member first (members_in_turn ms (extend env first.additions) (before ++ first.fields))
 
+-- a struct has a named member at least (C99 6.7.2.1, 7): one without counts as faulty
+abbrev pub known_or_faulty : List Field → Members
+known_or_faulty [] = Faulty
+known_or_faulty (field ∷ others) = Known (field ∷ others)
+
 abbrev pub members_made : MemberTold → Members
-members_made told = if told.sound then Known told.fields else Faulty
+members_made told = if told.sound then known_or_faulty told.fields else Faulty
+
+-- the struct that `struct tag {` defines; where that is 21, one that no tag names
+abbrev pub struct_meant_by : Env → Option Name → Meant
+struct_meant_by env tag = let found = tag_found env DefinesStruct tag in if may_use env found DefinesStruct then meant env found tag else known_or_new env None None
 
 -- what stands behind `struct tag {`
 abbrev pub struct_begins : Env → Option Name → Additions
-struct_begins env tag =
-    let s = meant env (tag_found env DefinesStruct tag) tag in
-    both s.additions (steps (Completes s.number Begun ∷ []))
+struct_begins env tag = let s = struct_meant_by env tag in both s.additions (steps (Completes s.number Begun ∷ []))
 
 -- `struct tag { members }`: the struct begins, its members stand in it, and it is complete behind them (C99 6.7.2.3, 4)
 abbrev pub struct_defined : Env → Option Name → List MemberTeller → SpecifierTold
 struct_defined env tag ms =
-    let found = tag_found env DefinesStruct tag in
-    let s = meant env found tag in
+    let s = struct_meant_by env tag in
     let start = struct_begins env tag in
     let inside = members_in_turn ms (extend env start) [] in
     let whole = both start (both inside.additions (steps (Completes s.number (members_made inside) ∷ []))) in
-    record (of_type_alone whole (type_if_admitted env DefinesStruct found (Struct s.number))) { holds_sizeof = inside.holds_sizeof }
+    record (of_type_alone whole (type_if_admitted env DefinesStruct (tag_found env DefinesStruct tag) (Struct s.number))) { holds_sizeof = inside.holds_sizeof }
 
 -- ---- enumerations (C99 6.7.2.2)
 
@@ -242,9 +259,13 @@ items_hold_sizeof (i ∷ is) env before = let first = i env before in first.hold
 abbrev pub before_first : Option ℤ
 before_first = Some (neg_ℤ (pos 1))
 
+-- the tag of an enumeration, which a use that is 21 doesn't change
+abbrev pub enum_tag : Env → Option Name → Additions
+enum_tag env tag = if may_use env (tag_found env DefinesEnum tag) DefinesEnum then tag_additions tag AnEnumTag else nothing
+
 abbrev pub enum_defined : Env → Option Name → List ItemTeller → SpecifierTold
 enum_defined env tag is =
-    let told = of_type_alone (both (items_in_turn is env before_first) (tag_additions tag AnEnumTag)) (type_if_admitted env DefinesEnum (tag_found env DefinesEnum tag) int) in
+    let told = of_type_alone (both (items_in_turn is env before_first) (enum_tag env tag)) (type_if_admitted env DefinesEnum (tag_found env DefinesEnum tag) int) in
     record told { holds_sizeof = items_hold_sizeof is env before_first }
 
 -- the value, where int holds it

@@ -18,7 +18,9 @@ use Rattle.lk_typed.specs.Addresses.{value}
 use Rattle.lk_typed.specs.Nodes.{Placed, ADeclaration, AStatement, AnExpression, at}
 use Rattle.lk_typed.specs.Operands.{promoted_type}
 use Rattle.lk_typed.specs.Parts.{statement_parts}
-use Rattle.lk_typed.specs.StatementRules.{Around, CaseFound, Switch}
+use Rattle.lk_base.specs.declared.kind.Kind.{Kind}
+use Rattle.lk_typed.specs.StatementRules.{Around, case_value}
+use Rattle.lk_typed.specs.Statements.{Case, StmtTold, statement as statement_found, switch_kind}
 use Rattle.lk_typed.specs.Tables.{Tables}
 use Rattle.lk_typed.specs.Ty.{Ty}
 use Rattle.lk_typed.specs.Typing.{Typing}
@@ -42,12 +44,12 @@ pub record MakesStmt (s : Stmt) (form : TypedStmtForm-F TypedItem TypedStmtForm 
   pub ordinal : t.ordinal ≡ s.ordinal
   pub made : out-TypedStmtForm t.form ≡ form
 
--- ---- a switch (C99 6.8.4.2, 5): the values of its cases have the promoted type of its value
+-- ---- a switch (C99 6.8.4.2, 5): the values of its cases have the promoted type of its value, which is of this kind
 
-pub data AreCases : List CaseFound → List SwitchCase → Type 0 where
-  no_more : AreCases [] []
-  next : {found : CaseFound} {others : List CaseFound} {z : ℤ} {is : SwitchCase} {rest : List SwitchCase} → found.value ≡ Some z → is.value ≡ z → is.ordinal ≡ found.ordinal →
-      AreCases others rest → AreCases (found ∷ others) (is ∷ rest)
+pub data AreCases (kind : Option Kind) : List Case → List SwitchCase → Type 0 where
+  no_more : AreCases kind [] []
+  next : {found : Case} {others : List Case} {z : ℤ} {is : SwitchCase} {rest : List SwitchCase} → case_value kind found.value ≡ Some z → is.value ≡ z → is.ordinal ≡ found.ordinal →
+      AreCases kind others rest → AreCases kind (found ∷ others) (is ∷ rest)
 
 -- it has one default at most (C99 6.8.4.2, 3)
 pub data IsDefault : List ℕ → Option ℕ → Type 0 where
@@ -84,10 +86,10 @@ module _ (tables : Tables) where
       if_ : {env env' behind : Env} {around inside : Around} {s inner : Stmt} {e : Expr} {other : Option Stmt} {rest : List Placed} {c : TypedExpr} {a t : TypedStmt} {b : Option TypedStmt} →
           out-StmtForm s.form ≡ StmtForm-F.If e inner other → parts_in env around s ≡ at env' (AnExpression e) ∷ at behind (AStatement inside inner) ∷ rest →
           IsValue tables false (env', e) c → IsStmt behind inside inner a → IsElse other rest b → MakesStmt s (TypedStmtForm-F.If c a b) t → IsStmt env around s t
-      switch : {env env' behind : Env} {around inside : Around} {s inner : Stmt} {e : Expr} {typing : Typing} {found : Switch} {cases : List SwitchCase} {default : Option ℕ} {v : TypedExpr} {a t : TypedStmt} →
+      switch : {env env' behind : Env} {around inside : Around} {s inner : Stmt} {e : Expr} {typing : Typing} {found : StmtTold} {cases : List SwitchCase} {default : Option ℕ} {v : TypedExpr} {a t : TypedStmt} →
           out-StmtForm s.form ≡ StmtForm-F.Switch e inner → parts_in env around s ≡ at env' (AnExpression e) ∷ at behind (AStatement inside inner) ∷ [] →
-          typing_at (env', e) ≡ Some typing → IsConverted tables false (env', e) (promoted_type (value typing).type) v → inside.switch ≡ Some found →
-          AreCases found.cases cases → IsDefault found.defaults default → IsStmt behind inside inner a → MakesStmt s (TypedStmtForm-F.Switch v cases default a) t → IsStmt env around s t
+          typing_at (env', e) ≡ Some typing → IsConverted tables false (env', e) (promoted_type (value typing).type) v → statement_found inner behind ≡ found →
+          AreCases (switch_kind e env') found.cases cases → IsDefault found.defaults default → IsStmt behind inside inner a → MakesStmt s (TypedStmtForm-F.Switch v cases default a) t → IsStmt env around s t
       -- loops (C99 6.8.5)
       while : {env env' behind : Env} {around inside : Around} {s inner : Stmt} {e : Expr} {c : TypedExpr} {a t : TypedStmt} → out-StmtForm s.form ≡ StmtForm-F.While e inner →
           parts_in env around s ≡ at env' (AnExpression e) ∷ at behind (AStatement inside inner) ∷ [] →

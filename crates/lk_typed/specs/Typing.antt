@@ -27,8 +27,8 @@ pub record Position : Type 0 where
   pub steps : List CellStep
   pub is_element : Bool
   pub index : ℕ
-  -- how many elements the array has; None: no size is known
-  pub count : Option ℕ
+  -- how many elements the array has; the most that an array may have where its size isn't known
+  pub count : ℕ
 
 -- what an address constant points to, or where a place of static storage is (C99 6.6, 9)
 pub data Address : Type 0 where

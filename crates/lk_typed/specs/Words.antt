@@ -107,7 +107,7 @@ function_named t n = record { type = t; is_place = false; constant = NotConstant
 
 -- what has static storage is alone in its array (C99 6.5.6, 7)
 abbrev pub whole_of : Anchor → Address
-whole_of anchor = Inside (record { anchor = anchor; steps = []; is_element = false; index = 0; count = Some 1 })
+whole_of anchor = Inside (record { anchor = anchor; steps = []; is_element = false; index = 0; count = 1 })
 
 abbrev pub address_of_storage : Bool → ℕ → Address
 address_of_storage is_static n = if is_static then whole_of (AtObject n) else NotAddress

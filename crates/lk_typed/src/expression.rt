@@ -53,10 +53,8 @@ pub enum Change {
 #[cycle(typed)]
 #[derive(Drop)]
 pub enum TypedForm {
-    /// An object that is no slot.
+    /// An object; a local among them may be a slot, which its body says.
     Object(Storage),
-    /// The local with this number, whose address nothing takes.
-    Slot(u32),
     /// A string literal, by its bytes without the zero at its end.
     Text(Seq<u8>),
     /// `place.member`, by the member's number.

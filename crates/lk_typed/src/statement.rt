@@ -57,14 +57,15 @@ pub enum TypedStmtForm {
     Return(Option<TypedExpr>),
 }
 
-/// A local whose declaration gives it a value.
+/// A local whose declaration gives it a value. A slot has one part, with the empty path.
 #[derive(Drop)]
-pub enum LocalInit {
-    /// The slot with this number among the body's locals, and its value.
-    Slot(u32, TypedExpr),
-    /// The object with this number among the body's locals, the parts that its initialiser names, and the cells that it
-    /// doesn't name, in the order of their paths.
-    Object(u32, Seq<LocalPart>, Seq<AbsentCells>),
+pub struct LocalInit {
+    /// The number of the local among those of its body.
+    pub local: u32,
+    /// The parts that its initialiser names, in the order of the text.
+    pub named: Seq<LocalPart>,
+    /// The cells that it doesn't name, in the order of their paths.
+    pub absent: Seq<AbsentCells>,
 }
 
 /// An item of a block.
