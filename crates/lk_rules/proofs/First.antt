@@ -1,11 +1,10 @@
--- The fold that keeps the least fault so far ends at a first one.
-use Rattle.std.proofs.Common.{◌≡◌, ◌∙◌, ◌<◌, ◌⊎◌, ℕ, Bool, true, false, List, [], ◌∷◌, Some, nat_lt, refl, sym, ap, subst, arith, inl, inr}
-use Rattle.std.specs.Prelude.{if◌then◌else◌, MatchOption}
+-- The order of faults and its test.
+use Rattle.std.proofs.Common.{◌≡◌, ◌∙◌, ◌<◌, ◌⊎◌, ℕ, Bool, true, false, nat_lt, refl, sym, ap, arith, inl, inr}
 use Rattle.std.proofs.lemmas.Bool.{false≢true}
-use Rattle.lk_typed.specs.Faults.{Fault, IsBefore, IsLeast}
-use Rattle.lk_typed.specs.Stands.{IsIn}
-use Rattle.lk_rules.specs.FirstFaults.{less_or, comes_before, lesser_fault, least_of}
-use Rattle.lk_rules.specs.Laws.{LeastIsFirst, LeastOfBoth}
+use Rattle.lk_base.specs.Code.{number_of}
+use Rattle.lk_base.specs.declared.spot.Spot.{Spot}
+use Rattle.lk_typed.specs.Faults.{Fault, IsBefore}
+use Rattle.lk_rules.specs.FirstFaults.{less_or, comes_before}
 
 -- ---- one step of the test
 
@@ -49,17 +48,17 @@ last_less a b less = grind arith
 
 -- ---- the test
 
-not_itself : (f : Fault) → comes_before f f ≡ false
+pub not_itself : (f : Fault) → comes_before f f ≡ false
 not_itself f = not_self _ _ (not_self _ _ (not_self _ _ (not_self _ _ (last_self f.ordinal))))
 
-not_before : (f g h : Fault) → comes_before f g ≡ false → comes_before g h ≡ false → comes_before f h ≡ false
+pub not_before : (f g h : Fault) → comes_before f g ≡ false → comes_before g h ≡ false → comes_before f h ≡ false
 not_before f g h = not_again _ _ _ _ _ _ (not_again _ _ _ _ _ _ (not_again _ _ _ _ _ _ (not_again _ _ _ _ _ _ (last_again f.ordinal g.ordinal h.ordinal))))
 
-not_behind : (f g : Fault) → comes_before f g ≡ true → comes_before g f ≡ false
+pub not_behind : (f g : Fault) → comes_before f g ≡ true → comes_before g f ≡ false
 not_behind f g = not_turned _ _ _ _ (not_turned _ _ _ _ (not_turned _ _ _ _ (not_turned _ _ _ _ (last_turned f.ordinal g.ordinal))))
 
 -- it tells each fault that is before another
-tells : (f g : Fault) → IsBefore f g → comes_before f g ≡ true
+pub tells : (f g : Fault) → IsBefore f g → comes_before f g ≡ true
 tells f g (inl (inl p)) = less_first _ _ _ p
 tells f g (inl (inr (inl p))) = less_next _ _ _ p.0 (less_first _ _ _ p.1)
 tells f g (inl (inr (inr p))) = less_next _ _ _ p.0 (less_next _ _ _ p.1 (less_first _ _ _ p.2))
@@ -69,53 +68,67 @@ tells f g (inr (inr p)) =
     less_next _ _ _ (ap (λ s. s.file) p.0) (less_next _ _ _ (ap (λ s. s.line) p.0) (less_next _ _ _ (ap (λ s. s.col) p.0)
     (less_next _ _ _ p.1 (last_less f.ordinal g.ordinal p.2))))
 
--- ---- the lesser of two, and the least of a list
+-- ---- what the test tells
 
-record Chosen (f g h : Fault) : Type 0 where
-  is_one : (h ≡ f) ⊎ (h ≡ g)
-  not_first : comes_before f h ≡ false
-  not_second : comes_before g h ≡ false
+is_less : (a b : ℕ) → nat_lt a b ≡ true → a < b
+is_less a b is = grind arith
 
-chosen : (f g : Fault) (before : Bool) → comes_before f g ≡ before → Chosen f g (if before then f else g)
-chosen f g true is = record { is_one = inl refl; not_first = not_itself f; not_second = not_behind f g is }
-chosen f g false is = record { is_one = inr refl; not_first = is; not_second = not_itself g }
+are_equal : (a b : ℕ) (rest : Bool) → nat_lt a b ≡ false → less_or a b rest ≡ true → a ≡ b
+unfolding less_or
+are_equal a b true is h = grind arith
+are_equal a b false is h = grind arith
 
--- a first one of a fault and a list
-record First (g : Fault) (fs : List Fault) : Type 0 where
-  it : Fault
-  found : least_of (Some g) fs ≡ Some it
-  is_in : IsIn it (g ∷ fs)
-  first : (x : Fault) → IsIn x (g ∷ fs) → comes_before x it ≡ false
+goes_on : (a b : ℕ) (rest : Bool) → nat_lt a b ≡ false → less_or a b rest ≡ true → rest ≡ true
+unfolding less_or
+goes_on a b true is h = refl
+goes_on a b false is h = grind arith
 
-one_of : (f g h m : Fault) (fs : List Fault) → (h ≡ f) ⊎ (h ≡ g) → IsIn m (h ∷ fs) → IsIn m (g ∷ f ∷ fs)
-one_of f g h m fs (inl e) (inl i) = inr (inl (subst (λ y. m ≡ y) e i))
-one_of f g h m fs (inr e) (inl i) = inl (subst (λ y. m ≡ y) e i)
-one_of f g h m fs e (inr i) = inr (inr i)
-
-none_before : (f g h m : Fault) (fs : List Fault) → Chosen f g h → ((x : Fault) → IsIn x (h ∷ fs) → comes_before x m ≡ false) → (x : Fault) → IsIn x (g ∷ f ∷ fs) → comes_before x m ≡ false
-none_before f g h m fs c inner x (inl e) = subst (λ y. comes_before y m ≡ false) (sym e) (not_before g h m c.not_second (inner h (inl refl)))
-none_before f g h m fs c inner x (inr (inl e)) = subst (λ y. comes_before y m ≡ false) (sym e) (not_before f h m c.not_first (inner h (inl refl)))
-none_before f g h m fs c inner x (inr (inr i)) = inner x (inr i)
-
-first_of_all : (g : Fault) (fs : List Fault) → First g fs
-first_of_all g [] = record { it = g; found = refl; is_in = inl refl; first = alone g }
+told_or : (a b : ℕ) (rest : Bool) → less_or a b rest ≡ true → (a < b) ⊎ ((a ≡ b) × (rest ≡ true))
+told_or a b rest h = by_less (nat_lt a b) refl
   where
-    alone : (g x : Fault) → IsIn x (g ∷ []) → comes_before x g ≡ false
-    alone g x (inl e) = subst (λ y. comes_before y g ≡ false) (sym e) (not_itself g)
-    alone g x (inr i) = absurd i
-first_of_all g (f ∷ fs) =
-    let c = chosen f g (comes_before f g) refl in
-    let h = if comes_before f g then f else g in
-    let inner = first_of_all h fs in
-    record { it = inner.it; found = inner.found; is_in = one_of f g h inner.it fs c.is_one inner.is_in; first = none_before f g h inner.it fs c inner.first }
+    by_less : (less : Bool) → nat_lt a b ≡ less → (a < b) ⊎ ((a ≡ b) × (rest ≡ true))
+    by_less true is = inl (is_less a b is)
+    by_less false is = inr (are_equal a b rest is h, goes_on a b rest is h)
 
-pub least_is_first : LeastIsFirst
-least_is_first [] = refl
-least_is_first (f ∷ fs) =
-    let m = first_of_all f fs in
-    let least : IsLeast (λ g. IsIn g (f ∷ fs)) m.it = record { holds = m.is_in; first = λ g i before. false≢true (sym (m.first g i) ∙ tells g m.it before) } in
-    subst (λ o. MatchOption o (f ∷ fs ≡ []) (λ m. IsLeast (λ g. IsIn g (f ∷ fs)) m)) (sym m.found) least
+same_spot : (a b : Spot) → a.file ≡ b.file → a.line ≡ b.line → a.col ≡ b.col → a ≡ b
+same_spot a b file line col =
+    ap (λ n. record a { file = n }) file ∙ ap (λ n. record { file = b.file; line = n; col = a.col }) line ∙ ap (λ n. record { file = b.file; line = b.line; col = n }) col
 
-pub least_of_both : LeastOfBoth
-least_of_both least [] gs = refl
-least_of_both least (f ∷ fs) gs = least_of_both (lesser_fault least f) fs gs
+pub is_before : (f g : Fault) → comes_before f g ≡ true → IsBefore f g
+is_before f g h = by_file (told_or f.spot.file g.spot.file _ h)
+  where
+    by_number : f.spot ≡ g.spot → (number_of f.breach.code < number_of g.breach.code) ⊎ ((number_of f.breach.code ≡ number_of g.breach.code) × (nat_lt f.ordinal g.ordinal ≡ true)) → IsBefore f g
+    by_number same (inl less) = inr (inl (same, less))
+    by_number same (inr both) = inr (inr (same, both.0, is_less f.ordinal g.ordinal both.1))
+
+    by_column : f.spot.file ≡ g.spot.file → f.spot.line ≡ g.spot.line →
+        (f.spot.col < g.spot.col) ⊎ ((f.spot.col ≡ g.spot.col) × (less_or (number_of f.breach.code) (number_of g.breach.code) (nat_lt f.ordinal g.ordinal) ≡ true)) → IsBefore f g
+    by_column file line (inl less) = inl (inr (inr (file, line, less)))
+    by_column file line (inr both) = by_number (same_spot f.spot g.spot file line both.0) (told_or _ _ _ both.1)
+
+    by_line : f.spot.file ≡ g.spot.file →
+        (f.spot.line < g.spot.line) ⊎
+        ((f.spot.line ≡ g.spot.line) × (less_or f.spot.col g.spot.col (less_or (number_of f.breach.code) (number_of g.breach.code) (nat_lt f.ordinal g.ordinal)) ≡ true)) → IsBefore f g
+    by_line file (inl less) = inl (inr (inl (file, less)))
+    by_line file (inr both) = by_column file both.0 (told_or _ _ _ both.1)
+
+    by_file : (f.spot.file < g.spot.file) ⊎
+        ((f.spot.file ≡ g.spot.file) ×
+        (less_or f.spot.line g.spot.line (less_or f.spot.col g.spot.col (less_or (number_of f.breach.code) (number_of g.breach.code) (nat_lt f.ordinal g.ordinal))) ≡ true)) → IsBefore f g
+    by_file (inl less) = inl (inl less)
+    by_file (inr both) = by_line both.0 (told_or _ _ _ both.1)
+
+-- ---- what isn't before
+
+pub isnt_itself : (f : Fault) → IsBefore f f → ⊥
+isnt_itself f before = false≢true (sym (not_itself f) ∙ tells f f before)
+
+isnt_told : (f g : Fault) → (IsBefore f g → ⊥) → comes_before f g ≡ false
+isnt_told f g never = by_test (comes_before f g) refl
+  where
+    by_test : (b : Bool) → comes_before f g ≡ b → comes_before f g ≡ false
+    by_test true is = absurd (never (is_before f g is))
+    by_test false is = is
+
+pub isnt_again : (f g h : Fault) → (IsBefore f g → ⊥) → (IsBefore g h → ⊥) → IsBefore f h → ⊥
+isnt_again f g h first second before = false≢true (sym (not_before f g h (isnt_told f g first) (isnt_told g h second)) ∙ tells f h before)

@@ -24,7 +24,7 @@ use Rattle.lk_typed.specs.Typing.{Judged, Named, typing_of}
 use Rattle.lk_rules.specs.Laws.{ExpressionsFollowTheirRules, name_found}
 
 -- a layer of a tree
-abbrev Layer : Type 0
+abbrev pub Layer : Type 0
 Layer = ExprForm-F DeclaratorForm ExprForm MemberDeclarator Specifier Declarator Expr Item Member Parameter TypeName
 
 -- what an expression tells, asked for what is found of it
@@ -40,13 +40,13 @@ arguments_same judge env (pass ∷ passes) (a ∷ others) =
     ap (λ found. judge a (as_passed pass env) ∷ found) (arguments_same judge (behind env (judge a (as_passed pass env))) passes others)
 
 -- the steps of the fold for expressions and their forms
-abbrev DeclaratorFormTeller : Type 0
+abbrev pub DeclaratorFormTeller : Type 0
 DeclaratorFormTeller = Placed DeclaratorLayer
 
-abbrev in_expr : ExprForm-F DeclaratorFormTeller FormTeller MemberDeclaratorTeller SpecifierTeller DeclaratorLayer ExprTeller ItemTeller MemberTeller ParameterTeller TypeNameTeller → FormTeller
+abbrev pub in_expr : ExprForm-F DeclaratorFormTeller FormTeller MemberDeclaratorTeller SpecifierTeller DeclaratorLayer ExprTeller ItemTeller MemberTeller ParameterTeller TypeNameTeller → FormTeller
 in_expr form n env = judged asked named env n form
 
-abbrev of_expr : Expr-F DeclaratorFormTeller FormTeller MemberDeclaratorTeller SpecifierTeller DeclaratorLayer ExprTeller ItemTeller MemberTeller ParameterTeller TypeNameTeller → ExprTeller
+abbrev pub of_expr : Expr-F DeclaratorFormTeller FormTeller MemberDeclaratorTeller SpecifierTeller DeclaratorLayer ExprTeller ItemTeller MemberTeller ParameterTeller TypeNameTeller → ExprTeller
 of_expr node = node.form node.ordinal
 
 -- what is found of a call, by what was found of its parts

@@ -1,4 +1,7 @@
 pub mod Asked
 pub mod First
 pub mod Found
-pub mod Listed
+pub mod Kept
+pub mod Layered
+pub mod Parts
+pub mod Roles

@@ -1,5 +1,5 @@
--- The first of the faults of a list, as a fold that keeps the least so far.
-use Rattle.std.specs.Prelude.{ℕ, Bool, ◌&&◌, ◌||◌, Option, Some, None, List, [], ◌∷◌, nat_lt, nat_eq, if◌then◌else◌}
+-- The order of faults as a test, and the lesser one of two.
+use Rattle.std.specs.Prelude.{ℕ, Bool, ◌&&◌, ◌||◌, Option, Some, None, nat_lt, nat_eq, if◌then◌else◌}
 use Rattle.lk_base.specs.Code.{number_of}
 use Rattle.lk_typed.specs.Faults.{Fault}
 
@@ -19,7 +19,3 @@ comes_before f g =
 abbrev pub lesser_fault : Option Fault → Fault → Option Fault
 lesser_fault None f = Some f
 lesser_fault (Some g) f = Some (if comes_before f g then f else g)
-
-abbrev pub least_of : Option Fault → List Fault → Option Fault
-least_of least [] = least
-least_of least (f ∷ fs) = least_of (lesser_fault least f) fs

@@ -1,3 +1,5 @@
-pub mod FaultLists
 pub mod FirstFaults
+pub mod Keeping
 pub mod Laws
+pub mod LayerLaws
+pub mod NodeLaws

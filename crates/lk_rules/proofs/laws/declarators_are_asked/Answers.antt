@@ -1,0 +1,5 @@
+use Rattle.lk_rules.proofs.Parts as lemma
+use Rattle.lk_rules.proofs.laws.declarators_are_asked.Goals as goal
+
+pub returns : goal.returns
+returns c = lemma.declarators_are_asked

@@ -1,0 +1,5 @@
+use Rattle.lk_rules.proofs.Layered as lemma
+use Rattle.lk_rules.proofs.laws.members_follow_their_parts.Goals as goal
+
+pub returns : goal.returns
+returns c = lemma.members_follow_their_parts
