@@ -2,7 +2,7 @@
 ghost use Rattle.lk_typed.specs.Names.{IsKnownMeaning};
 
 use lk_base::{Kind, Name, NameFault, NoMemory};
-use lk_names::{Names, TagUse, struct_meant, type_of_words, typedef_of};
+use lk_names::{Names, TagUse, named_type, struct_meant, type_of_words, typedef_of};
 use lk_tree::TypeWord;
 use lk_typed::{Declared, Defines, Duration, Linkage, Meaning, Members, Tag, TagMeaning};
 use lk_types::{TypeId, TypeTable};
@@ -133,6 +133,38 @@ fn tags_hide_as_they_should(alloc: Global) -> Result<bool, NoMemory> {
 fn a_tag_hides_those_outside(rt: HostRuntime) -> Result<(), Fail> {
     let hide = tags_hide_as_they_should(rt.alloc())?;
     assert!(rt; hide);
+    Ok(())
+}
+
+/// What is seen of the object `x` behind a block that declares it as a tag too, and of both in another one, in which that is
+/// declared again.
+fn seen_again(alloc: Global, names: &mut Names, x: &Name) -> Result<(u32, u32, u32), NoMemory> {
+    let mark = names.enter();
+    declare(alloc, names, 2)?;
+    put_struct(alloc, names)?;
+    let scope = names.leave_with(alloc, mark)?;
+    let behind = seen(names, x);
+    let mark = names.enter();
+    names.declare_again(scope)?;
+    let again = seen_here(names, x);
+    let tag = struct_used(names, TagUse::DeclaresStruct, x);
+    names.leave(mark);
+    Ok((behind, again, tag))
+}
+
+/// Whether the names of a block are gone behind it, and are there in the one in which they are declared again.
+fn is_declared_again(alloc: Global) -> Result<bool, NoMemory> {
+    let x = name(alloc, "x")?;
+    let mut names = Names::new(alloc);
+    declare(alloc, &mut names, 1)?;
+    let again = seen_again(alloc, &mut names, &x)?;
+    Ok(again == (1, 2, 0) && seen(&names, &x) == 1)
+}
+
+#[test]
+fn a_block_declares_what_another_did(rt: HostRuntime) -> Result<(), Fail> {
+    let again = is_declared_again(rt.alloc())?;
+    assert!(rt; again);
     Ok(())
 }
 
@@ -312,6 +344,25 @@ fn words_name_types_in_any_order(rt: HostRuntime) -> Result<(), Fail> {
     for (words, kind) in WORDS {
         assert!(rt; is_named(words, *kind));
     }
+    Ok(())
+}
+
+/// Whether words and other types name this type together, if any; a type that is missing is a faulty one.
+fn is_named_with(words: &[TypeWord], types: &[Option<TypeId>], wanted: Option<TypeId>) -> bool {
+    match named_type(words, types) {
+        Some(named) => named == wanted,
+        None => false,
+    }
+}
+
+#[test]
+fn words_and_types_name_one_type(rt: HostRuntime) -> Result<(), Fail> {
+    assert!(rt; is_named_with(&[TypeWord::Int], &[], Some(TypeId::INT)));
+    assert!(rt; is_named_with(&[], &[Some(TypeId::MUTEX)], Some(TypeId::MUTEX)));
+    assert!(rt; is_named_with(&[], &[None], None));
+    assert!(rt; named_type(&[TypeWord::Int], &[Some(TypeId::MUTEX)]).is_none());
+    assert!(rt; named_type(&[], &[Some(TypeId::INT), Some(TypeId::INT)]).is_none());
+    assert!(rt; named_type(&[], &[]).is_none());
     Ok(())
 }
 

@@ -2,7 +2,7 @@
 use Rattle.std.proofs.Common.{◌≡◌, ◌∙◌, ℕ, zero, suc, Bool, true, false, Option, Some, None, List, [], ◌∷◌, ◌++◌, map, length, take, drop, if◌then◌else◌, refl, sym, ap, All}
 use Rattle.std.specs.List.{slice_set}
 use Rattle.std.specs.Option.{option_map}
-use Rattle.std.proofs.Math.Seq.{take-append_seam}
+use Rattle.std.proofs.Math.Seq.{drop-append_seam, take-append_seam}
 use Rattle.std.proofs.lemmas.List.{map-append, map-set, append-nil, take-map, length-map}
 use Rattle.std.proofs.lemmas.List.Elements.{All-head, All-tail}
 use Rattle.lk_types.specs.Building.{IsTable, IsLonger}
@@ -20,7 +20,7 @@ use Rattle.lk_typed.specs.declared.names.Meaning.{Meaning}
 use Rattle.lk_typed.specs.declared.names.Meaning.TheVariants.{Object, Function, Typedef, Enumerator, InitialiserWord, Faulty}
 use Rattle.lk_typed.specs.declared.names.Tag.{Tag}
 use Rattle.lk_typed.proofs.Meanings.{meaning_stays}
-use Rattle.lk_names.specs.Growing.{Leaves, IsMarkOf, left, name_added, tag_added}
+use Rattle.lk_names.specs.Growing.{GivesBack, InLeftScope, IsKnownLeft, IsMarkOf, Leaves, in_innermost, left, name_added, scope_added, tag_added}
 use Rattle.lk_names.specs.InScope.{InScope, IsKnownScope, env_in}
 use Rattle.lk_names.specs.declared.names.Mark.{Mark}
 
@@ -106,6 +106,23 @@ behind_is mark before added h =
 pub scope_goes : (mark : Mark) (old : InScope) → Leaves mark old (left mark old)
 scope_goes mark old table rest before added is_mark is = left_is table rest mark old ∙ ap (behind mark) is ∙ behind_is mark before added is_mark
 
+abbrev named : List env.Declared → List env.Tag → Additions
+named ds ts = record { declared = ds; tags = ts; structs = [] }
+
+-- what stands in the innermost scope of an environment
+innermost : Env → Additions
+innermost x = record { declared = drop x.base x.declared; tags = drop x.tag_base x.tags; structs = [] }
+
+without_structs : {ds es : List env.Declared} {ts us : List env.Tag} → ds ≡ es → ts ≡ us → named ds ts ≡ named es us
+unfolding innermost
+without_structs p q = cc
+
+pub scope_given_back : (old : InScope) → GivesBack old (in_innermost old)
+unfolding innermost
+scope_given_back old table rest before added is =
+    without_structs (sym (drop_map (declared_in table) old.base old.declared)) (sym (drop_map tag_in old.tag_base old.tags)) ∙ ap innermost is ∙
+    without_structs (drop-append_seam before.declared added.declared) (drop-append_seam before.tags added.tags)
+
 -- ---- growing tables
 
 map_same : {A B : Type 0} (P : A → Type 0) (f g : A → B) → ((a : A) → P a → f a ≡ g a) → (xs : List A) → All P xs → map f xs ≡ map g xs
@@ -140,3 +157,6 @@ module _ (old new : Table) (good : IsTable old) (longer : IsLonger old new) wher
   environment_stays scope known rest =
       made_same rest (map_same (IsKnownName old) (declared_in new) (declared_in old) declared_same scope.declared known.names) refl refl refl
       (map_same (HasKnownFields old) (members_in new) (members_in old) members_same scope.structs known.members)
+
+  pub left_scope_stays : (count : ℕ) (scope : InLeftScope) → IsKnownLeft old count scope → scope_added new scope ≡ scope_added old scope
+  left_scope_stays count scope known = without_structs (map_same (IsKnownName old) (declared_in new) (declared_in old) declared_same scope.declared known.names) refl

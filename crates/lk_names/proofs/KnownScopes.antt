@@ -1,5 +1,5 @@
 -- What is known of what is in scope, before and behind each change.
-use Rattle.std.proofs.Common.{◌≡◌, ◌<◌, ℕ, Bool, true, false, Option, Some, None, List, [], ◌∷◌, ◌++◌, length, drop, if◌then◌else◌, arith, All, IfSome}
+use Rattle.std.proofs.Common.{◌≡◌, ◌<◌, ◌≤◌, ℕ, Bool, true, false, Option, Some, None, List, [], ◌∷◌, ◌++◌, length, drop, if◌then◌else◌, arith, All, IfSome}
 use Rattle.std.specs.List.{slice_set}
 use Rattle.std.proofs.lemmas.List.{length-append, length-set}
 use Rattle.std.proofs.lemmas.List.Elements.{All-head, All-tail, All-drop, All-push, All-set, All-take, All-weaker}
@@ -16,7 +16,7 @@ use Rattle.lk_typed.specs.declared.names.Meaning.TheVariants.{Object, Function, 
 use Rattle.lk_typed.specs.declared.names.Tag.{Tag}
 use Rattle.lk_typed.specs.declared.names.TagMeaning.{TagMeaning}
 use Rattle.lk_typed.specs.declared.names.TagMeaning.TheVariants as tag
-use Rattle.lk_names.specs.Growing.{left}
+use Rattle.lk_names.specs.Growing.{InLeftScope, IsKnownLeft, in_innermost, left}
 use Rattle.lk_names.specs.InScope.{InScope, IsKnownScope, HasStruct}
 use Rattle.lk_names.specs.declared.names.Mark.{Mark}
 
@@ -39,7 +39,7 @@ found_known_here P test xs all base found is = rw is (latest_all P test (drop ba
 
 -- ---- what comes and goes
 
-has_more : (few many : ℕ) → few < many → (m : TagMeaning) → HasStruct few m → HasStruct many m
+has_more : (few many : ℕ) → few ≤ many → (m : TagMeaning) → HasStruct few m → HasStruct many m
 has_more few many less (tag.Struct s) h = omega (arith, h, less)
 has_more few many less tag.Enum h = tt
 has_more few many less tag.Faulty h = tt
@@ -80,6 +80,12 @@ module _ (table : Table) (old : InScope) (known : IsKnownScope table old) where
     members = known.members;
   }
 
+  pub innermost_known : IsKnownLeft table (length old.structs) (in_innermost old)
+  innermost_known = record {
+    names = All-drop (IsKnownName table) old.base old.declared known.names;
+    tags = All-drop (λ t. HasStruct (length old.structs) t.meaning) old.tag_base old.tags known.tags;
+  }
+
 -- ---- growing tables
 
 module _ (old new : Table) (longer : IsLonger old new) where
@@ -105,4 +111,10 @@ module _ (old new : Table) (longer : IsLonger old new) where
     names = λ k d h. meaning_known _ (known.names k d h);
     tags = known.tags;
     members = λ k d h. fields_known _ (known.members k d h);
+  }
+
+  pub known_left_stays : (few many : ℕ) → few ≤ many → (scope : InLeftScope) → IsKnownLeft old few scope → IsKnownLeft new many scope
+  known_left_stays few many more scope known = record {
+    names = λ k d h. meaning_known _ (known.names k d h);
+    tags = All-weaker (λ t. HasStruct few t.meaning) (λ t. HasStruct many t.meaning) (λ t h. has_more few many more t.meaning h) scope.tags known.tags;
   }

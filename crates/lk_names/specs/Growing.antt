@@ -1,8 +1,11 @@
 -- How what is in scope changes, in the words of the rules.
-use Rattle.std.specs.Prelude.{◌≡◌, [], ◌∷◌, take}
+use Rattle.std.specs.Prelude.{ℕ, ◌≡◌, List, [], ◌∷◌, All, drop, map, take}
 use Rattle.lk_types.specs.Table.{Table}
 use Rattle.lk_typed.specs.Env.{Env, Additions, Declared, Tag, enter, extend, past_scope}
-use Rattle.lk_names.specs.InScope.{InScope, env_in}
+use Rattle.lk_typed.specs.Names.{declared_in, tag_in, IsKnownName}
+use Rattle.lk_typed.specs.declared.names.Declared.{Declared as Name}
+use Rattle.lk_typed.specs.declared.names.Tag.{Tag as NamedTag}
+use Rattle.lk_names.specs.InScope.{HasStruct, InScope, env_in}
 use Rattle.lk_names.specs.declared.names.Mark.{Mark}
 
 -- the additions of one name
@@ -35,3 +38,27 @@ left mark scope =
 abbrev pub Leaves : Mark → InScope → InScope → Type 0
 Leaves mark old new = (table : Table) (rest before : Env) (added : Additions) → IsMarkOf mark before →
     env_in table rest old ≡ extend (enter before) added → env_in table rest new ≡ extend before (past_scope added)
+
+-- ---- what was declared in a scope
+
+pub record InLeftScope : Type 0 where
+  -- the names that are no tags, the oldest first
+  pub declared : List Name
+  -- the tags, in the same way
+  pub tags : List NamedTag
+
+abbrev pub in_innermost : InScope → InLeftScope
+in_innermost scope = record { declared = drop scope.base scope.declared; tags = drop scope.tag_base scope.tags }
+
+-- the additions of these names and tags
+abbrev pub scope_added : Table → InLeftScope → Additions
+scope_added table scope = record { declared = map (declared_in table) scope.declared; tags = map tag_in scope.tags; structs = [] }
+
+-- where the old one stood in a scope of an environment, behind these additions, they are its names and tags
+abbrev pub GivesBack : InScope → InLeftScope → Type 0
+GivesBack old scope = (table : Table) (rest before : Env) (added : Additions) → env_in table rest old ≡ extend (enter before) added → scope_added table scope ≡ record added { structs = [] }
+
+-- each of their types is in the table, and each tag's struct is one of so many
+pub record IsKnownLeft (table : Table) (count : ℕ) (scope : InLeftScope) : Type 0 where
+  pub names : All (IsKnownName table) scope.declared
+  pub tags : All (λ tag. HasStruct count tag.meaning) scope.tags

@@ -5,3 +5,4 @@ pub mod Growing
 pub mod Uses
 pub mod Laws
 pub mod Words
+pub mod Turned

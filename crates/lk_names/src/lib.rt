@@ -9,7 +9,7 @@ mod scopes;
 mod tags;
 mod words;
 
-pub use laws::{environments_stay, known_stays};
-pub use names::{Mark, Names};
+pub use laws::{environments_stay, known_left_stays, known_stays, left_scopes_stay};
+pub use names::{LeftScope, Mark, Names};
 pub use tags::{TagUse, struct_meant};
-pub use words::{type_of_words, typedef_of};
+pub use words::{named_type, type_of_words, typedef_of};

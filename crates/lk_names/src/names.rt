@@ -10,7 +10,7 @@ ghost use Rattle.lk_typed.specs.Told.{steps};
 ghost use Rattle.lk_typed.specs.Typings.{members_in, HasKnownFields};
 ghost use Rattle.lk_typed.specs.declared.members.Members.TheVariants.{NotYet};
 ghost use Rattle.lk_names.specs.InScope.{env_in, nothing_in_scope, HasStruct, IsKnownScope};
-ghost use Rattle.lk_names.specs.Growing.{Adds, Enters, Leaves, IsMarkOf, left, name_added, tag_added};
+ghost use Rattle.lk_names.specs.Growing.{Adds, Enters, GivesBack, IsKnownLeft, IsMarkOf, Leaves, in_innermost, left, name_added, scope_added, tag_added};
 
 use crate::scopes::{Named, Scopes};
 use lk_base::{Name, NoMemory, Seq};
@@ -61,6 +61,25 @@ impl Model for Names {
 pub struct Mark {
     base: usize,
     tag_base: usize,
+}
+
+/// What was declared in a scope that was left, the oldest first. It names no struct that its scope didn't.
+#[derive(Drop)]
+pub struct LeftScope {
+    declared: Vec<Declared>,
+    tags: Vec<Tag>,
+}
+
+impl Model for LeftScope {
+    ghost use Rattle.lk_names.specs.Growing.{InLeftScope};
+    ghost use Rattle.lk_names.specs.Turned.{reversed};
+
+    ghost Value = { InLeftScope };
+
+    ghost view = { λ scope. record {
+      declared = reversed scope.declared.items;
+      tags = reversed scope.tags.items;
+    } };
 }
 
 impl Names {
@@ -219,5 +238,42 @@ impl Names {
         let Mark { base, tag_base } = mark;
         self.declared.leave(base);
         self.tags.leave(tag_base);
+    }
+    /// Ends the scope that was begun when the mark was given, as `leave` does, and hands out its names and tags. Where no
+    /// memory is found the scope stays.
+    pub fn leave_with(&mut self, alloc: Global, mark: Mark) -> Result<LeftScope, NoMemory>
+        ensures value { OnOk result (self.new ≡ left mark self.old) }
+        ensures leaves { OnOk result (Leaves mark self.old self.new) }
+        ensures known { OnOk result
+            ((table : Table) → IsKnownScope table self.old → IsKnownScope table self.new) }
+        ensures scope { IfOk result (λ scope. scope ≡ in_innermost self.old) }
+        ensures adds { IfOk result (λ scope. GivesBack self.old scope) }
+        ensures known_scope { IfOk result (λ scope. (table : Table) → IsKnownScope table self.old →
+            IsKnownLeft table (length self.old.structs) scope) }
+        ensures err { OnErr result (self.new ≡ self.old) }
+    {
+        let mut declared = self.declared.room(alloc)?;
+        let mut tags = self.tags.room(alloc)?;
+        let Mark { base, tag_base } = mark;
+        self.declared.leave_into(base, &mut declared);
+        self.tags.leave_into(tag_base, &mut tags);
+        Ok(LeftScope { declared, tags })
+    }
+
+    /// Declares in the innermost scope what was declared in one that was left. Where no memory is found, some of it may
+    /// be declared.
+    pub fn declare_again(&mut self, scope: LeftScope) -> Result<(), NoMemory>
+        ensures ok { OnOk result (self.new ≡ record self.old {
+          declared = self.old.declared ++ scope.declared;
+          tags = self.old.tags ++ scope.tags;
+        }) }
+        ensures adds { OnOk result (Adds self.old self.new (λ table. scope_added table scope)) }
+        ensures known { OnOk result ((table : Table) → IsKnownScope table self.old →
+            IsKnownLeft table (length self.old.structs) scope → IsKnownScope table self.new) }
+    {
+        let LeftScope { declared, tags } = scope;
+        self.declared.push_all(declared)?;
+        self.tags.push_all(tags)?;
+        Ok(())
     }
 }

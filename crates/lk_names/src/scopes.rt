@@ -1,8 +1,9 @@
 //! What is declared by names, in scopes that stand inside one another.
-ghost use Rattle.std.specs.Prelude.{◌≡◌, ◌-◌, cond, IsSome, ◌++◌, ◌∷◌, [], List, ℕ, length, take, drop, OnOk, OnErr, IfOk, MatchOption};
+ghost use Rattle.std.specs.Prelude.{◌≡◌, ◌≤◌, ◌-◌, vec_capacity, cond, IsSome, ◌++◌, ◌∷◌, [], List, ℕ, length, take, drop, OnOk, OnErr, IfOk, MatchOption};
 ghost use Rattle.std.specs.Map.{lookup};
 ghost use Rattle.std.specs.Option.{option_copied};
 ghost use Rattle.lk_typed.specs.Env.{latest, is_name};
+ghost use Rattle.lk_names.specs.Turned.{reversed};
 
 use indexmap::IndexMap;
 use lk_base::{Name, NoMemory};
@@ -133,13 +134,37 @@ impl<T: Named + Drop> Scopes<T> {
         Ok(())
     }
 
-    /// Takes the last one away, if there is one; what it hid is the latest of its name again.
-    fn pop(&mut self)
-        ensures { self.new ≡ (take (length self.old.0 - 1) self.old.0, self.old.1) }
+    /// Declares more in the innermost scope, which are given last first. Where no memory is found, some of them may be
+    /// declared.
+    pub fn push_all(&mut self, mut items: Vec<T>) -> Result<(), NoMemory>
+        ensures { OnOk result (self.new ≡ (self.old.0 ++ reversed items.items, self.old.1)) }
     {
-        if let Some(Entry { item, hides }) = self.entries.pop() {
-            put_back(&mut self.latest, item.name(), hides);
+        while let Some(item) = items.pop() {
+            self.push(item)?;
         }
+        Ok(())
+    }
+
+    /// Takes the last one away, if there is one; what it hid is the latest of its name again.
+    fn pop(&mut self) -> Option<T>
+        ensures { MatchOption result
+            (self.new ≡ self.old × (self.old.0 ≡ []))
+            (λ item. (self.old.0 ≡ self.new.0 ++ item ∷ []) × (self.new.1 ≡ self.old.1)) }
+    {
+        match self.entries.pop() {
+            Some(Entry { item, hides }) => {
+                put_back(&mut self.latest, item.name(), hides);
+                Some(item)
+            }
+            None => None,
+        }
+    }
+
+    /// How many are declared in the innermost scope.
+    fn here(&self) -> usize
+        ensures { result ≡ length self.now.0 - self.now.1 }
+    {
+        self.entries.len().saturating_sub(self.base)
     }
 
     /// Begins a scope. It answers the base of the one round it, which `leave` needs.
@@ -150,6 +175,30 @@ impl<T: Named + Drop> Scopes<T> {
         let outer = self.base;
         self.base = self.entries.len();
         outer
+    }
+
+    /// Room for what is declared in the innermost scope.
+    pub fn room(&self, alloc: Global) -> Result<Vec<T>, NoMemory>
+        ensures empty { IfOk result (λ taken. taken.items ≡ []) }
+        ensures room { IfOk result (λ taken. length self.now.0 - self.now.1 ≤ vec_capacity taken) }
+    {
+        let taken = Vec::with_capacity(alloc, self.here())?;
+        Ok(taken)
+    }
+
+    /// Ends the innermost scope, as `leave` does, and puts what was declared in it into a list, the last one first.
+    pub fn leave_into(&mut self, outer: usize, taken: &mut Vec<T>)
+        requires empty { taken.old.items ≡ [] }
+        requires room { length self.old.0 - self.old.1 ≤ vec_capacity taken.old }
+        ensures value { self.new ≡ (take self.old.1 self.old.0, outer) }
+        ensures taken { reversed taken.new.items ≡ drop self.old.1 self.old.0 }
+    {
+        while self.here() > 0 {
+            if let Some(item) = self.pop() {
+                taken.push_reserved(item);
+            }
+        }
+        self.base = outer;
     }
 
     /// Ends the innermost scope: what was declared in it is gone. The base of the scope round it is given.

@@ -1,5 +1,5 @@
 //! Which type words name, and which type a typedef name stands for (C99 6.7.2, 6.7.7).
-ghost use Rattle.std.specs.Prelude.{◌≡◌, map, IfSome};
+ghost use Rattle.std.specs.Prelude.{◌≡◌, ◌<◌, All, None, Some, map, length, IfSome};
 ghost use Rattle.std.specs.Option.{option_copied, option_map};
 ghost use Rattle.lk_types.specs.Table.{Table, IsKnown};
 ghost use Rattle.lk_typed.specs.Meaning.{meaning, IsReady};
@@ -203,6 +203,49 @@ pub fn type_of_words(words: &[TypeWord]) -> Option<TypeId>
         Some(WordType::Void) => Some(TypeId::VOID),
         Some(WordType::Integer(kind)) => Some(TypeId::of_kind(kind)),
         None => None,
+    }
+}
+
+/// What words name where no other type stands beside them.
+fn words_alone(words: &[TypeWord]) -> Option<Option<TypeId>>
+    ensures named { (table : Table) → IsReady table → option_map (option_map (meaning table)) result ≡
+        told.with_optional None (λ t. Some (Some t)) (told.type_of_word (spec.type_of_words words.now)) }
+    ensures known { (table : Table) → IsReady table → IfSome result (λ t. IfSome t (IsKnown table)) }
+{
+    match type_of_words(words) {
+        Some(t) => Some(Some(t)),
+        None => None,
+    }
+}
+
+/// What other types name where there is one at least: it is alone, and no word stands beside it.
+fn type_alone(words: &[TypeWord], types: &[Option<TypeId>]) -> Option<Option<TypeId>>
+    requires { 0 < length types.now }
+    ensures named { (table : Table) → option_map (option_map (meaning table)) result ≡
+        told.named_type words.now (map (option_map (meaning table)) types.now) }
+    ensures known { (table : Table) → All (λ t. IfSome t (IsKnown table)) types.now →
+        IfSome result (λ t. IfSome t (IsKnown table)) }
+{
+    if words.len() == 0 && types.len() == 1 {
+        Some(types[0])
+    } else {
+        None
+    }
+}
+
+/// The type that words and other types name together, or nothing where they name none, which is 22: the words are one of
+/// the combinations and there is no other type, or there is one other type and no word (C99 6.7.2, 2). A type that is
+/// missing, since it is faulty, counts as one.
+pub fn named_type(words: &[TypeWord], types: &[Option<TypeId>]) -> Option<Option<TypeId>>
+    ensures named { (table : Table) → IsReady table → option_map (option_map (meaning table)) result ≡
+        told.named_type words.now (map (option_map (meaning table)) types.now) }
+    ensures known { (table : Table) → IsReady table → All (λ t. IfSome t (IsKnown table)) types.now →
+        IfSome result (λ t. IfSome t (IsKnown table)) }
+{
+    if types.is_empty() {
+        words_alone(words)
+    } else {
+        type_alone(words, types)
     }
 }
 
