@@ -1,0 +1,12 @@
+pub mod Addresses
+pub mod Judging
+pub mod FormsOf
+pub mod Keepings
+pub mod Moves
+pub mod Naming
+pub mod Shaped
+pub mod Shapes
+pub mod Specified
+pub mod Structs
+pub mod Walking
+pub mod Walks

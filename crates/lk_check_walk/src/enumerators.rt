@@ -1,0 +1,117 @@
+//! Enumerators, behind their values (C99 6.7.2.2).
+ghost use Rattle.std.specs.Prelude.{◌≡◌, ◌++◌, List, OnOk};
+ghost use Rattle.lk_typed.specs.Env.{Env};
+ghost use Rattle.lk_typed.specs.Faults.{Breach};
+ghost use Rattle.lk_typed.specs.HolderRules.{counted_rules, written_rules};
+ghost use Rattle.lk_typed.specs.Names.{meaning_in, IsKnownMeaning};
+ghost use Rattle.lk_types.specs.Table.{Table};
+ghost use Rattle.lk_typed.specs.NodeRules.{item_meaning, plain_name};
+ghost use Rattle.lk_typed.specs.Redeclared.{name_rules};
+ghost use Rattle.lk_typed.specs.Told.{declares, enumerator, next_value as spec_next, written_value as spec_written};
+ghost use Rattle.lk_check_decl.specs.Breaches.{told};
+ghost use Rattle.lk_rules.specs.Keeping.{KeepsCodes};
+ghost use Rattle.lk_check_walk.specs.Keepings.{AreUnnamed};
+ghost use Rattle.lk_check_walk.specs.Moves.{Grows, GoesOn};
+ghost use Rattle.lk_check_walk.specs.Walks.{IsIn, IsSound, kept_in, mark_at};
+
+use crate::checker::Checker;
+use crate::found::At;
+use lk_base::{Code, Name, NoMemory};
+use lk_check_decl::{next_code, next_value, written_code, written_value};
+use lk_typed::{Constant, Meaning};
+
+/// The value of an enumerator.
+#[derive(Clone, Copy)]
+pub(crate) struct ItemValue {
+    /// The value, where no fault takes it away.
+    pub(crate) value: Option<i32>,
+    /// Its code.
+    pub(crate) code: Option<Code>,
+}
+
+/// The value of an enumerator that is written as an expression.
+pub(crate) fn written(constant: Option<Constant>) -> ItemValue
+    ensures value { result.value ≡ spec_written constant }
+    ensures code { result.code ≡ told (written_rules constant) }
+{
+    ItemValue {
+        value: written_value(constant),
+        code: written_code(constant),
+    }
+}
+
+/// The value of an enumerator without an expression, behind one of this value.
+pub(crate) fn counted(before: Option<i32>) -> ItemValue
+    ensures value { result.value ≡ spec_next before }
+    ensures code { result.code ≡ told (counted_rules before) }
+{
+    ItemValue {
+        value: next_value(before),
+        code: next_code(before),
+    }
+}
+
+/// An enumerator as a name, whatever its value.
+fn named(value: Option<i32>) -> Meaning
+    ensures value { (table : Table) → meaning_in table result ≡ item_meaning value }
+    ensures known { (table : Table) → IsKnownMeaning table result }
+{
+    match value {
+        Some(value) => Meaning::Enumerator(i128::from(value)),
+        None => Meaning::Enumerator(0),
+    }
+}
+
+/// What an enumerator stands for: nothing where its value is faulty.
+fn declared(value: Option<i32>) -> Meaning
+    ensures value { (table : Table) → meaning_in table result ≡ enumerator value }
+    ensures known { (table : Table) → IsKnownMeaning table result }
+{
+    match value {
+        Some(value) => Meaning::Enumerator(i128::from(value)),
+        None => Meaning::Faulty,
+    }
+}
+
+impl Checker {
+    /// Keeps the codes of an enumerator: of its value, and of its name.
+    pub(crate) fn keep_item(
+        &mut self,
+        at: At,
+        name: &Name,
+        found: ItemValue,
+    ) -> Result<(), NoMemory>
+        requires { IsSound self.old }
+        ensures types { OnOk result (self.new.types ≡ self.old.types) }
+        ensures names { OnOk result (self.new.names ≡ self.old.names) }
+        ensures outside { OnOk result (self.new.outside ≡ self.old.outside) }
+        ensures keeps { OnOk result ((env : Env) (broken : List Breach) → IsIn self.old env →
+            found.code ≡ told broken → AreUnnamed broken →
+            KeepsCodes (kept_in self.old) (mark_at at)
+            (broken ++ name_rules env (plain_name name.now (item_meaning found.value))) (kept_in self.new)) }
+    {
+        self.keep(at, found.code)?;
+        let meaning = named(found.value);
+        self.keep_name(at, name, meaning)?;
+        Ok(())
+    }
+
+    /// Declares an enumerator of this value.
+    pub(crate) fn declare_item(
+        &mut self,
+        at: At,
+        name: &Name,
+        value: Option<i32>,
+    ) -> Result<(), NoMemory>
+        requires { IsSound self.old }
+        ensures types { OnOk result (self.new.types ≡ self.old.types) }
+        ensures structs { OnOk result (self.new.names.structs ≡ self.old.names.structs) }
+        ensures grows { OnOk result (Grows self.old self.new) }
+        ensures behind { OnOk result (GoesOn self.old self.new
+            (λ env. declares name.now at.ordinal (enumerator value))) }
+    {
+        let meaning = declared(value);
+        self.declare_plain(name, meaning, at.ordinal)?;
+        Ok(())
+    }
+}

@@ -1,0 +1,5 @@
+//! Tests of the state of the checker.
+#![tactic(auto)]
+
+#[cfg(test)]
+mod faults;
