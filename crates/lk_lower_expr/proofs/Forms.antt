@@ -29,13 +29,9 @@ of_expression names e = fold_out-TypedExpr Called (Node → Part) (Node → Part
 pub as_form : (names : Names) (e : TypedExpr) (f : TypedForm) (is : Node → Part) → e.form ≡ f → form_part names f ≡ is → part names e ≡ is (node_of e)
 as_form names e f is so rolls = of_expression names e ∙ ap (λ g. form_part names g (node_of e)) so ∙ ap (λ (g : Node → Part). g (node_of e)) rolls
 
-pub of_Object : (names : Names) (storage : Storage) → form_part names (form.Object storage) ≡ (λ node. rules.object_part names node storage)
+pub of_Object : (names : Names) (storage : Storage) → form_part names (form.Object storage) ≡ (λ node. rules.name_part names node storage)
 unfolding part form_part library_part callee_part
 of_Object names storage = ap (form_part names) (sym (form.rolls-Object storage)) ∙ fold-roll-TypedForm Called (Node → Part) (Node → Part) Part (of_callee names) (of_form names) (of_library names) (of_expr names) (TypedForm-F.Object storage)
-
-pub of_Slot : (names : Names) (local : ℕ) → form_part names (form.Slot local) ≡ (λ node. parts.slot_part names node (names.slot local))
-unfolding part form_part library_part callee_part
-of_Slot names local = ap (form_part names) (sym (form.rolls-Slot local)) ∙ fold-roll-TypedForm Called (Node → Part) (Node → Part) Part (of_callee names) (of_form names) (of_library names) (of_expr names) (TypedForm-F.Slot local)
 
 pub of_Text : (names : Names) (bytes : List ℕ) → form_part names (form.Text bytes) ≡ (λ node. rules.text_part names node)
 unfolding part form_part library_part callee_part
@@ -113,7 +109,7 @@ pub of_Call : (names : Names) (callee : Callee) (args : List TypedExpr) → form
 unfolding part form_part library_part callee_part
 of_Call names callee args = ap (form_part names) (sym (form.rolls-Call callee args)) ∙ fold-roll-TypedForm Called (Node → Part) (Node → Part) Part (of_callee names) (of_form names) (of_library names) (of_expr names) (TypedForm-F.Call callee args)
 
-pub of_Extern : (names : Names) (entity : ℕ) (args : List TypedExpr) → form_part names (form.Extern entity args) ≡ (λ node. extern_part names node (map (part names) args))
+pub of_Extern : (names : Names) (entity : ℕ) (args : List TypedExpr) → form_part names (form.Extern entity args) ≡ (λ node. extern_part names node entity (map (part names) args))
 unfolding part form_part library_part callee_part
 of_Extern names entity args = ap (form_part names) (sym (form.rolls-Extern entity args)) ∙ fold-roll-TypedForm Called (Node → Part) (Node → Part) Part (of_callee names) (of_form names) (of_library names) (of_expr names) (TypedForm-F.Extern entity args)
 

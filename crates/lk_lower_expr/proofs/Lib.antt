@@ -4,6 +4,7 @@ pub mod Chosen
 pub mod Forms
 pub mod Given
 pub mod Inside
+pub mod Named
 pub mod Nodes
 pub mod Operands
 pub mod Stepped

@@ -7,10 +7,11 @@ use Rattle.lk_lower_expr.specs.Expressions.{part, form_part, library_part, of_ca
 use Rattle.lk_lower_expr.specs.Library.{Called, by_name, by_pointer, call_part}
 use Rattle.lk_lower_expr.specs.Names.{Names, Node}
 use Rattle.lk_lower_expr.specs.Parts.{Part, paren_of}
-use Rattle.lk_lower_expr.specs.Values.{choice_part, choice_of, compound_part, step_part}
+use Rattle.lk_lower_expr.specs.Values.{choice_part, choice_of, compound_part, name_of, slot_named, step_part}
 use Rattle.lk_typed.specs.declared.expression.Callee.{Callee}
 use Rattle.lk_typed.specs.declared.expression.Callee.TheFolds.{fold_out-TypedForm, fold_out-LibraryCall, map-TypedForm, fold-Callee}
 use Rattle.lk_typed.specs.declared.expression.Callee.TheOpen.{TypedForm-F, LibraryCall-F}
+use Rattle.lk_typed.specs.declared.expression.Storage.{Storage}
 use Rattle.lk_typed.specs.declared.expression.TypedExpr.{TypedExpr}
 use Rattle.lk_typed.specs.declared.expression.TypedForm.{TypedForm}
 use Rattle.lk_typed.specs.declared.library.LibraryCall.{LibraryCall}
@@ -39,6 +40,10 @@ choice_node names (Opaque n) node c a b = refl
 paren_node : (names : Names) (slot : Option ℕ) (node : Node) (a : Part) → (paren_of names slot node a).node ≡ node
 paren_node names None node a = refl
 paren_node names (Some slot) node a = refl
+
+name_node : (names : Names) (slot : Option ℕ) (node : Node) (storage : Storage) → (name_of names slot node storage).node ≡ node
+name_node names None node storage = refl
+name_node names (Some slot) node storage = refl
 
 call_node : (names : Names) (node : Node) (callee : Called) (args : List Part) → (call_part names node callee args).node ≡ node
 call_node names node (by_name entity) args = refl
@@ -74,8 +79,7 @@ module _ (names : Names) (node : Node) where
   in_form : (x : TypedForm-F Callee TypedForm LibraryCall TypedExpr) → (of_form names (map-TypedForm Callee TypedForm LibraryCall TypedExpr Called (Node → Part) (Node → Part) Part
       (fold-Callee Called (Node → Part) (Node → Part) Part (of_callee names) (of_form names) (of_library names) (of_expr names)) (form_part names) (library_part names) (part names) x) node).node ≡ node
   unfolding choice_part compound_part step_part
-  in_form (TypedForm-F.Object storage) = refl
-  in_form (TypedForm-F.Slot local) = refl
+  in_form (TypedForm-F.Object storage) = name_node names (slot_named names.slot storage) node storage
   in_form (TypedForm-F.Text bytes) = refl
   in_form (TypedForm-F.Member a k) = refl
   in_form (TypedForm-F.Arrow a k) = refl

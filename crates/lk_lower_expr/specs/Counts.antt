@@ -1,5 +1,5 @@
 -- How many steps of its own the node of an expression has, where that depends on types.
-use Rattle.std.specs.Prelude.{ℕ, Bool, true, false, ◌||◌, nat_eq, if◌then◌else◌, suc, List, [], ◌∷◌}
+use Rattle.std.specs.Prelude.{ℕ, Bool, true, false, ◌||◌, nat_eq, if◌then◌else◌, suc, List, [], ◌∷◌, Option, None, Some}
 use Rattle.lk_base.specs.declared.kind.Kind.TheVariants.{Int as IntKind}
 use Rattle.lk_lower_expr.specs.Library.{is_text}
 use Rattle.lk_lower_expr.specs.Names.{Names}
@@ -24,6 +24,11 @@ is_void (Array t n) = false
 is_void (Struct s) = false
 is_void (Function result params dots) = false
 is_void (Opaque n) = false
+
+-- the name of an object, by the slot for which it stands
+abbrev pub name_count : Option ℕ → ℕ
+name_count None = 1
+name_count (Some slot) = 0
 
 abbrev pub choice_count : CType → ℕ
 choice_count form = if is_void form then 1 else 4

@@ -40,8 +40,7 @@ module _ (names : Names) where
   of_library (LibraryCall-F.Compute args) node = calls.compute_part names node args
 
   abbrev pub of_form : TypedForm-F Called (Node → Part) (Node → Part) Part → Node → Part
-  of_form (TypedForm-F.Object storage) node = rules.object_part names node storage
-  of_form (TypedForm-F.Slot local) node = parts.slot_part names node (names.slot local)
+  of_form (TypedForm-F.Object storage) node = rules.name_part names node storage
   of_form (TypedForm-F.Text bytes) node = rules.text_part names node
   of_form (TypedForm-F.Member a k) node = rules.member_part names node a k
   of_form (TypedForm-F.Arrow a k) node = rules.member_part names node a k
@@ -62,7 +61,7 @@ module _ (names : Names) where
   of_form (TypedForm-F.Step operator change a t) node = rules.step_part names node operator change a t
   of_form (TypedForm-F.Call callee args) node = calls.call_part names node callee args
   of_form (TypedForm-F.Library call) node = call node
-  of_form (TypedForm-F.Extern entity args) node = calls.extern_part names node args
+  of_form (TypedForm-F.Extern entity args) node = calls.extern_part names node entity args
   of_form (TypedForm-F.Size count) node = rules.number_part names node (pos count)
   of_form (TypedForm-F.Load a) node = rules.load_part names node a
   of_form (TypedForm-F.Decay a) node = rules.decay_part names node a

@@ -1,6 +1,8 @@
 -- The steps of initialisers (C99 6.7.8): the named parts in the order of the entries, and then the cells that no entry names. All but the steps of the values are steps of the
 -- node of the declared name, and stand at its place.
-use Rattle.std.specs.Prelude.{ℕ, pos, zero, suc, ◌+◌, true, false, List, [], ◌∷◌, ◌++◌, length, Option, None}
+use Rattle.std.specs.Prelude.{ℕ, ℤ, pos, suc, ◌+◌, true, false, List, [], ◌∷◌, ◌++◌, length, Option, None, Some}
+use Rattle.std.specs.Option.{unwrap_or}
+use Rattle.lk_arith.specs.Conversions.{convert}
 use Rattle.lk_base.specs.declared.cell.CellStep.{CellStep}
 use Rattle.lk_base.specs.declared.cell.CellStep.TheVariants.{Field, Index}
 use Rattle.lk_base.specs.declared.kind.Kind.TheVariants.{Int as IntKind}
@@ -11,143 +13,118 @@ use Rattle.lk_facts.specs.declared.place.Place.{Place}
 use Rattle.lk_lower_expr.specs.Expressions.{part}
 use Rattle.lk_lower_expr.specs.Names.{Names, Node}
 use Rattle.lk_lower_expr.specs.Parts as parts
-use Rattle.lk_lower_expr.specs.Parts.{Part, goes, step}
+use Rattle.lk_lower_expr.specs.Parts.{goes, step}
 use Rattle.lk_lower_expr.specs.Walk.{Walk, nothing, own, ◌then◌}
+use Rattle.lk_lower_expr.specs.declared.step.Deed.{Deed}
 use Rattle.lk_lower_expr.specs.declared.step.Step.{Step}
 use Rattle.lk_typed.specs.declared.initialiser.AbsentCells.{AbsentCells}
 use Rattle.lk_typed.specs.declared.initialiser.LocalPart.{LocalPart}
 use Rattle.lk_typed.specs.declared.initialiser.LocalValue.{LocalValue}
 use Rattle.lk_typed.specs.declared.initialiser.LocalValue.TheVariants as value
 use Rattle.lk_types.specs.Predeclared.{kind_id}
+use Rattle.lk_types.specs.declared.c_type.CType.{CType}
+use Rattle.lk_types.specs.declared.c_type.CType.TheVariants.{Void, Int, ThreadId, Mutex, Cond, Pointer, Array, Struct, Function, Opaque}
 
--- what is done on the way to a part, and the type that each step gives
-abbrev Deed : Type 0
-Deed = Action × Option ℕ
+-- the step that gives the pointer to a part of what the pointer that the step `k` gives points to: a Field a member, a Value and an Index an element
+abbrev pub after : ℕ → CellStep → ℕ
+after k (Field m) = suc k
+after k (Index i) = suc (suc k)
 
--- what a scalar part begins with: the value of an expression, the byte of a text, or the state of an initialiser word
-pub data Begins : Type 0 where
-  by_value : Part → Begins
-  by_byte : (text k byte : ℕ) → Begins
-  ready : Begins
+abbrev pub pointed : ℕ → List CellStep → ℕ
+pointed k [] = k
+pointed k (next ∷ path) = pointed (after k next) path
 
-pub record Entry : Type 0 where
-  pub path : List CellStep
-  pub begins : Begins
+-- the step behind those of a part that begin with the step `k`
+abbrev pub past_part : ℕ → List CellStep → ℕ
+past_part k path = suc (suc (pointed k path))
+
+-- these steps of a node whose step k is `at k`, the first of them the step `k`: each leads to the next, the last to `on`
+abbrev pub comes_to : (at : ℕ → ℕ) → (k : ℕ) → Deed → ℕ
+comes_to at k deed = unwrap_or deed.comes (at k)
+
+abbrev pub numbered : (at : ℕ → ℕ) → Spot → (k : ℕ) → List Deed → (on : ℕ) → List Step
+numbered at spot k [] on = []
+numbered at spot k (deed ∷ []) on = step deed.does deed.gives spot on ∷ []
+numbered at spot k (deed ∷ (next ∷ others)) on = step deed.does deed.gives spot (comes_to at (suc k) next) ∷ numbered at spot (suc k) (next ∷ others) on
+
+-- a byte of a text as an element of a type: it is converted to the type's kind; texts have no elements of other types
+abbrev pub byte_of : CType → ℕ → ℤ
+byte_of Void byte = pos byte
+byte_of (Int k) byte = convert k (pos byte)
+byte_of ThreadId byte = pos byte
+byte_of Mutex byte = pos byte
+byte_of Cond byte = pos byte
+byte_of (Pointer t) byte = pos byte
+byte_of (Array t n) byte = pos byte
+byte_of (Struct s) byte = pos byte
+byte_of (Function result params dots) byte = pos byte
+byte_of (Opaque n) byte = pos byte
 
 module _ (names : Names) where
-  -- these steps of a node, the first of them the step `k`: each leads to the next, the last to `to`
-  abbrev pub numbered : Node → (k : ℕ) → List Deed → (to : ℕ) → List Step
-  numbered node k [] to = []
-  numbered node k ((does, gives) ∷ []) to = step does gives node.spot to ∷ []
-  numbered node k ((does, gives) ∷ (next ∷ others)) to = step does gives node.spot (names.at node.ordinal (suc k)) ∷ numbered node (suc k) (next ∷ others) to
+  -- a step that gives a pointer to a type
+  abbrev pub points : Action → (t : ℕ) → Deed
+  points does t = record { does = does; gives = parts.pointer_to names t; comes = None }
 
-  -- from the pointer that the step `k` gives, to an object of type t, along the path: a Field a member, a Value and an Index an element
-  abbrev along : Node → (k t : ℕ) → List CellStep → List Deed
+  abbrev pub to_part : Node → (k t : ℕ) → CellStep → List Deed
+  to_part node k t (Field m) = points (does.Field (names.at node.ordinal k) m) t ∷ []
+  to_part node k t (Index i) =
+      record { does = does.Value (pos i) (kind_id IntKind); gives = parts.int names; comes = None } ∷
+      points (does.Index (names.at node.ordinal k) (names.at node.ordinal (suc k)) true) t ∷ []
+
+  -- from the pointer that the step `k` gives, to an object of type t, along the path
+  abbrev pub along : Node → (k t : ℕ) → List CellStep → List Deed
   along node k t [] = []
-  along node k t (Field m ∷ path) =
-      (does.Field (names.at node.ordinal k) m, parts.pointer_to names (names.inside t (Field m))) ∷ along node (suc k) (names.inside t (Field m)) path
-  along node k t (Index i ∷ path) =
-      (does.Value (pos i) (kind_id IntKind), parts.int names) ∷
-      (does.Index (names.at node.ordinal k) (names.at node.ordinal (suc k)) true, parts.pointer_to names (names.inside t (Index i))) ∷
-      along node (suc (suc k)) (names.inside t (Index i)) path
+  along node k t (next ∷ path) = to_part node k (names.inside t next) next ++ along node (after k next) (names.inside t next) path
 
   -- the steps to a part of the object of a root, the first of them the step `k`
   abbrev pub way_to : Node → (root k : ℕ) → List CellStep → List Deed
-  way_to node root k path = (does.Root root, parts.pointer_to names node.type) ∷ along node k node.type path
+  way_to node root k path = points (does.Root root) node.type ∷ along node k node.type path
 
-  -- the last of `count` steps from `k` on: it gives the pointer to the part
-  abbrev last_from : ℕ → ℕ → ℕ
-  last_from k zero = k
-  last_from k (suc count) = k + count
+  -- and then what settles the part by the pointer to it: a Write, to which control comes through the steps of the value, an Init or a Fill
+  abbrev pub settled : Node → (root k : ℕ) → List CellStep → (comes : Option ℕ) → ((pointer : ℕ) → Action) → List Deed
+  settled node root k path comes settles = way_to node root k path ++ (record { does = settles (names.at node.ordinal (pointed k path)); gives = None; comes = comes } ∷ [])
 
-  -- the bytes of a text go to the elements of an array, the first of these to the element `i`
-  abbrev bytes_to : List CellStep → (text i : ℕ) → List ℕ → List Entry
-  bytes_to path text i [] = []
-  bytes_to path text i (byte ∷ others) = record { path = path ++ (Index i ∷ []); begins = by_byte text i byte } ∷ bytes_to path text (suc i) others
+  -- the bytes of the text at a node go to the elements of an array, the first of these to the element `i`
+  abbrev pub text_deeds : Node → (root k : ℕ) → List CellStep → (text i : ℕ) → List ℕ → List Deed
+  text_deeds node root k path text i [] = []
+  text_deeds node root k path text i (byte ∷ others) =
+      settled node root k (path ++ (Index i ∷ [])) (Some (names.at text i)) (λ pointer. does.Write pointer (names.at text i) false) ++
+      text_deeds node root (past_part k (path ++ (Index i ∷ []))) path text (suc i) others
 
-  abbrev entries_of_value : List CellStep → LocalValue → List Entry
-  entries_of_value path (value.Expr e) = record { path = path; begins = by_value (part names e) } ∷ []
-  entries_of_value path (value.Text spot text bytes) = bytes_to path text 0 bytes
-  entries_of_value path value.Ready = record { path = path; begins = ready } ∷ []
+  -- the steps of a part at the declared name, the first of them the step `k`
+  abbrev pub part_deeds : Node → (root k : ℕ) → List CellStep → LocalValue → List Deed
+  part_deeds node root k path (value.Expr e) = settled node root k path (Some (part names e).first) (λ pointer. does.Write pointer (part names e).value false)
+  part_deeds node root k path (value.Text spot text bytes) = text_deeds node root k path text 0 bytes
+  part_deeds node root k path value.Ready = settled node root k path None does.Init
 
-  abbrev pub entries_of : List LocalPart → List Entry
-  entries_of [] = []
-  entries_of (one ∷ others) = entries_of_value one.path one.value ++ entries_of others
+  -- how many they are
+  abbrev pub part_count : Node → (root k : ℕ) → LocalPart → ℕ
+  part_count node root k one = length (part_deeds node root k one.path one.value)
 
-  -- where the value begins, or where control goes on where it has no steps of its own
-  abbrev value_first : Begins → ℕ → ℕ
-  value_first (by_value a) on = a.first
-  value_first (by_byte text i byte) on = names.at text i
-  value_first ready on = on
+  abbrev pub parts_deeds : Node → (root k : ℕ) → List LocalPart → List Deed
+  parts_deeds node root k [] = []
+  parts_deeds node root k (one ∷ others) = part_deeds node root k one.path one.value ++ parts_deeds node root (k + part_count node root k one) others
 
-  -- the last step of an entry: a write of the value, or an Init
-  abbrev settles : Begins → (pointer : ℕ) → Action
-  settles (by_value a) pointer = does.Write pointer a.value false
-  settles (by_byte text i byte) pointer = does.Write pointer (names.at text i) false
-  settles ready pointer = does.Init pointer
+  -- the steps of the bytes of a text, each of which leads to the step that writes it: those are steps of the text
+  abbrev pub byte_steps : Node → Spot → (k t : ℕ) → List CellStep → (i : ℕ) → List ℕ → List Step
+  byte_steps node spot k t path i [] = []
+  byte_steps node spot k t path i (byte ∷ others) =
+      step (does.Value (byte_of (names.form t) byte) (names.type t)) (parts.value_of names t) spot (names.at node.ordinal (suc (pointed k (path ++ (Index i ∷ []))))) ∷
+      byte_steps node spot (past_part k (path ++ (Index i ∷ []))) t path (suc i) others
 
-  abbrev pub entry_count : Node → ℕ → Entry → ℕ
-  entry_count node root entry = suc (length (way_to node root 0 entry.path))
+  -- the steps of the value of a part, whose steps at the declared name begin with the step `k`
+  abbrev pub value_walk : Node → (k t : ℕ) → List CellStep → LocalValue → Walk
+  value_walk node k t path (value.Expr e) = goes (part names e) (names.at node.ordinal (suc (pointed k path)))
+  value_walk node k t path (value.Text spot text bytes) = own text (byte_steps node spot k (names.inside t (Index 0)) path 0 bytes)
+  value_walk node k t path value.Ready = nothing
 
-  -- the step of the node that settles an entry whose first step is `k`
-  abbrev pub settling : Node → (root k : ℕ) → Entry → ℕ
-  settling node root k entry = k + length (way_to node root k entry.path)
-
-  -- the steps of an entry at the declared name, the first of them the step `k`
-  abbrev pub entry_steps : Node → (root k : ℕ) → Entry → (on : ℕ) → List Step
-  entry_steps node root k entry on =
-      let way = way_to node root k entry.path in
-      numbered node k way (value_first entry.begins (names.at node.ordinal (k + length way))) ++
-      (step (settles entry.begins (names.at node.ordinal (last_from k (length way)))) None node.spot on ∷ [])
-
-  -- those of all entries, the first of them the step `k`, where control goes on at `on` after the last
-  abbrev pub entries_steps : Node → (root k : ℕ) → List Entry → (on : ℕ) → List Step
-  entries_steps node root k [] on = []
-  entries_steps node root k (entry ∷ []) on = entry_steps node root k entry on
-  entries_steps node root k (entry ∷ (next ∷ others)) on =
-      let end = suc (settling node root k entry) in
-      entry_steps node root k entry (names.at node.ordinal end) ++ entries_steps node root end (next ∷ others) on
-
-  abbrev pub entries_count : Node → ℕ → List Entry → ℕ
-  entries_count node root [] = 0
-  entries_count node root (entry ∷ others) = entry_count node root entry + entries_count node root others
-
-  -- the step behind those of all entries, the first of them the step `k`
-  abbrev pub past : Node → (root k : ℕ) → List Entry → ℕ
-  past node root k entries = k + entries_count node root entries
-
-  -- the steps of the values, each of which leads to the step that settles its entry: those of the bytes of a text are steps of the text
-  abbrev byte_steps : Node → Spot → (root text k : ℕ) → (t : ℕ) → List Entry → List Step
-  byte_steps node spot root text k t [] = []
-  byte_steps node spot root text k t (entry ∷ others) = byte_of entry.begins (names.at node.ordinal (settling node root k entry)) ++ byte_steps node spot root text (suc (settling node root k entry)) t others
-    where
-      byte_of : Begins → ℕ → List Step
-      byte_of (by_value a) on = []
-      byte_of (by_byte text i byte) on = step (does.Value (pos byte) (names.type t)) (parts.value_of names t) spot on ∷ []
-      byte_of ready on = []
-
-  abbrev value_walk : Node → (root k : ℕ) → LocalPart → LocalValue → Walk
-  value_walk node root k one (value.Expr e) = goes (part names e) (names.at node.ordinal (k + length (way_to node root k one.path)))
-  value_walk node root k one (value.Text spot text bytes) = own text (byte_steps node spot root text k (names.inside one.ty (Index 0)) (bytes_to one.path text 0 bytes))
-  value_walk node root k one value.Ready = nothing
-
+  -- those of all values, the last of them first
   abbrev pub values_walk : Node → (root k : ℕ) → List LocalPart → Walk
   values_walk node root k [] = nothing
-  values_walk node root k (one ∷ others) = value_walk node root k one one.value then values_walk node root (k + entries_count node root (entries_of (one ∷ []))) others
+  values_walk node root k (one ∷ others) = values_walk node root (k + part_count node root k one) others then value_walk node k one.ty one.path one.value
 
-  -- ---- the cells that no entry names: the steps to the first of them, and a Fill
-
-  abbrev fill : (List CellStep → Place) → AbsentCells → (pointer : ℕ) → Action
-  fill place cells pointer = does.Fill pointer (place cells.first) cells.named
-
-  abbrev pub fills_steps : Node → (List CellStep → Place) → (root k : ℕ) → List AbsentCells → (on : ℕ) → List Step
-  fills_steps node place root k [] on = []
-  fills_steps node place root k (cells ∷ others) on =
-      let way = way_to node root k cells.first in
-      let end = k + suc (length way) in
-      numbered node k (way ++ ((fill place cells (names.at node.ordinal (last_from k (length way))), None) ∷ [])) (behind others end) ++
-      fills_steps node place root end others on
-    where
-      behind : List AbsentCells → ℕ → ℕ
-      behind [] end = on
-      behind (other ∷ more) end = names.at node.ordinal end
+  -- the cells that no entry names: the steps to the first of them, and a Fill
+  abbrev pub fills_deeds : Node → (List CellStep → Place) → (root k : ℕ) → List AbsentCells → List Deed
+  fills_deeds node place root k [] = []
+  fills_deeds node place root k (cells ∷ others) =
+      settled node root k cells.first None (λ pointer. does.Fill pointer (place cells.first) cells.named) ++ fills_deeds node place root (past_part k cells.first) others

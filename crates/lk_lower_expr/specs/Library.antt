@@ -47,8 +47,17 @@ module _ (names : Names) where
   call_part node (by_name entity) args = does_one node args (does.Call (names.function entity) (values args))
   call_part node (by_pointer a) args = does_one node (a ∷ args) (does.PointerCall a.value (values args))
 
-  abbrev pub extern_part : Node → List Part → Part
-  extern_part node args = does_one node args (does.Compute (values args) (names.type node.type) false)
+  -- a call that touches nothing
+  abbrev touches_nothing : Node → List Part → Action
+  touches_nothing node args = does.Compute (values args) (names.type node.type) false
+
+  -- a function that `--externs` names: where a source of the program defines it that one is called, else it touches nothing
+  abbrev pub extern_action : Bool → Node → ℕ → List Part → Action
+  extern_action true node entity args = does.Call (names.function entity) (values args)
+  extern_action false node entity args = touches_nothing node args
+
+  abbrev pub extern_part : Node → ℕ → List Part → Part
+  extern_part node entity args = does_one node args (extern_action (names.is_defined entity) node entity args)
 
   -- the steps of a call that is one action on the operand `a`
   abbrev pub on_one : Node → (ℕ → Action) → Part → Part
@@ -112,7 +121,7 @@ module _ (names : Names) where
 
   -- a call of the library that touches nothing
   abbrev pub compute_part : Node → List Part → Part
-  compute_part node args = does_one node args (does.Compute (values args) (names.type node.type) false)
+  compute_part node args = does_one node args (touches_nothing node args)
 
   abbrev pub equal_part : Node → Part → Part → Part
   equal_part node a b = does_one node (a ∷ b ∷ []) (does.Compute (a.value ∷ b.value ∷ []) (names.type node.type) true)

@@ -1,7 +1,7 @@
 -- The program that checked sources become: its functions, roots, slots and points. Each has its number from the node to which it belongs: in the order of the sources, of the nodes, and of the steps.
 use Rattle.std.specs.Prelude.{◌≡◌, ◌<◌, ◌≤◌, ◌+◌, ℕ, suc, nat_eq, Bool, true, false, List, [], ◌∷◌, Option, None, Some, length, slice_get, get_or, if◌then◌else◌}
 use Rattle.std.specs.List.{Contains}
-use Rattle.std.specs.Option.{option_map_or, option_and_then}
+use Rattle.std.specs.Option.{is_some, option_map_or, option_and_then}
 use Rattle.lk_base.specs.declared.cell.CellStep.{CellStep}
 use Rattle.lk_base.specs.declared.spot.Spot.{Spot}
 use Rattle.lk_facts.specs.declared.place.Place.{Place}
@@ -117,6 +117,9 @@ module _ (whole : Whole) (numbers : Numbers) where
   node_of None = record { ordinal = 0; spot = no_place; type = 0 }
   node_of (Some local) = record { ordinal = local.ordinal; spot = local.spot; type = local.ty }
 
+  abbrev slot_of : (s : ℕ) → Local → Option ℕ
+  slot_of s local = if local.is_slot then Some (numbers.slot s local.ordinal) else None
+
   -- what the numbers stand for of the source s, where these are the locals
   abbrev pub names_in : (s : ℕ) → Linked → List Local → Names
   names_in s linked locals = record {
@@ -129,9 +132,10 @@ module _ (whole : Whole) (numbers : Numbers) where
     heap = numbers.root s;
     inside = part_type linked.unit.types;
     declared = λ l. node_of (slice_get locals l);
-    slot = λ l. option_map_or (λ local. numbers.slot s local.ordinal) (slice_get locals l) 0;
+    slot = λ l. option_and_then (slot_of s) (slice_get locals l);
     hidden = numbers.slot s;
     function = λ e. function_of (definition_of s e);
+    is_defined = λ e. is_some (definition_of s e);
   }
 
   -- ---- points

@@ -1,5 +1,5 @@
 -- What the numbers of a typed tree stand for in the program.
-use Rattle.std.specs.Prelude.{ℕ}
+use Rattle.std.specs.Prelude.{ℕ, Bool, Option}
 use Rattle.lk_base.specs.declared.cell.CellStep.{CellStep}
 use Rattle.lk_base.specs.declared.spot.Spot.{Spot}
 use Rattle.lk_typed.specs.declared.expression.Storage.{Storage}
@@ -26,8 +26,9 @@ pub record Names : Type 0 where
   pub inside : ℕ → CellStep → ℕ
   -- the declared name of a local: the number of its node, its place and its type
   pub declared : ℕ → Node
-  -- the slot of a local, and the hidden one of a node whose value comes on several ways
-  pub slot : ℕ → ℕ
+  -- the slot that a local is, where it is one, and the hidden one of a node whose value comes on several ways
+  pub slot : ℕ → Option ℕ
   pub hidden : ℕ → ℕ
-  -- the function that an entity of the source is
+  -- the function that an entity of the source is, and whether a source of the program defines it
   pub function : ℕ → ℕ
+  pub is_defined : ℕ → Bool

@@ -1,5 +1,5 @@
 -- How the tables of a source say what its numbers stand for.
-use Rattle.std.specs.Prelude.{ℕ, ◌+◌, ◌<◌, ◌^◌, All, List, get_or, slice_get}
+use Rattle.std.specs.Prelude.{ℕ, slice_get, ◌+◌, ◌<◌, ◌^◌, false, All, List, get_or, Option, None, Some, if◌then◌else◌}
 use Rattle.std.specs.Option.{option_map_or}
 use Rattle.lk_base.specs.declared.cell.CellStep.{CellStep}
 use Rattle.lk_base.specs.declared.cell.CellStep.TheVariants.{Field, Index}
@@ -11,7 +11,7 @@ use Rattle.lk_lower_expr.specs.declared.names.SourceNames.{SourceNames}
 use Rattle.lk_typed.specs.declared.expression.Storage.{Storage}
 use Rattle.lk_typed.specs.declared.expression.Storage.TheVariants.{Entity, Local}
 use Rattle.lk_typed.specs.declared.expression.TypedExpr.{TypedExpr}
-use Rattle.lk_types.specs.Table.{Table, type_at, fields_of}
+use Rattle.lk_types.specs.Table.{Table, members_of, type_at}
 use Rattle.lk_types.specs.declared.c_type.CType.{CType}
 use Rattle.lk_types.specs.declared.c_type.CType.TheVariants.{Void, Int, ThreadId, Mutex, Cond, Pointer, Array, Struct, Function, Opaque}
 
@@ -27,18 +27,48 @@ element_of (Struct s) t = t
 element_of (Function result params dots) t = t
 element_of (Opaque n) t = t
 
+-- of a struct the type of a member
+abbrev pub member_type : Table → (struct k t : ℕ) → ℕ
+member_type table struct k t = option_map_or (λ member. member.ty) (slice_get (members_of table struct) k) t
+
+abbrev member_of : Table → CType → (k t : ℕ) → ℕ
+member_of table Void k t = t
+member_of table (Int kind) k t = t
+member_of table ThreadId k t = t
+member_of table Mutex k t = t
+member_of table Cond k t = t
+member_of table (Pointer u) k t = t
+member_of table (Array u n) k t = t
+member_of table (Struct s) k t = member_type table s k t
+member_of table (Function result params dots) k t = t
+member_of table (Opaque n) k t = t
+
 -- the type of a part; a type has no other parts than its members or its elements
 abbrev pub part_type : Table → ℕ → CellStep → ℕ
-part_type table t (Field k) = get_or (fields_of table (type_at table t)) k t
+part_type table t (Field k) = member_of table (type_at table t) k t
 part_type table t (Index i) = element_of (type_at table t) t
 
+-- a local of the body, and what stands for one past the last of them
+abbrev pub no_local : LocalNames
+no_local = record { ordinal = 0; spot = record { file = 0; line = 0; col = 0 }; ty = 0; is_slot = false; number = 0 }
+
+abbrev pub local_of : List LocalNames → ℕ → LocalNames
+local_of locals n = get_or locals n no_local
+
+abbrev pub node_of_local : LocalNames → Node
+node_of_local local = record { ordinal = local.ordinal; spot = local.spot; type = local.ty }
+
 abbrev pub local_number : List LocalNames → ℕ → ℕ
-local_number locals n = option_map_or (λ local. local.number) (slice_get locals n) 0
+local_number locals n = (local_of locals n).number
+
+abbrev pub slot_of_local : LocalNames → Option ℕ
+slot_of_local local = if local.is_slot then Some local.number else None
+
+abbrev pub slot_of : List LocalNames → ℕ → Option ℕ
+slot_of locals n = slot_of_local (local_of locals n)
 
 abbrev pub declared_node : List LocalNames → ℕ → Node
-declared_node locals n =
-    option_map_or (λ local. record { ordinal = local.ordinal; spot = local.spot; type = local.ty }) (slice_get locals n)
-    (record { ordinal = 0; spot = record { file = 0; line = 0; col = 0 }; type = 0 })
+declared_node locals n = node_of_local (local_of locals n)
 
 abbrev pub object_of : SourceNames → Storage → ℕ
 object_of source (Entity n) = get_or source.entities n 0
@@ -64,8 +94,9 @@ names_of table source = record {
   hidden = λ node. get_or source.by_node node 0;
   inside = part_type table;
   declared = declared_node source.locals;
-  slot = local_number source.locals;
+  slot = slot_of source.locals;
   function = λ n. get_or source.entities n 0;
+  is_defined = λ n. get_or source.defined n false;
 }
 
 abbrev pub part_in : Table → SourceNames → TypedExpr → Part

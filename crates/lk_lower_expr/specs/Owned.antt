@@ -9,7 +9,6 @@ use Rattle.lk_typed.specs.declared.initialiser.LocalValue.{LocalValue}
 use Rattle.lk_typed.specs.declared.initialiser.LocalValue.TheVariants as value
 use Rattle.lk_typed.specs.declared.initialiser.StaticPart.{StaticPart}
 use Rattle.lk_typed.specs.declared.statement.LocalInit.{LocalInit}
-use Rattle.lk_typed.specs.declared.statement.LocalInit.TheVariants as init
 use Rattle.lk_typed.specs.declared.statement.TypedFirst.{TypedFirst}
 use Rattle.lk_typed.specs.declared.statement.TypedFirst.TheVariants as for_first
 use Rattle.lk_typed.specs.declared.statement.TypedItem.TheFolds.{fold-TypedStmt}
@@ -84,7 +83,6 @@ module _ (form : ℕ → CType) where
 
   abbrev of_form : TypedForm-F (List Owned) Finder Finder (List Owned) → Finder
   of_form (TypedForm-F.Object storage) node = []
-  of_form (TypedForm-F.Slot local) node = []
   of_form (TypedForm-F.Text bytes) node = text node bytes ∷ []
   of_form (TypedForm-F.Member a k) node = a
   of_form (TypedForm-F.Arrow a k) node = a
@@ -138,8 +136,7 @@ module _ (form : ℕ → CType) where
 
   abbrev of_inits : List LocalInit → List Owned
   of_inits [] = []
-  of_inits (init.Slot local e ∷ others) = owned e ++ of_inits others
-  of_inits (init.Object local named absent ∷ others) = of_parts named ++ of_inits others
+  of_inits (one ∷ others) = of_parts one.named ++ of_inits others
 
   abbrev of_first : TypedFirst → List Owned
   of_first (for_first.Expr e) = owned_in e

@@ -1,5 +1,5 @@
 -- The steps of each form of expression (C99 6.5).
-use Rattle.std.specs.Prelude.{ℕ, ℤ, pos, ◌++◌, Bool, true, false, List, [], ◌∷◌, None, Some, ◌||◌, nat_eq, if◌then◌else◌}
+use Rattle.std.specs.Prelude.{ℕ, ℤ, pos, ◌++◌, Bool, true, false, List, [], ◌∷◌, Option, None, Some, ◌||◌, nat_eq, if◌then◌else◌}
 use Rattle.lk_arith.specs.declared.operators.Op.{Op}
 use Rattle.lk_arith.specs.declared.operators.Op.TheVariants as op
 use Rattle.lk_arith.specs.declared.operators.UnaryOp.{UnaryOp}
@@ -15,6 +15,7 @@ use Rattle.lk_tree.specs.declared.operators.StepOperator.TheVariants.{Increment,
 use Rattle.lk_typed.specs.declared.expression.Change.{Change}
 use Rattle.lk_typed.specs.declared.expression.Change.TheVariants.{After, Before}
 use Rattle.lk_typed.specs.declared.expression.Storage.{Storage}
+use Rattle.lk_typed.specs.declared.expression.Storage.TheVariants as storage
 use Rattle.lk_types.specs.Predeclared.{kind_id}
 use Rattle.lk_types.specs.declared.c_type.CType.{CType}
 use Rattle.lk_types.specs.declared.c_type.CType.TheVariants.{Void, Int, ThreadId, Mutex, Cond, Pointer, Array, Struct, Function, Opaque}
@@ -30,6 +31,11 @@ is_pointer (Array t n) = false
 is_pointer (Struct s) = false
 is_pointer (Function result params dots) = false
 is_pointer (Opaque n) = false
+
+-- the slot that a name stands for: a local may be one
+abbrev pub slot_named : (slot : ℕ → Option ℕ) → Storage → Option ℕ
+slot_named slot (storage.Entity e) = None
+slot_named slot (storage.Local l) = slot l
 
 -- what `++` and `--` compute
 abbrev pub operator_of : StepOperator → Op
@@ -57,6 +63,13 @@ module _ (names : Names) where
 
   abbrev pub object_part : Node → Storage → Part
   object_part node storage = parts.then_one names node [] (does.Root (names.object storage)) (parts.pointer_to names node.type)
+
+  abbrev pub name_of : Option ℕ → Node → Storage → Part
+  name_of None node storage = object_part node storage
+  name_of (Some slot) node storage = parts.slot_part names node slot
+
+  abbrev pub name_part : Node → Storage → Part
+  name_part node storage = name_of (slot_named names.slot storage) node storage
 
   abbrev pub text_part : Node → Part
   text_part node = parts.then_one names node [] (does.Text (names.text node.ordinal)) (parts.pointer_to names node.type)

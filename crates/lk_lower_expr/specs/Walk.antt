@@ -2,7 +2,7 @@
 use Rattle.std.specs.Prelude.{◌≡◌, ℕ, List, ◌∷◌, ◌++◌, length}
 use Rattle.lk_lower_expr.specs.declared.step.Step.{Step}
 
--- the steps of a construct, node by node: each node before the nodes inside it, and those in the order of the text
+-- the steps of a construct, node by node, in any order: a name says where a step stands
 pub data Walk : Type 0 where
   nothing : Walk
   -- the steps of one node, in their order

@@ -92,9 +92,8 @@ pub fn first_of(table: &TypeTable, names: &SourceNames, e: &TypedExpr) -> Result
         TypedForm::Call(Callee::Pointer(function), _) => first_of(table, names, function.get()),
         TypedForm::Library(call) => library_first(table, names, call, e),
         TypedForm::Extern(_, args) => operands_first(table, names, args.list(), node),
-        TypedForm::Object(_)
-        | TypedForm::Slot(_)
-        | TypedForm::Text(_)
+        TypedForm::Object(_) => Ok(names.at(node, 0)),
+        TypedForm::Text(_)
         | TypedForm::Number(_)
         | TypedForm::Function(_)
         | TypedForm::Size(_)

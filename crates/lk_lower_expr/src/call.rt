@@ -63,8 +63,8 @@ pub(crate) fn call_steps(
     }
 }
 
-/// The step of a call of a function that touches nothing.
-pub(crate) fn extern_steps(
+/// The step of a call that touches nothing.
+pub(crate) fn compute_steps(
     alloc: Global,
     table: &TypeTable,
     names: &SourceNames,
@@ -74,7 +74,7 @@ pub(crate) fn extern_steps(
 ) -> Result<Vec<Step>, NoMemory>
     requires { AreFew names.now }
     ensures { IfOk result (λ steps.
-        steps.items ≡ (calls.extern_part (names_of table.now names.now) (node_of e.now)
+        steps.items ≡ (calls.compute_part (names_of table.now names.now) (node_of e.now)
         (map (part_in table.now names.now) operands.now)).steps on) }
 {
     let does = Action::Compute {
@@ -83,4 +83,28 @@ pub(crate) fn extern_steps(
         equal: false,
     };
     one_step(alloc, does, value_type(table, names, e.ty), e.spot, on)
+}
+
+/// The step of a call of a function that `--externs` names: of the function where a source defines it.
+pub(crate) fn extern_steps(
+    alloc: Global,
+    table: &TypeTable,
+    names: &SourceNames,
+    e: &TypedExpr,
+    entity: u32,
+    operands: &[TypedExpr],
+    on: u32,
+) -> Result<Vec<Step>, NoMemory>
+    requires { AreFew names.now }
+    ensures { IfOk result (λ steps.
+        steps.items ≡ (calls.extern_part (names_of table.now names.now) (node_of e.now) entity
+        (map (part_in table.now names.now) operands.now)).steps on) }
+{
+    if !names.is_defined(entity) {
+        return compute_steps(alloc, table, names, e, operands, on);
+    }
+    let function = names.entity_number(entity);
+    let args = values_of(alloc, table, names, operands)?;
+    let gives = value_type(table, names, e.ty);
+    one_step(alloc, Action::Call { function, args }, gives, e.spot, on)
 }

@@ -14,8 +14,8 @@ use lk_typed::{Storage, TypedExpr};
 use lk_types::TypeTable;
 use std::alloc::Global;
 
-/// The step of the name of an object.
-pub(crate) fn object_steps(
+/// The step of the name of an object that is no slot.
+fn object_steps(
     alloc: Global,
     table: &TypeTable,
     names: &SourceNames,
@@ -28,6 +28,24 @@ pub(crate) fn object_steps(
 {
     let does = Action::Root(names.object_number(storage));
     one_step(alloc, does, Some(names.pointer_number(e.ty)), e.spot, on)
+}
+
+/// The steps of a name: a slot has none.
+pub(crate) fn name_steps(
+    alloc: Global,
+    table: &TypeTable,
+    names: &SourceNames,
+    e: &TypedExpr,
+    storage: Storage,
+    on: u32,
+) -> Result<Vec<Step>, NoMemory>
+    ensures { IfOk result (λ steps.
+        steps.items ≡ (rules.name_part (names_of table.now names.now) (node_of e.now) storage).steps on) }
+{
+    match names.slot(storage) {
+        None => object_steps(alloc, table, names, e, storage, on),
+        Some(_) => Ok(Vec::new(alloc)),
+    }
 }
 
 /// The step of a string literal.

@@ -7,7 +7,7 @@ ghost use Rattle.lk_lower_expr.specs.Library as calls;
 ghost use Rattle.lk_lower_expr.specs.Parts as parts;
 ghost use Rattle.lk_lower_expr.specs.Naming.{names_of, node_of, part_in, AreFew};
 
-use crate::call::extern_steps;
+use crate::call::compute_steps;
 use crate::make::{one_step, step, value_type};
 use crate::names::SourceNames;
 use crate::print::{print_steps, scan_steps};
@@ -253,6 +253,6 @@ pub(crate) fn library_steps(
             args.list(),
             on,
         ),
-        LibraryCall::Compute(args) => extern_steps(alloc, table, names, e, args.list(), on),
+        LibraryCall::Compute(args) => compute_steps(alloc, table, names, e, args.list(), on),
     }
 }

@@ -63,7 +63,7 @@ pub(crate) fn int_step(
 }
 
 /// The type of a value: void has none.
-pub(crate) fn value_type(table: &TypeTable, names: &SourceNames, ty: TypeId) -> Option<TypeId>
+pub fn value_type(table: &TypeTable, names: &SourceNames, ty: TypeId) -> Option<TypeId>
     ensures { result ≡ parts.value_of (names_of table.now names.now) ty }
 {
     if ty.0 >= table.count() {

@@ -1,7 +1,8 @@
 //! What the numbers of a typed tree stand for in the program.
 
-ghost use Rattle.std.specs.Prelude.{◌≡◌, ◌<◌, ◌^◌, get_or};
-ghost use Rattle.lk_lower_expr.specs.Naming.{at_of, local_number, object_of, AreFew};
+ghost use Rattle.std.specs.Prelude.{◌≡◌, ◌<◌, ◌^◌, false, get_or};
+ghost use Rattle.lk_lower_expr.specs.Naming.{at_of, local_of, object_of, slot_of, slot_of_local, AreFew};
+ghost use Rattle.lk_lower_expr.specs.Values.{slot_named};
 
 use lk_base::{Seq, Spot};
 use lk_typed::Storage;
@@ -16,8 +17,23 @@ pub struct LocalNames {
     pub spot: Spot,
     /// The source's number of its type.
     pub ty: TypeId,
+    /// Whether it is a slot.
+    pub is_slot: bool,
     /// The number of its slot, or of its root.
     pub number: u32,
+}
+
+impl LocalNames {
+    /// Its slot, where it is one.
+    pub fn slot(self) -> Option<u32>
+        ensures { result ≡ slot_of_local self }
+    {
+        if self.is_slot {
+            Some(self.number)
+        } else {
+            None
+        }
+    }
 }
 
 /// What the numbers of a source and of one of its bodies stand for in the program.
@@ -33,9 +49,24 @@ pub struct SourceNames {
     pub pointers: Seq<TypeId>,
     /// The root of each entity that is an object, and the function of each that is a function.
     pub entities: Seq<u32>,
+    /// Whether a source of the program defines each entity.
+    pub defined: Seq<bool>,
     /// The locals of the body.
     pub locals: Seq<LocalNames>,
 }
+
+/// What stands for a local past the last one.
+const NO_LOCAL: LocalNames = LocalNames {
+    ordinal: 0,
+    spot: Spot {
+        file: 0,
+        line: 0,
+        col: 0,
+    },
+    ty: TypeId(0),
+    is_slot: false,
+    number: 0,
+};
 
 impl SourceNames {
     /// The number of a step of a node.
@@ -50,13 +81,33 @@ impl SourceNames {
         }
     }
 
-    /// The slot or the root of a local; 0 past the last one.
-    pub fn local_number(&self, local: u32) -> u32
-        ensures { result ≡ local_number self.now.locals local }
+    /// A local of the body; past the last one no slot, and zeros.
+    pub fn local(&self, local: u32) -> LocalNames
+        ensures { result ≡ local_of self.now.locals local }
     {
         match self.locals.list().get(local as usize) {
-            Some(names) => names.number,
-            None => 0,
+            Some(names) => *names,
+            None => NO_LOCAL,
+        }
+    }
+
+    /// The slot that a name stands for, where it stands for one.
+    pub fn slot(&self, storage: Storage) -> Option<u32>
+        ensures { result ≡ slot_named (slot_of self.now.locals) storage }
+    {
+        match storage {
+            Storage::Entity(_) => None,
+            Storage::Local(local) => self.local(local).slot(),
+        }
+    }
+
+    /// Whether a source of the program defines an entity of the source.
+    pub fn is_defined(&self, entity: u32) -> bool
+        ensures { result ≡ get_or self.now.defined entity false }
+    {
+        match self.defined.list().get(entity as usize) {
+            Some(defined) => *defined,
+            None => false,
         }
     }
 
@@ -66,7 +117,7 @@ impl SourceNames {
     {
         match storage {
             Storage::Entity(entity) => self.entity_number(entity),
-            Storage::Local(local) => self.local_number(local),
+            Storage::Local(local) => self.local(local).number,
         }
     }
 

@@ -6,8 +6,8 @@ use crate::assign::assign_steps;
 use crate::call::{call_steps, extern_steps};
 use crate::change::{change_steps, compound_steps};
 use crate::compute::{
-    binary_steps, function_steps, index_steps, member_steps, null_steps, number_steps,
-    object_steps, text_steps, unary_steps,
+    binary_steps, function_steps, index_steps, member_steps, name_steps, null_steps, number_steps,
+    text_steps, unary_steps,
 };
 use crate::convert::{convert_step, element_step, load_step};
 use crate::decide::{and_steps, choice_steps, or_steps};
@@ -37,7 +37,7 @@ pub fn own_steps(
     ensures { IfOk result (λ steps. steps.items ≡ (part_in table.now names.now e.now).steps on) }
 {
     match &e.form {
-        TypedForm::Object(storage) => object_steps(alloc, table, names, e, *storage, on),
+        TypedForm::Object(storage) => name_steps(alloc, table, names, e, *storage, on),
         TypedForm::Text(_) => text_steps(alloc, table, names, e, on),
         TypedForm::Member(a, k) => member_steps(alloc, table, names, e, a.get(), *k, on),
         TypedForm::Arrow(a, k) => member_steps(alloc, table, names, e, a.get(), *k, on),
@@ -66,10 +66,11 @@ pub fn own_steps(
             call_steps(alloc, table, names, e, callee, args.list(), on)
         }
         TypedForm::Library(call) => library_steps(alloc, table, names, e, call, on),
-        TypedForm::Extern(_, args) => extern_steps(alloc, table, names, e, args.list(), on),
+        TypedForm::Extern(entity, args) => {
+            extern_steps(alloc, table, names, e, *entity, args.list(), on)
+        }
         TypedForm::Paren(_) => Ok(Vec::new(alloc)),
-        TypedForm::Slot(_)
-        | TypedForm::Indirection(_)
+        TypedForm::Indirection(_)
         | TypedForm::Address(_)
         | TypedForm::Comma(_, _)
         | TypedForm::Discard(_) => Ok(Vec::new(alloc)),

@@ -17,6 +17,17 @@ pub struct Step {
     pub spot: Spot,
 }
 
+/// A step of a declared name before it has a number.
+#[derive(Drop)]
+pub struct Deed {
+    /// What it does.
+    pub does: Action,
+    /// The type of its value, where it gives one.
+    pub gives: Option<TypeId>,
+    /// The point at which control comes to it, unless that is the step itself.
+    pub comes: Option<u32>,
+}
+
 /// A step with its name.
 #[derive(Drop)]
 pub struct NamedStep {

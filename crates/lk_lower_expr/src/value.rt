@@ -5,11 +5,11 @@ ghost use Rattle.lk_lower_expr.specs.Values as rules;
 ghost use Rattle.lk_types.specs.Table.{type_at};
 ghost use Rattle.lk_lower_expr.specs.Expressions.{library_part};
 ghost use Rattle.lk_lower_expr.specs.Library as calls;
-ghost use Rattle.lk_lower_expr.specs.Naming.{at_of, names_of, node_of, part_in, AreFew};
+ghost use Rattle.lk_lower_expr.specs.Naming.{at_of, names_of, node_of, part_in, slot_of, AreFew};
 
 use crate::names::SourceNames;
 use lk_base::{Kind, NoMemory};
-use lk_typed::{Change, LibraryCall, TypedExpr, TypedForm};
+use lk_typed::{Change, LibraryCall, Storage, TypedExpr, TypedForm};
 use lk_types::{CType, TypeId, TypeTable};
 
 /// The slot that an expression names, where it names one.
@@ -18,13 +18,12 @@ pub fn slot_of(table: &TypeTable, names: &SourceNames, e: &TypedExpr) -> Option<
     ensures { result ≡ (part_in table.now names.now e.now).slot }
 {
     match &e.form {
-        TypedForm::Slot(local) => Some(names.local_number(*local)),
+        TypedForm::Object(storage) => names.slot(*storage),
         TypedForm::Paren(inner) => slot_of(table, names, inner.get()),
         TypedForm::Choice(_, _, _) => None,
         TypedForm::Compound(_, _, _, _) => None,
         TypedForm::Step(_, _, _, _) => None,
-        TypedForm::Object(_)
-        | TypedForm::Text(_)
+        TypedForm::Text(_)
         | TypedForm::Member(_, _)
         | TypedForm::Arrow(_, _)
         | TypedForm::Index(_, _)
@@ -160,6 +159,16 @@ pub(crate) fn text_count(table: &TypeTable, args: &[TypedExpr]) -> Result<u32, N
     Ok(count)
 }
 
+/// How many steps the name of an object has: a slot has none.
+fn name_count(names: &SourceNames, storage: Storage) -> u32
+    ensures { result ≡ counts.name_count (rules.slot_named (slot_of names.now.locals) storage) }
+{
+    match names.slot(storage) {
+        None => 1,
+        Some(_) => 0,
+    }
+}
+
 /// How many steps of its own the node of an expression has.
 #[tactic(auto, unfolding(crate::specs::Expressions::part))]
 pub fn count_of(table: &TypeTable, names: &SourceNames, e: &TypedExpr) -> Result<u32, NoMemory>
@@ -185,13 +194,12 @@ pub fn count_of(table: &TypeTable, names: &SourceNames, e: &TypedExpr) -> Result
         TypedForm::Paren(_) => Ok(0),
         TypedForm::Call(_, _) => Ok(1),
         TypedForm::Library(call) => library_count(table, names, call, e),
-        TypedForm::Slot(_)
-        | TypedForm::Indirection(_)
+        TypedForm::Object(storage) => Ok(name_count(names, *storage)),
+        TypedForm::Indirection(_)
         | TypedForm::Address(_)
         | TypedForm::Comma(_, _)
         | TypedForm::Discard(_) => Ok(0),
-        TypedForm::Object(_)
-        | TypedForm::Text(_)
+        TypedForm::Text(_)
         | TypedForm::Member(_, _)
         | TypedForm::Arrow(_, _)
         | TypedForm::Index(_, _)
@@ -323,9 +331,8 @@ pub fn value_of(table: &TypeTable, names: &SourceNames, e: &TypedExpr) -> Result
         },
         TypedForm::Call(_, _) => Ok(names.at(node, 0)),
         TypedForm::Library(_) => Ok(names.at(node, 0)),
-        TypedForm::Object(_)
-        | TypedForm::Slot(_)
-        | TypedForm::Text(_)
+        TypedForm::Object(_) => Ok(names.at(node, 0)),
+        TypedForm::Text(_)
         | TypedForm::Member(_, _)
         | TypedForm::Arrow(_, _)
         | TypedForm::Index(_, _)

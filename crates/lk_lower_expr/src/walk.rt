@@ -7,7 +7,7 @@ ghost use Rattle.lk_lower_expr.specs.Parts.{goes, in_turn, place_of};
 
 use crate::begin::{first_of, operands_first};
 use crate::decide::way_on;
-use crate::lay::lay;
+use crate::layout::lay;
 use crate::names::SourceNames;
 use crate::own::own_steps;
 use crate::step::NamedStep;
@@ -100,9 +100,8 @@ fn push_inside(
     let node = e.ordinal;
     let own = names.at(node, 0);
     match &e.form {
-        TypedForm::Object(_)
-        | TypedForm::Slot(_)
-        | TypedForm::Text(_)
+        TypedForm::Object(_) => Ok(()),
+        TypedForm::Text(_)
         | TypedForm::Number(_)
         | TypedForm::Function(_)
         | TypedForm::Size(_)

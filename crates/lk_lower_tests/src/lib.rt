@@ -3,3 +3,9 @@
 
 #[cfg(test)]
 mod expressions;
+#[cfg(test)]
+mod rows;
+#[cfg(test)]
+mod statements;
+#[cfg(test)]
+mod trees;

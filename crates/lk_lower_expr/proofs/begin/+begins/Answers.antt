@@ -1,4 +1,5 @@
 use Rattle.std.proofs.Common.{sym, ap, ◌∙◌}
+use Rattle.lk_lower_expr.proofs.Named.{name_first}
 use Rattle.lk_lower_expr.proofs.Begun.{as_other, choice_first, compound_first, step_first, paren_first, library_first}
 use Rattle.lk_lower_expr.specs.Counts.{place_first}
 use Rattle.lk_lower_expr.specs.Naming.{names_of, part_in}
@@ -22,3 +23,6 @@ first_of-returns-in-Step t c =
 
 pub first_of-returns-in-Library : goal.first_of-returns-in-Library
 first_of-returns-in-Library t c = as_other _ _ _ (sym (library_first _ _ _ c.in-Library.is)) c.library_first.ensures
+
+pub first_of-returns-in-Object : goal.first_of-returns-in-Object
+first_of-returns-in-Object t c = c.at.ensures ∙ sym (name_first _ _ _ c.in-Object.is)

@@ -8,7 +8,7 @@ use Rattle.lk_typed.specs.declared.expression.TypedForm.TheVariants as form
 use Rattle.lk_lower_expr.proofs.own.+own_steps.Goals as goal
 
 pub returns-in-Object : goal.returns-in-Object
-returns-in-Object t c = rw (as_form (names_of c.args.table.now c.args.names.now) c.args.e.now (form.Object c.in-Object.storage) _ c.in-Object.is (of_Object (names_of c.args.table.now c.args.names.now) c.in-Object.storage)) c.object_steps.ensures
+returns-in-Object t c = rw (as_form (names_of c.args.table.now c.args.names.now) c.args.e.now (form.Object c.in-Object.storage) _ c.in-Object.is (of_Object (names_of c.args.table.now c.args.names.now) c.in-Object.storage)) c.name_steps.ensures
 
 pub returns-in-Text : goal.returns-in-Text
 returns-in-Text t c = rw (as_form (names_of c.args.table.now c.args.names.now) c.args.e.now (form.Text c.in-Text.field-0) _ c.in-Text.is (of_Text (names_of c.args.table.now c.args.names.now) c.in-Text.field-0)) c.text_steps.ensures
@@ -62,7 +62,7 @@ pub returns-in-Library : goal.returns-in-Library
 returns-in-Library t c = rw (as_form (names_of c.args.table.now c.args.names.now) c.args.e.now (form.Library c.in-Library.call) _ c.in-Library.is (of_Library (names_of c.args.table.now c.args.names.now) c.in-Library.call)) c.library_steps.ensures
 
 pub returns-in-Extern : goal.returns-in-Extern
-returns-in-Extern t c = rw (as_form (names_of c.args.table.now c.args.names.now) c.args.e.now (form.Extern c.in-Extern.field-0 c.in-Extern.args) _ c.in-Extern.is (of_Extern (names_of c.args.table.now c.args.names.now) c.in-Extern.field-0 c.in-Extern.args), sym c.list-in-Extern.ensures) c.extern_steps.ensures
+returns-in-Extern t c = rw (as_form (names_of c.args.table.now c.args.names.now) c.args.e.now (form.Extern c.in-Extern.entity c.in-Extern.args) _ c.in-Extern.is (of_Extern (names_of c.args.table.now c.args.names.now) c.in-Extern.entity c.in-Extern.args), sym c.list-in-Extern.ensures) c.extern_steps.ensures
 
 pub returns-in-Step : goal.returns-in-Step
 returns-in-Step t c = rw (change_steps (names_of c.args.table.now c.args.names.now) c.args.on c.args.e.now c.in-Step.operator c.in-Step.field-1 c.in-Step.a c.in-Step.ty c.in-Step.is, sym c.get-in-Step.ensures) c.change_steps.ensures

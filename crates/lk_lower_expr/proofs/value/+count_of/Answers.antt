@@ -1,4 +1,5 @@
 use Rattle.std.proofs.Common.{◌≡◌, IfOk, sym, subst, ◌∙◌}
+use Rattle.lk_lower_expr.proofs.Named.{name_counts}
 use Rattle.lk_lower_expr.proofs.Chosen.{choice_counts, compound_counts, step_counts, library_counts}
 use Rattle.lk_lower_expr.proofs.value.+count_of.Goals as goal
 
@@ -13,3 +14,6 @@ returns-in-Step t c = rw (c.step_count.ensures, c.get-in-Step.ensures) (sym (ste
 
 pub returns-in-Library : goal.returns-in-Library
 returns-in-Library t c = subst (λ n. IfOk c.library_count.result (λ count. count ≡ n)) (sym (library_counts _ _ _ c.in-Library.is)) c.library_count.ensures
+
+pub returns-in-Object : goal.returns-in-Object
+returns-in-Object t c = c.name_count.ensures ∙ sym (name_counts _ _ _ c.in-Object.is)

@@ -1,3 +1,5 @@
+use Rattle.std.proofs.Common.{sym, ◌∙◌}
+use Rattle.lk_lower_expr.proofs.Named.{name_slot}
 use Rattle.lk_lower_expr.proofs.Chosen.{choice_at, compound_at, step_at}
 use Rattle.lk_lower_expr.proofs.value.+slot_of.Goals as goal
 
@@ -9,3 +11,6 @@ returns-in-Compound t c = compound_at _ _ _ _ _ _ c.in-Compound.is
 
 pub returns-in-Step : goal.returns-in-Step
 returns-in-Step t c = step_at _ _ _ _ _ _ c.in-Step.is
+
+pub returns-in-Object : goal.returns-in-Object
+returns-in-Object t c = c.slot.ensures ∙ sym (name_slot _ _ _ c.in-Object.is)

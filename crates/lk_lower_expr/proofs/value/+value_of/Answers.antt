@@ -1,4 +1,5 @@
 use Rattle.std.proofs.Common.{sym, ap, ◌∙◌}
+use Rattle.lk_lower_expr.proofs.Named.{name_value}
 use Rattle.lk_lower_expr.proofs.Given.{choice_value, compound_value, read_value, written_value}
 use Rattle.lk_lower_expr.proofs.value.+value_of.Goals as goal
 use Rattle.lk_typed.specs.declared.expression.TypedForm.TheVariants as form
@@ -16,3 +17,6 @@ pub returns-in-Before : goal.returns-in-Before
 returns-in-Before t c =
     rw (c.at-in-Before.ensures, c.written_step.ensures.value, c.get-in-Before.ensures)
     (sym (written_value _ _ _ _ _ (c.in-Step.is ∙ ap (λ change. form.Step c.in-Step.field-0 change c.in-Step.place c.in-Step.ty) c.in-Before.is)))
+
+pub returns-in-Object : goal.returns-in-Object
+returns-in-Object t c = c.at-in-Object.ensures ∙ sym (name_value _ _ _ c.in-Object.is)

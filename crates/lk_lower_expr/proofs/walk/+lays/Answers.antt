@@ -1,5 +1,6 @@
 use Rattle.std.proofs.Common.{rules, refl, sym, ap, ◌∙◌, ◌-◌, drop, length}
 use Rattle.std.specs.Prelude.{map}
+use Rattle.lk_lower_expr.proofs.Named.{name_in}
 use Rattle.lk_lower_expr.proofs.Forms.{as_form, of_Address, of_And, of_Arrow, of_Binary, of_Comma, of_Convert, of_Decay, of_Discard, of_Extern, of_Index, of_Indirection, of_Library, of_Load, of_Member, of_Or, of_Unary}
 use Rattle.lk_lower_expr.proofs.Inside.{assign_in, change_in, choice_in, compound_in, paren_in}
 use Rattle.lk_lower_expr.proofs.Calls.{as_call, of_Create, of_Join, of_Detach, of_ExitThread, of_Init, of_Destroy, of_Lock, of_Unlock, of_Signal, of_Free, of_Scan, of_Equal, of_Wait, of_Print, of_Compute, of_Allocate, of_Exit}
@@ -138,3 +139,6 @@ push_operands-loop-k-preserved t c =
           sym (ap (λ xs. laid (in_turn (map (part names) xs) c.args.on) old) turn);
       next = c.in_ok-next.ensures ∙ sym (ap (λ xs. first_of (map (part names) xs) c.args.on) turn);
     }
+
+pub push_inside-returns-in-Object : goal.push_inside-returns-in-Object
+push_inside-returns-in-Object t c = sym (name_in (names_of c.args.table.now c.args.names.now) c.args.e.now _ c.args.on c.args.out.now.items c.in-Object.is)

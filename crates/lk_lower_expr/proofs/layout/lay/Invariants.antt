@@ -1,6 +1,6 @@
 use Rattle.std.proofs.Common.{◌≡◌}
 use Rattle.lk_lower_expr.specs.Laid.{laid_from}
-use Rattle.lk_lower_expr.proofs.lay.lay.Given as goal
+use Rattle.lk_lower_expr.proofs.layout.lay.Given as goal
 
 abbrev pub invariant-loop-is : goal.invariant-loop-is
 invariant-loop-is l = record {

@@ -6,7 +6,7 @@ use crate::step::{NamedStep, Step};
 use lk_base::NoMemory;
 
 /// Puts the steps of a node at the end of others, each with its name.
-pub(crate) fn lay(node: u32, steps: Vec<Step>, out: &mut Vec<NamedStep>) -> Result<(), NoMemory>
+pub fn lay(node: u32, steps: Vec<Step>, out: &mut Vec<NamedStep>) -> Result<(), NoMemory>
     ensures { OnOk result (out.new.items ≡ laid_from node 0 steps.items out.old.items) }
 {
     let mut step = 0;

@@ -1,0 +1,5 @@
+pub mod Deeds
+pub mod Loops
+pub mod Objects
+pub mod Rules
+pub mod Unlabelled
