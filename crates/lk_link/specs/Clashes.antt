@@ -59,7 +59,7 @@ IsMissingInside units clash = (unit : TypedUnit) × (slice_get units clash.sourc
 abbrev pub HaveGained : (old new : List Clash) → (Clash → Type 0) → Type 0
 HaveGained old new Is = (clash : Clash) → Contains new clash ↔ (Contains old clash ⊎ Is clash)
 
-module _ (units : Units) (externs : List (List ℕ)) where
+module _ (units : Units) where
   -- 61: an earlier source defines the name too (C99 6.9, 5); it stands at the first definition of the later source
   pub record IsDefinedTwice (clash : Clash) : Type 0 where
     pub earlier : ℕ
@@ -98,34 +98,35 @@ module _ (units : Units) (externs : List (List ℕ)) where
     pub spot : clash.spot ≡ later.spot
     pub code : clash.code ≡ TypesDiffer
 
-  -- the library has a function of this name (C99 7, POSIX pthread.h), or the list of extern functions names it
-  abbrev pub IsElsewhere : List ℕ → Entity → Type 0
-  IsElsewhere name entity = (library_function name ≡ None → ⊥) ⊎ ((entity.kind ≡ Function) × Contains externs name)
+  module _ (externs : List (List ℕ)) where
+    -- the library has a function of this name (C99 7, POSIX pthread.h), or the list of extern functions names it
+    abbrev pub IsElsewhere : List ℕ → Entity → Type 0
+    IsElsewhere name entity = (library_function name ≡ None → ⊥) ⊎ ((entity.kind ≡ Function) × Contains externs name)
 
-  -- 63: a name of external linkage is used that no source defines, nor anything else; it stands at its first use, in the order of the sources
-  pub record IsMissing (clash : Clash) : Type 0 where
-    pub number : ℕ
-    pub entity : Entity
-    pub of : IsEntity units clash.source number entity
-    pub named : entity.name ≡ clash.name
-    pub external : entity.linkage ≡ linkage.External
-    pub use_ : Use
-    pub used : entity.first_use ≡ Some use_
-    pub first : (s : ℕ) (other : Use) → s < clash.source → IsUsed units s clash.name other → ⊥
-    pub nowhere : (s : ℕ) → IsDefinedIn units s clash.name → ⊥
-    pub elsewhere : IsElsewhere clash.name entity → ⊥
-    pub ordinal : clash.ordinal ≡ use_.ordinal
-    pub spot : clash.spot ≡ use_.spot
-    pub code : clash.code ≡ NotDefined
+    -- 63: a name of external linkage is used that no source defines, nor anything else; it stands at its first use, in the order of the sources
+    pub record IsMissing (clash : Clash) : Type 0 where
+      pub number : ℕ
+      pub entity : Entity
+      pub of : IsEntity units clash.source number entity
+      pub named : entity.name ≡ clash.name
+      pub external : entity.linkage ≡ linkage.External
+      pub use_ : Use
+      pub used : entity.first_use ≡ Some use_
+      pub first : (s : ℕ) (other : Use) → s < clash.source → IsUsed units s clash.name other → ⊥
+      pub nowhere : (s : ℕ) → IsDefinedIn units s clash.name → ⊥
+      pub elsewhere : IsElsewhere clash.name entity → ⊥
+      pub ordinal : clash.ordinal ≡ use_.ordinal
+      pub spot : clash.spot ≡ use_.spot
+      pub code : clash.code ≡ NotDefined
 
-  -- the codes 61 to 63
-  pub data IsClash (clash : Clash) : Type 0 where
-    defined_twice : IsDefinedTwice clash → IsClash clash
-    types_differ : DiffersFrom clash → IsClash clash
-    library_differs : DiffersFromLibrary clash → IsClash clash
-    missing : IsMissing clash → IsClash clash
-    missing_inside : IsMissingInside units clash → IsClash clash
+    -- the codes 61 to 63
+    pub data IsClash (clash : Clash) : Type 0 where
+      defined_twice : IsDefinedTwice clash → IsClash clash
+      types_differ : DiffersFrom clash → IsClash clash
+      library_differs : DiffersFromLibrary clash → IsClash clash
+      missing : IsMissing clash → IsClash clash
+      missing_inside : IsMissingInside units clash → IsClash clash
 
-  -- the clash that is told where there is a `main`: no other comes before it
-  abbrev pub IsFirstClash : Clash → Type 0
-  IsFirstClash clash = IsClash clash × ((other : Clash) → IsClash other → IsToldBefore other clash → ⊥)
+    -- the clash that is told where there is a `main`: no other comes before it
+    abbrev pub IsFirstClash : Clash → Type 0
+    IsFirstClash clash = IsClash clash × ((other : Clash) → IsClash other → IsToldBefore other clash → ⊥)

@@ -1,7 +1,10 @@
+pub mod Absent
 pub mod Clashes
 pub mod Comparing
+pub mod Differing
 pub mod Joining
 pub mod Pairs
+pub mod Sites
 pub mod Sources
 pub mod Structs
 pub mod Tags

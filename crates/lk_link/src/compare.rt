@@ -84,7 +84,19 @@ fn compare_forms(
         | (CType::ThreadId, CType::ThreadId)
         | (CType::Mutex, CType::Mutex)
         | (CType::Cond, CType::Cond) => Ok(true),
-        _ => Ok(false),
+        (
+            CType::Pointer(_)
+            | CType::Array(_, _)
+            | CType::Struct(_)
+            | CType::Function { .. }
+            | CType::Int(_)
+            | CType::Opaque(_)
+            | CType::Void
+            | CType::ThreadId
+            | CType::Mutex
+            | CType::Cond,
+            _,
+        ) => Ok(false),
     }
 }
 

@@ -1,18 +1,29 @@
 //! The sources of a program put together.
 #![tactic(auto)]
 
+mod absent;
+mod again;
 mod clash;
 mod compare;
+mod differ;
+mod groups;
+mod leasts;
 mod missing;
+mod names;
 mod pairs;
 mod place;
 mod side;
+mod sites;
 mod sources;
 mod structs;
 mod tags;
 
+pub use absent::not_defined;
+pub use again::defined_twice;
 pub use clash::{Clash, first_told};
+pub use differ::types_differ;
 pub use missing::missing_inside;
+pub use names::Names;
 pub use place::{SizeRule, StructOf, StructPair, TypeOf};
 pub use sources::{are_sources, has_main};
 pub use structs::{are_declared_alike, have_no_difference};

@@ -62,14 +62,21 @@ pub fn are_sources(units: &[TypedUnit]) -> bool
     units.iter().all(|unit| is_source(unit))
 }
 
+/// Whether a declaration that defines this defines its name.
+pub(crate) fn defines(what: Defines) -> bool
+    ensures { IsTrue result ↔ IsDefining what }
+{
+    match what {
+        Defines::Nothing => false,
+        Defines::Tentative | Defines::Whole => true,
+    }
+}
+
 /// Whether a declaration defines its name.
 fn is_defining(declaration: &Declaration) -> bool
     ensures { IsTrue result ↔ IsDefining declaration.now.defines }
 {
-    match declaration.defines {
-        Defines::Nothing => false,
-        Defines::Tentative | Defines::Whole => true,
-    }
+    defines(declaration.defines)
 }
 
 /// Whether a source defines an entity that it declares.

@@ -2,6 +2,8 @@
 #![tactic(auto)]
 
 #[cfg(test)]
+mod external;
+#[cfg(test)]
 mod names;
 #[cfg(test)]
 mod sources;

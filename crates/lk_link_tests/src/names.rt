@@ -9,7 +9,7 @@ use std::rt::HostRuntime;
 use std::test::Fail;
 
 /// A function of a source: its name, its linkage, what its declaration defines, and whether it is used.
-type Function = (&'static str, Linkage, Defines, bool);
+pub type Function = (&'static str, Linkage, Defines, bool);
 
 /// A function, whether a source with it alone has a `main`, and whether the function is used and not defined there.
 const FUNCTIONS: [(Function, bool, bool); 7] = [
@@ -53,15 +53,15 @@ const SPOT: Spot = Spot {
     col: 1,
 };
 
-/// A source with one function.
-fn source_of(alloc: Global, function: Function) -> Result<TypedUnit, NoMemory> {
+/// A source with one function, declared with this type.
+pub fn source_of(alloc: Global, function: Function, ty: TypeId) -> Result<TypedUnit, NoMemory> {
     let (text, linkage, defines, is_used) = function;
     let mut unit = source(alloc, &[])?;
     let mut declarations = Vec::new(alloc);
     declarations.push(Declaration {
         spot: SPOT,
         ordinal: 1,
-        ty: TypeId::INT,
+        ty,
         defines,
     })?;
     if let Some(name) = name(alloc, text) {
@@ -88,7 +88,7 @@ fn source_of(alloc: Global, function: Function) -> Result<TypedUnit, NoMemory> {
 /// Whether a source with this function has a `main`, and how many functions are missing in it.
 fn found(alloc: Global, function: Function) -> Result<Option<(bool, usize)>, NoMemory> {
     let mut units = Vec::new(alloc);
-    units.push(source_of(alloc, function)?)?;
+    units.push(source_of(alloc, function, TypeId::INT)?)?;
     if units.len() > 64 {
         return Ok(None);
     }
@@ -99,8 +99,8 @@ fn found(alloc: Global, function: Function) -> Result<Option<(bool, usize)>, NoM
 /// The source in which the clash stands that is told of two sources, each with this function.
 fn told_source(alloc: Global, function: Function) -> Result<Option<u32>, NoMemory> {
     let mut units = Vec::new(alloc);
-    units.push(source_of(alloc, function)?)?;
-    units.push(source_of(alloc, function)?)?;
+    units.push(source_of(alloc, function, TypeId::INT)?)?;
+    units.push(source_of(alloc, function, TypeId::INT)?)?;
     if units.len() > 64 {
         return Ok(None);
     }
