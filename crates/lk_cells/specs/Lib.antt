@@ -1,6 +1,5 @@
 pub mod Cells
 pub mod Computing
-pub mod Converting
 pub mod Frames
 pub mod Moves
 pub mod Operands

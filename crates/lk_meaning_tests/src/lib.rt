@@ -15,6 +15,4 @@ mod scenes;
 #[cfg(test)]
 mod steps;
 #[cfg(test)]
-mod turns;
-#[cfg(test)]
 mod values;
