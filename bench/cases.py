@@ -17,7 +17,8 @@ def main():
     used = {"cases.txt"}
     for name, *words in lines:
         used.update([f"{name}.out", f"{name}.err"], (word for word in words if word.endswith(".c")))
-    unused = sorted(set(os.listdir(DATA)) - used)
+    files = {os.path.relpath(os.path.join(folder, name), DATA) for folder, _, names in os.walk(DATA) for name in names}
+    unused = sorted(files - used)
     for file in unused:
         print(f"no case has {file}")
     names = [name for name, *_ in lines]

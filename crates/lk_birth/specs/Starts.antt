@@ -1,5 +1,5 @@
 -- The first state of a program: its objects of static storage, and the thread that runs main (C99 5.1.2.2.1, 6.2.4, 6.7.8).
-use Rattle.std.specs.Prelude.{ℕ, ℤ, zero, suc, ◌+◌, ◌<◌, ◌^◌, Bool, true, false, List, [], ◌∷◌, ◌++◌, map, fold, length, Option, None, Some, slice_get, option_and_then, nat_eq, pos, unwrap_or}
+use Rattle.std.specs.Prelude.{ℕ, zero, suc, ◌+◌, ◌<◌, ◌^◌, Bool, true, false, List, [], ◌∷◌, ◌++◌, map, fold, length, Option, None, Some, slice_get, option_and_then, pos}
 use Rattle.std.specs.List.{enumerate_from, position_from}
 use Rattle.std.specs.Option.{option_map, option_map_or}
 use Rattle.lk_arith.specs.Conversions.{convert}
@@ -13,13 +13,11 @@ use Rattle.lk_facts.specs.declared.root.Root.{Root}
 use Rattle.lk_facts.specs.declared.root.RootKind.{RootKind}
 use Rattle.lk_facts.specs.declared.root.RootKind.TheVariants as sort
 use Rattle.lk_types.specs.declared.c_type.CType.{CType}
-use Rattle.lk_types.specs.declared.c_type.CType.TheVariants as type
-use Rattle.lk_base.specs.declared.cell.CellStep.{CellStep}
 use Rattle.lk_base.specs.declared.cell.CellStep.TheVariants.{Index}
 use Rattle.lk_values.specs.Pointers.{pointer_to, pointer_past}
 use Rattle.lk_values.specs.declared.value.Value.{Value}
 use Rattle.lk_values.specs.declared.value.Value.TheVariants.{Number, Pointer, Function, Null}
-use Rattle.lk_cells.specs.Cells.{new_object, form_at, with_value, object_of_root}
+use Rattle.lk_cells.specs.Cells.{new_object, form_at, number_of_type, with_value, object_of_root}
 use Rattle.lk_cells.specs.declared.object.Initial.TheVariants as initial
 use Rattle.lk_cells.specs.declared.object.Object.{Object}
 use Rattle.lk_cells.specs.declared.state.State.{State}
@@ -102,19 +100,6 @@ objects_below program strings (suc r) = objects_below program strings r ++ liste
 
 abbrev pub bare_objects : Program → List (List ℕ) → List Object
 bare_objects program strings = objects_below program strings (length program.roots)
-
--- a number as the value of a cell of an integer type (C99 6.2.5, 17)
-abbrev pub number_of_type : CType → ℤ → Option Value
-number_of_type type.Void n = None
-number_of_type (type.Int k) n = Some (Number k n)
-number_of_type type.ThreadId n = None
-number_of_type type.Mutex n = None
-number_of_type type.Cond n = None
-number_of_type (type.Pointer t) n = None
-number_of_type (type.Array t m) n = None
-number_of_type (type.Struct m) n = None
-number_of_type (type.Function result params dots) n = None
-number_of_type (type.Opaque m) n = None
 
 -- what a cell of static storage begins with by its initialiser, where its type is of this form; nothing where it is ready as it is
 -- (C99 6.6, 6.7.8)

@@ -8,7 +8,7 @@ ghost use Rattle.lk_base.specs.declared.cell.CellStep.TheVariants.{Index};
 use crate::births::{Made, locals_of, made_for, new_thread};
 use lk_arith::convert;
 use lk_base::{CellStep, Kind, NoMemory, Seq};
-use lk_cells::{Initial, Object, State};
+use lk_cells::{Initial, Object, State, number_of_type};
 use lk_facts::{InitialValue, Points, Root, RootKind};
 use lk_types::{CType, TypeId};
 use lk_values::{Path, Pointer, Value};
@@ -227,18 +227,7 @@ fn first_value(
     ensures { IfOk result (λ first. first ≡ spec.first_value_of objects.now form.now value.now) }
 {
     match value {
-        InitialValue::Number(number) => match form {
-            CType::Int(kind) => Ok(Some(Value::Number(*kind, *number))),
-            CType::Void
-            | CType::ThreadId
-            | CType::Mutex
-            | CType::Cond
-            | CType::Pointer(_)
-            | CType::Array(_, _)
-            | CType::Struct(_)
-            | CType::Function { .. }
-            | CType::Opaque(_) => Ok(None),
-        },
+        InitialValue::Number(number) => Ok(number_of_type(form, *number)),
         InitialValue::Null => Ok(Some(Value::Null)),
         InitialValue::Function(function) => Ok(Some(Value::Function(*function))),
         InitialValue::Address { root, path, past } => {

@@ -5,7 +5,7 @@ use Rattle.std.proofs.Math.Seq.{drop-cons, take-suc}
 use Rattle.lk_types.specs.Table.{Table}
 use Rattle.lk_cells.specs.Parts.{form_of, part_at, type_along}
 use Rattle.lk_base.specs.Steps.{number_of}
-use Rattle.lk_cells.specs.Moves.{before, whole_at, after_in, path_after, path_turned, next_step}
+use Rattle.lk_cells.specs.Moves.{before, whole_at, on_or_next, path_after, path_turned, next_step}
 use Rattle.lk_base.specs.declared.cell.CellStep.{CellStep}
 
 -- where a step leads to no part, the path that goes on with it leads to none
@@ -22,7 +22,7 @@ whole_at-end [] s later = rw later refl
 whole_at-end (x ∷ []) s later = ap (before x) (whole_at-end [] s later)
 whole_at-end (x ∷ (y ∷ ys)) s later = ap (before x) (whole_at-end (y ∷ ys) s later)
 
--- The path after a part, where the steps so far have led to `rest`, and the last of them that has a next part led to `best`.
+-- the next path, where the steps so far have led to `rest`, and the last of them that has a next step led to `best`
 abbrev pub joined : List CellStep → Option (List CellStep) → Option (List CellStep) → Option (List CellStep)
 joined front rest best = option_or (option_map (λ q. front ++ q) rest) best
 
@@ -30,20 +30,23 @@ append-one : (xs : List CellStep) (s : CellStep) (q : List CellStep) → (xs ++ 
 append-one [] s q = refl
 append-one (x ∷ xs) s q = ap (λ r. x ∷ r) (append-one xs s q)
 
--- one step more: what follows it, and the next part that stands after it
-pub joined-step : (front : List CellStep) (s : CellStep) (next : Option CellStep) (rest best : Option (List CellStep)) →
-    joined front (after_in s next rest) best ≡ joined (front ++ s ∷ []) rest (option_or (option_map (λ n. front ++ n ∷ []) next) best)
-joined-step front s next (Some q) best = ap Some (sym (append-one front s q))
-joined-step front s (Some n) None best = refl
-joined-step front s None None best = refl
+-- one step more: what follows it, and the next step, before these others
+pub joined-step : (front others : List CellStep) (s : CellStep) (next : Option CellStep) (rest best : Option (List CellStep)) →
+    joined front (on_or_next s next others rest) best ≡ joined (front ++ s ∷ []) rest (option_or (option_map (λ n. front ++ n ∷ others) next) best)
+joined-step front others s next (Some q) best = ap Some (sym (append-one front s q))
+joined-step front others s (Some n) None best = refl
+joined-step front others s None None best = refl
 
--- where the last step leads to no part, what stands after the part is known
-pub joined-ends : (table : Table) (own : ℕ) (path : List CellStep) (i t : ℕ) (d : CellStep) (best : Option (List CellStep)) → i < length path →
-    part_at table own t (slice_index_or path i d) ≡ None →
-    joined (take i path) (path_after table own (drop i path) t) best ≡
-    option_or (option_map (λ n. take i path ++ n ∷ []) (option_and_then (λ form. next_step table own form (slice_index_or path i d)) (form_of table t))) best
-joined-ends table own path i t d best below stops =
-    rw (drop-cons path i d) (rw stops (joined-step (take i path) (slice_index_or path i d) (option_and_then (λ form. next_step table own form (slice_index_or path i d)) (form_of table t)) None best))
+-- where the last step leads to no part, the next path is known
+pub joined-ends : (front others : List CellStep) (next : Option CellStep) (rest best : Option (List CellStep)) → rest ≡ option_map (λ n. n ∷ others) next →
+    joined front rest best ≡ option_or (option_map (λ n. front ++ n ∷ others) next) best
+joined-ends front others (Some n) rest best ends = rw ends refl
+joined-ends front others None rest best ends = rw ends refl
+
+-- what stands after a part, where the last step leads to none
+pub path_after-stops : (table : Table) (own : ℕ) (path : List CellStep) (i t : ℕ) (d : CellStep) → i < length path → part_at table own t (slice_index_or path i d) ≡ None →
+    path_after table own (drop i path) t ≡ option_map (λ n. n ∷ []) (option_and_then (λ form. next_step table own form (slice_index_or path i d)) (form_of table t))
+path_after-stops table own path i t d below stops = rw (drop-cons path i d) (rw stops refl)
 
 whole_at-at : (path : List CellStep) (j : ℕ) (d : CellStep) → j < length path → nat_eq (number_of (slice_index_or path j d)) 0 ≡ true → whole_at (take (suc j) path) ≡ whole_at (take j path)
 whole_at-at path j d below first = rw (take-suc path j d) (whole_at-zero (take j path) (slice_index_or path j d) first)

@@ -1,5 +1,5 @@
 -- What cells hold (C99 6.2.6.1, 6.7.8; POSIX pthread_mutex_init, pthread_cond_init).
-use Rattle.std.specs.Prelude.{ℕ, Bool, true, false, List, [], Option, None, Some, option_and_then, unwrap_or, nat_eq, pos}
+use Rattle.std.specs.Prelude.{ℕ, Bool, true, false, List, [], Option, None, Some, option_and_then, unwrap_or, nat_eq, ℤ, pos}
 use Rattle.std.specs.List.{position_from}
 use Rattle.std.specs.Map.{lookup}
 use Rattle.std.specs.Option.{option_map, option_or}
@@ -16,6 +16,7 @@ use Rattle.lk_cells.specs.declared.object.Initial.TheVariants as initial
 use Rattle.lk_cells.specs.declared.object.Object.{Object}
 use Rattle.lk_values.specs.Values.{is_any_owned}
 use Rattle.lk_base.specs.declared.cell.CellStep.{CellStep}
+use Rattle.lk_base.specs.declared.kind.Kind.{Kind}
 use Rattle.lk_values.specs.declared.value.Condition.{Condition}
 use Rattle.lk_values.specs.declared.value.Condition.TheVariants as condition
 use Rattle.lk_values.specs.declared.value.Mutex.{Mutex}
@@ -35,6 +36,23 @@ zero_of (type.Array t n) = None
 zero_of (type.Struct s) = None
 zero_of (type.Function result params dots) = None
 zero_of (type.Opaque n) = None
+
+-- the kind of an integer type (C99 6.2.5, 17)
+abbrev pub int_kind : CType → Option Kind
+int_kind type.Void = None
+int_kind (type.Int kind) = Some kind
+int_kind type.ThreadId = None
+int_kind type.Mutex = None
+int_kind type.Cond = None
+int_kind (type.Pointer t) = None
+int_kind (type.Array t n) = None
+int_kind (type.Struct s) = None
+int_kind (type.Function result params dots) = None
+int_kind (type.Opaque n) = None
+
+-- a number as a value of an integer type
+abbrev pub number_of_type : CType → ℤ → Option Value
+number_of_type form n = option_map (λ kind. Number kind n) (int_kind form)
 
 -- what a cell of a scalar type holds before anything is put into it
 abbrev pub first_value : Initial → CType → Option Value

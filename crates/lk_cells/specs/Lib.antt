@@ -1,5 +1,6 @@
 pub mod Cells
 pub mod Computing
+pub mod Converting
 pub mod Frames
 pub mod Moves
 pub mod Operands

@@ -50,16 +50,16 @@ abbrev pub next_step : Table → ℕ → CType → CellStep → Option CellStep
 next_step table own form (Field k) = if nat_lt (k + 1) (length (members_in table form)) && nat_lt k 4294967295 then Some (Field (k + 1)) else None
 next_step table own form (Index i) = if nat_lt (i + 1) (option_map_or (λ elements. elements.count) (elements_of own form) 0) then Some (Index (i + 1)) else None
 
--- a path with one more step before it, where there is a path; else the path to the next part alone
-abbrev pub after_in : CellStep → Option CellStep → Option (List CellStep) → Option (List CellStep)
-after_in step next (Some path) = Some (step ∷ path)
-after_in step next None = option_map (λ s. s ∷ []) next
+-- a step before a path that goes on from it, where there is one; else the next step, where there is one, before these others
+abbrev pub on_or_next : CellStep → Option CellStep → List CellStep → Option (List CellStep) → Option (List CellStep)
+on_or_next step next others (Some path) = Some (step ∷ path)
+on_or_next step next others None = option_map (λ s. s ∷ others) next
 
 -- the path to the part of an object that stands directly after the part at a path, where there is one
 abbrev pub path_after : Table → ℕ → List CellStep → ℕ → Option (List CellStep)
 path_after table own [] t = None
 path_after table own (step ∷ path) t =
-    after_in step (option_and_then (λ form. next_step table own form step) (form_of table t)) (option_and_then (λ u. path_after table own path u) (part_at table own t step))
+    on_or_next step (option_and_then (λ form. next_step table own form step) (form_of table t)) [] (option_and_then (λ u. path_after table own path u) (part_at table own t step))
 
 -- the path with another step in the place of one of its steps, and nothing after it
 abbrev pub path_turned : List CellStep → Option (ℕ × CellStep) → Option (List CellStep)

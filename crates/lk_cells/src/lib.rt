@@ -3,6 +3,7 @@
 #![tactic(auto)]
 
 mod computing;
+mod converting;
 mod kind;
 mod moves;
 mod object;
@@ -11,10 +12,11 @@ mod parts;
 mod places;
 mod state;
 
-pub use computing::{Computed, binary, converted_to, unary_of};
+pub use computing::{Computed, binary, unary_of};
+pub use converting::converted_to;
 pub use kind::CellKind;
 pub use moves::{is_same_place, moved};
-pub use object::{Initial, Object, kind_of, zero_of};
+pub use object::{Initial, Object, int_kind, kind_of, number_of_type, zero_of};
 pub use operands::{
     all_given, all_used, condition_in, current, function_in, given, id_in, number_in, operand,
     pointer_in, used,
@@ -22,7 +24,6 @@ pub use operands::{
 pub use parts::{Elements, elements_of, form_of, part_at, type_along};
 pub use places::{
     condition_through, element_of, followed, form_through, is_condition_unready, is_not_of,
-    is_taken, is_unready, kind_through, lives, moved_by, mutex_through, object_at, part_of,
-    value_through,
+    is_taken, is_unready, kind_through, moved_by, mutex_through, object_at, part_of, value_through,
 };
 pub use state::{Frame, Local, State, Thread};

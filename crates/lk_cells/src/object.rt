@@ -6,7 +6,7 @@ ghost use Rattle.lk_cells.specs.Cells as spec;
 
 use crate::kind::CellKind;
 use crate::parts::{form_of, type_along};
-use lk_base::NoMemory;
+use lk_base::{Kind, NoMemory};
 use lk_types::{CType, TypeId, TypeTable};
 use lk_values::{Condition, Mutex, Path, Table, Value};
 use std::alloc::Global;
@@ -73,6 +73,32 @@ pub fn zero_of(form: &CType) -> Option<Value>
         | CType::Function { .. }
         | CType::Opaque(_) => None,
     }
+}
+
+/// The kind of an integer type.
+pub fn int_kind(form: &CType) -> Option<Kind>
+    ensures { result ≡ spec.int_kind form.now }
+{
+    match form {
+        CType::Int(kind) => Some(*kind),
+        CType::Void
+        | CType::ThreadId
+        | CType::Mutex
+        | CType::Cond
+        | CType::Pointer(_)
+        | CType::Array(_, _)
+        | CType::Struct(_)
+        | CType::Function { .. }
+        | CType::Opaque(_) => None,
+    }
+}
+
+/// A number as a value of an integer type; other types have none.
+pub fn number_of_type(form: &CType, number: i128) -> Option<Value>
+    ensures { result ≡ spec.number_of_type form.now number }
+{
+    let kind = int_kind(form)?;
+    Some(Value::Number(kind, number))
 }
 
 impl Initial {

@@ -18,16 +18,6 @@ pub fn object_at(state: &State, object: u32) -> Option<&Object>
     state.objects.get(object as usize)
 }
 
-/// Whether the object of this number lives (C99 6.2.4).
-pub fn lives(state: &State, object: u32) -> bool
-    ensures { result ≡ spec.lives state.now object }
-{
-    match object_at(state, object) {
-        Some(found) => found.lives,
-        None => false,
-    }
-}
-
 /// A pointer may be followed: it isn't null, its object lives, and it isn't one past a part (C99 6.5.3.2, 4).
 pub fn followed(state: &State, value: Option<&Value>) -> Option<Why>
     ensures { result ≡ spec.followed state.now (option_copied value.entry) }
@@ -36,7 +26,7 @@ pub fn followed(state: &State, value: Option<&Value>) -> Option<Why>
         None => Some(Why::NoValue),
         Some(Value::Number(_, _) | Value::Function(_) | Value::Thread(_)) => Some(Why::WrongType),
         Some(Value::Pointer(pointer)) => either(
-            Why::Dead.when(!lives(state, pointer.part.object)),
+            Why::Dead.when(!state.lives(pointer.part.object)),
             Why::Outside.when(pointer.past),
         ),
         Some(Value::Null) => Some(Why::Null),
@@ -50,7 +40,7 @@ pub fn part_of<'a>(state: &State, value: Option<&'a Value>) -> Option<&'a Cell>
 {
     match value {
         Some(Value::Pointer(pointer)) => {
-            if lives(state, pointer.part.object) && !pointer.past {
+            if state.lives(pointer.part.object) && !pointer.past {
                 Some(&pointer.part)
             } else {
                 None

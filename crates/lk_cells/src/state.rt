@@ -1,4 +1,6 @@
 //! States of a program that runs: its objects, and its threads with their frames.
+ghost use Rattle.std.specs.Prelude.{◌≡◌, ◌<◌, ◌^◌, length};
+ghost use Rattle.lk_cells.specs.Places as spec;
 
 use crate::object::Object;
 use lk_base::Seq;
@@ -54,4 +56,24 @@ pub struct State {
     pub threads: Seq<Thread>,
     /// Whether the process has ended.
     pub ended: bool,
+}
+
+impl State {
+    /// How many threads there are. Those below it are their numbers. It takes no memory.
+    pub fn threads(&self) -> u32
+        requires { length self.now.threads < 2 ^ 32 }
+        ensures { result ≡ length self.now.threads }
+    {
+        self.threads.len() as u32
+    }
+
+    /// Whether the object of this number lives (C99 6.2.4). It takes no memory.
+    pub fn lives(&self, object: u32) -> bool
+        ensures { result ≡ spec.lives self.now object }
+    {
+        match self.objects.get(object as usize) {
+            Some(found) => found.lives,
+            None => false,
+        }
+    }
 }

@@ -1,1 +1,10 @@
+pub mod Accesses
+pub mod Births
+pub mod Calls
 pub mod Changes
+pub mod Fills
+pub mod Going
+pub mod Locks
+pub mod Numbers
+pub mod Pointers
+pub mod Threads

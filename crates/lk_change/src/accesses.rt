@@ -3,7 +3,8 @@ ghost use Rattle.std.specs.Prelude.{◌≡◌, IfOk, slice_get};
 ghost use Rattle.std.specs.Option.{option_copied};
 ghost use Rattle.lk_cells.specs.Operands as of_operand;
 ghost use Rattle.lk_cells.specs.Places as places;
-ghost use Rattle.lk_change.specs.Changes as spec;
+ghost use Rattle.lk_change.specs.Going as of_going;
+ghost use Rattle.lk_change.specs.Accesses as spec;
 
 use crate::change::{Change, Effect};
 use crate::copies::{copied, copied_part};
@@ -104,7 +105,7 @@ pub(crate) fn reads(
     thread: &Thread,
     a: u32,
 ) -> Result<Option<Change>, NoMemory>
-    ensures { IfOk result (λ change. change ≡ spec.gives points.now thread.now.frame.point
+    ensures { IfOk result (λ change. change ≡ of_going.gives points.now thread.now.frame.point
         (places.value_through points.now.types state.now (of_operand.operand thread.now a))) }
 {
     let value = value_through(points.types(), state, operand(&thread.frame, a))?;
@@ -118,7 +119,7 @@ pub(crate) fn slot_given(
     slot: u32,
 ) -> Result<Option<Change>, NoMemory>
     ensures { IfOk result (λ change. change ≡
-        spec.gives points.now frame.now.point (slice_get frame.now.slots slot)) }
+        of_going.gives points.now frame.now.point (slice_get frame.now.slots slot)) }
 {
     let value = copied(frame.slots.get(slot as usize))?;
     Ok(gives(points, frame.point, value))

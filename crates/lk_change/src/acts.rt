@@ -9,7 +9,7 @@ use crate::change::{Change, Effect};
 use crate::fills::fills_current;
 use crate::going::{changes, gives};
 use crate::locks::{destroys, initialises, locks, releases_by, retakes, signals, unlocks};
-use crate::numbers::{computes, gives_binary, gives_converted, number_of_type, unary_value};
+use crate::numbers::{computes, constant, gives_binary, gives_converted, unary_value};
 use crate::pointers::{gives_element, gives_member, gives_root};
 use crate::threads::{begins_with, detaches, joins};
 use lk_base::NoMemory;
@@ -35,7 +35,7 @@ pub fn change_of(
     let frame = &thread.frame;
     let at = frame.point;
     match action {
-        Action::Value { number, ty } => Ok(gives(points, at, number_of_type(points, *ty, *number))),
+        Action::Value { number, ty } => Ok(gives(points, at, constant(points, *ty, *number))),
         Action::Null { .. } => Ok(gives(points, at, Some(Value::Null))),
         Action::Func { function } => Ok(gives(points, at, Some(Value::Function(*function)))),
         Action::SelfId => Ok(gives(points, at, Some(Value::Thread(Some(t))))),

@@ -2,7 +2,7 @@
 ghost use Rattle.std.specs.Prelude.{◌≡◌, ◌<◌, ◌^◌, IfOk, length};
 ghost use Rattle.std.specs.Option.{option_copied};
 ghost use Rattle.lk_cells.specs.Operands as of_operand;
-ghost use Rattle.lk_change.specs.Changes as spec;
+ghost use Rattle.lk_change.specs.Births as spec;
 
 use crate::change::{Birth, Change, Effect};
 use crate::going::{changes, gives, goes};

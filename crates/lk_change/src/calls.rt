@@ -1,7 +1,7 @@
 //! Branches, calls and returns.
 ghost use Rattle.std.specs.Prelude.{◌≡◌, IfOk};
 ghost use Rattle.std.specs.Option.{option_copied};
-ghost use Rattle.lk_change.specs.Changes as spec;
+ghost use Rattle.lk_change.specs.Calls as spec;
 
 use crate::change::{Call, Change, Effect};
 use crate::copies::copied;

@@ -2,7 +2,7 @@
 ghost use Rattle.std.specs.Prelude.{◌≡◌, ◌<◌, ◌+◌, ◌++◌, ◌∷◌, IfOk, IfSome, length, map, take, drop};
 ghost use Rattle.std.specs.Option.{option_copied, option_map, option_or};
 ghost use Rattle.lk_cells.specs.Operands as of_operand;
-ghost use Rattle.lk_change.specs.Changes as spec;
+ghost use Rattle.lk_change.specs.Fills as spec;
 
 use crate::change::{Change, Effect};
 use crate::copies::copied_part;

@@ -1,6 +1,6 @@
 //! Where a thread goes on, with what it gives and what it changes.
 ghost use Rattle.std.specs.Prelude.{◌≡◌};
-ghost use Rattle.lk_change.specs.Changes as spec;
+ghost use Rattle.lk_change.specs.Going as spec;
 
 use crate::change::{Change, Effect, Going, Turn};
 use lk_base::Kind;

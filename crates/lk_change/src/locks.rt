@@ -1,7 +1,7 @@
 //! Mutexes and condition variables that change.
 ghost use Rattle.std.specs.Prelude.{◌≡◌, IfOk};
 ghost use Rattle.std.specs.Option.{option_copied};
-ghost use Rattle.lk_change.specs.Changes as spec;
+ghost use Rattle.lk_change.specs.Locks as spec;
 
 use crate::change::{Change, Effect};
 use crate::copies::copied_part;

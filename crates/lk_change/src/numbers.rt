@@ -1,20 +1,23 @@
 //! What points compute: numbers, comparisons, conversions.
 ghost use Rattle.std.specs.Prelude.{◌≡◌, IfOk, map};
 ghost use Rattle.std.specs.Option.{option_copied, option_and_then};
+ghost use Rattle.lk_cells.specs.Cells as cells;
 ghost use Rattle.lk_cells.specs.Frames.{given_by};
 ghost use Rattle.lk_cells.specs.Operands as of_operand;
 ghost use Rattle.lk_cells.specs.Parts as parts;
-ghost use Rattle.lk_change.specs.Changes as spec;
+ghost use Rattle.lk_change.specs.Going as of_going;
+ghost use Rattle.lk_change.specs.Numbers as spec;
 
 use crate::change::{Change, Effect};
 use crate::going::{gives, goes};
 use lk_arith::{Op, UnaryOp, convert};
 use lk_base::{Kind, NoMemory};
 use lk_cells::{
-    Computed, Frame, State, Thread, binary, converted_to, form_of, id_in, operand, unary_of,
+    Computed, Frame, State, Thread, binary, converted_to, form_of, id_in, int_kind, number_of_type,
+    operand, unary_of,
 };
 use lk_facts::Points;
-use lk_types::{CType, TypeId};
+use lk_types::TypeId;
 use lk_values::Value;
 
 /// The value of what is computed.
@@ -27,32 +30,13 @@ fn value_of(computed: Computed) -> Option<Value>
     }
 }
 
-/// The kind of an integer type.
-fn int_kind(form: &CType) -> Option<Kind>
-    ensures { result ≡ spec.int_kind form.now }
-{
-    match form {
-        CType::Int(kind) => Some(*kind),
-        CType::Void
-        | CType::ThreadId
-        | CType::Mutex
-        | CType::Cond
-        | CType::Pointer(_)
-        | CType::Array(_, _)
-        | CType::Struct(_)
-        | CType::Function { .. }
-        | CType::Opaque(_) => None,
-    }
-}
-
-/// A number of an integer type.
-pub(crate) fn number_of_type(points: &Points, ty: TypeId, number: i128) -> Option<Value>
+/// A constant of the type of this number.
+pub(crate) fn constant(points: &Points, ty: TypeId, number: i128) -> Option<Value>
     ensures { result ≡
-        option_and_then (λ form. spec.number_of_type form number) (parts.form_of points.now.types ty) }
+        option_and_then (λ form. cells.number_of_type form number) (parts.form_of points.now.types ty) }
 {
     let form = form_of(points.types(), ty)?;
-    let kind = int_kind(form)?;
-    Some(Value::Number(kind, number))
+    number_of_type(form, number)
 }
 
 /// An integer by the word, converted to a type (C99 6.3.1.3).
@@ -188,7 +172,7 @@ pub(crate) fn gives_converted(
     a: u32,
     ty: TypeId,
 ) -> Result<Option<Change>, NoMemory>
-    ensures { IfOk result (λ change. change ≡ spec.gives points.now thread.now.frame.point
+    ensures { IfOk result (λ change. change ≡ of_going.gives points.now thread.now.frame.point
         (spec.converted_value points.now state.now a ty (of_operand.operand thread.now a))) }
 {
     let value = converted(points, state, a, ty, operand(&thread.frame, a))?;

@@ -3,7 +3,8 @@ ghost use Rattle.std.specs.Prelude.{◌≡◌, ◌<◌, ◌^◌, IfOk, length};
 ghost use Rattle.std.specs.Option.{option_copied};
 ghost use Rattle.lk_cells.specs.Cells.{object_of_root};
 ghost use Rattle.lk_cells.specs.Operands as of_operand;
-ghost use Rattle.lk_change.specs.Changes as spec;
+ghost use Rattle.lk_change.specs.Going as of_going;
+ghost use Rattle.lk_change.specs.Pointers as spec;
 
 use crate::change::Change;
 use crate::copies::copied_part;
@@ -142,7 +143,7 @@ pub(crate) fn gives_root(
     root: u32,
 ) -> Option<Change>
     requires { length state.now.objects < 2 ^ 32 }
-    ensures { result ≡ spec.gives points.now frame.now.point
+    ensures { result ≡ of_going.gives points.now frame.now.point
         (spec.pointer_to_root points.now state.now frame.now root) }
 {
     let pointer = pointer_to_root(alloc, points, state, frame, root);
@@ -157,7 +158,7 @@ pub(crate) fn gives_member(
     a: u32,
     member: u32,
 ) -> Result<Option<Change>, NoMemory>
-    ensures { IfOk result (λ change. change ≡ spec.gives points.now thread.now.frame.point
+    ensures { IfOk result (λ change. change ≡ of_going.gives points.now thread.now.frame.point
         (spec.member_of state.now (of_operand.operand thread.now a) member)) }
 {
     let pointer = member_of(state, operand(&thread.frame, a), member)?;
@@ -173,7 +174,7 @@ pub(crate) fn gives_element(
     b: u32,
     into: bool,
 ) -> Result<Option<Change>, NoMemory>
-    ensures { IfOk result (λ change. change ≡ spec.gives points.now thread.now.frame.point
+    ensures { IfOk result (λ change. change ≡ of_going.gives points.now thread.now.frame.point
         (spec.index_of points.now state.now into (of_operand.operand thread.now a)
         (of_operand.operand thread.now b))) }
 {

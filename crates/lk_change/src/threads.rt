@@ -2,7 +2,7 @@
 ghost use Rattle.std.specs.Prelude.{◌≡◌, IfOk};
 ghost use Rattle.std.specs.Option.{option_copied, option_and_then};
 ghost use Rattle.lk_cells.specs.Operands as of_operand;
-ghost use Rattle.lk_change.specs.Changes as spec;
+ghost use Rattle.lk_change.specs.Threads as spec;
 
 use crate::calls::call_of;
 use crate::change::{Change, Effect};

@@ -4,3 +4,4 @@ mod Made
 mod MemberSizes
 mod MainLemmas
 mod FieldLemmas
+mod GivenSizes

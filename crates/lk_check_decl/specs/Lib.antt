@@ -6,3 +6,4 @@ pub mod Members
 pub mod Names
 pub mod Switches
 pub mod Twins
+pub mod GivenSizes

@@ -1,5 +1,5 @@
 //! The rules of `declarator[size]` (C99 6.7.5.2).
-ghost use Rattle.std.specs.Prelude.{◌≡◌, ◌*◌, ℕ, Some, None, true, IfSome};
+ghost use Rattle.std.specs.Prelude.{◌≡◌, ◌*◌, ℕ, Some, None, true, IfSome, nat_le};
 ghost use Rattle.std.specs.Option.{option_map};
 ghost use Rattle.lk_types.specs.Table.{IsKnown};
 ghost use Rattle.lk_typed.specs.DeclaratorRules as spec;
@@ -78,6 +78,15 @@ fn is_few(types: &TypeTable, count: u64, element: Option<TypeId>) -> bool
         Some(t) => times(count, elements(types, t)).is_some(),
         None => true,
     }
+}
+
+/// Whether so many elements of a type, those of arrays in it counted, are no more than an array may have.
+#[tactic(auto, unfolding(lk_typed::specs::DeclaratorRules::most_elements))]
+pub(crate) fn has_few(types: &TypeTable, count: u64, element: TypeId) -> bool
+    requires { IsKnown types.now element }
+    ensures { result ≡ nat_le (count * spec.elements (meaning types.now element)) spec.most_elements }
+{
+    times(count, elements(types, element)).is_some()
 }
 
 /// A value as the size of an array, or nothing where it isn't from 1 to `MOST_ELEMENTS`.

@@ -1,6 +1,6 @@
 //! The rules of initialisers (C99 6.7.8). Each inner struct and each inner array has braces of its own, or is an array that
 //! a text initialises; so an entry of a list initialises one element or one member, in order.
-ghost use Rattle.std.specs.Prelude.{◌≡◌, ◌||◌, ◌∷◌, [], not, Some, IfSome, map, length, slice_get, if◌then◌else◌};
+ghost use Rattle.std.specs.Prelude.{◌≡◌, ◌||◌, ◌∷◌, [], not, All, Some, IfSome, map, length, slice_get, if◌then◌else◌};
 ghost use Rattle.lk_base.specs.declared.code.Code.TheVariants.{BadInitialiser, NotConstant};
 ghost use Rattle.std.specs.Option.{option_map};
 ghost use Rattle.lk_types.specs.Table.{Table, IsKnown};
@@ -12,7 +12,7 @@ ghost use Rattle.lk_typed.specs.Initialisers.{entry_object};
 ghost use Rattle.lk_typed.specs.MemberRules.{fields_in, types_in};
 ghost use Rattle.lk_typed.specs.Meaning.{meaning, IsKnownType};
 ghost use Rattle.lk_typed.specs.Ty.{holds_of, is_same};
-ghost use Rattle.lk_typed.specs.Typings.{structs_in};
+ghost use Rattle.lk_typed.specs.Typings.{structs_in, HasKnownFields};
 ghost use Rattle.lk_check_decl.specs.Breaches.{told};
 ghost use Rattle.lk_check_decl.specs.Initialisers.{braces_of, object_in, IsKnownSeen, IsSeen};
 
@@ -239,8 +239,10 @@ fn is_text_for(types: &TypeTable, t: TypeId, text: Option<u32>) -> bool
 
 /// The members of a struct that are known.
 fn fields_of(structs: &[Members], s: u32) -> &[Field]
-    ensures { (table : Table) → map (λ field. meaning table field.ty) result.now
+    ensures types { (table : Table) → map (λ field. meaning table field.ty) result.now
         ≡ types_in (members_of (structs_in table structs.now) s) }
+    ensures known { (table : Table) → All (HasKnownFields table) structs.now →
+        All (λ field. IsKnown table field.ty) result.now }
 {
     if s as usize >= structs.len() {
         return &[];
@@ -313,8 +315,9 @@ pub fn list_code(
 
 /// The type of the member of a struct with this number, from 0 on.
 fn field_type(structs: &[Members], s: u32, number: u32) -> Option<TypeId>
-    ensures { (table : Table) → option_map (meaning table) result
+    ensures value { (table : Table) → option_map (meaning table) result
         ≡ slice_get (types_in (members_of (structs_in table structs.now) s)) number }
+    ensures known { (table : Table) → All (HasKnownFields table) structs.now → IfSome result (IsKnown table) }
 {
     let fields = fields_of(structs, s);
     if (number as usize) < fields.len() {
@@ -328,9 +331,10 @@ fn field_type(structs: &[Members], s: u32, number: u32) -> Option<TypeId>
 /// the element, or the member.
 pub fn entry_type(types: &TypeTable, structs: &[Members], t: TypeId, number: u32) -> Option<TypeId>
     requires { IsKnown types.now t }
-    ensures { (env : Env) → env.structs ≡ structs_in types.now structs.now →
+    ensures value { (env : Env) → env.structs ≡ structs_in types.now structs.now →
         option_map (meaning types.now) result
         ≡ spec.entry_type (fields_in env) (meaning types.now t) number }
+    ensures known { All (HasKnownFields types.now) structs.now → IfSome result (IsKnown types.now) }
 {
     match form(types, t) {
         CType::Array(element, count) => {
@@ -362,9 +366,11 @@ pub fn entry_target(
     number: u32,
 ) -> Option<Target>
     requires { IsKnown types.now target.now.ty }
-    ensures { (env : Env) → env.structs ≡ structs_in types.now structs.now →
+    ensures value { (env : Env) → env.structs ≡ structs_in types.now structs.now →
         option_map (object_in types.now) result
         ≡ entry_object env (Some (object_in types.now target.now)) text number }
+    ensures known { All (HasKnownFields types.now) structs.now →
+        IfSome result (λ t. IsKnown types.now t.ty) }
 {
     if is_text_for(types, target.ty, text) {
         return Some(*target);

@@ -7,6 +7,7 @@
 
 mod arrays;
 mod breaches;
+mod completing;
 mod declarators;
 mod enumerators;
 mod initialisers;
@@ -19,6 +20,7 @@ mod switches;
 mod words;
 
 pub use arrays::{ArraySize, MOST_ELEMENTS, array_code, array_count};
+pub use completing::{completed, given_code};
 pub use declarators::{
     definition_code, function_code, parameter_code, parameter_name_code, pointer_code,
 };

@@ -1,5 +1,5 @@
 //! Calls (C99 6.5.2.2), with what the library's functions ask of their arguments.
-ghost use Rattle.std.specs.Prelude.{◌≡◌, All, IfSome, List, Option, Some, false, map, slice_get};
+ghost use Rattle.std.specs.Prelude.{◌≡◌, All, IfSome, List, None, Option, Some, false, map, slice_get};
 ghost use Rattle.lk_types.specs.Table.{Table, IsKnown};
 ghost use Rattle.lk_typed.specs.Assignments.{given_codes};
 ghost use Rattle.lk_typed.specs.Calls as spec;
@@ -10,6 +10,7 @@ ghost use Rattle.lk_typed.specs.Library as rows;
 ghost use Rattle.lk_typed.specs.Meaning.{meaning, meaning_of, IsKnownType, IsReady};
 ghost use Rattle.lk_typed.specs.Names.{IsKnownRole, role_in};
 ghost use Rattle.lk_typed.specs.Operators.{must_be};
+ghost use Rattle.lk_typed.specs.Ty.{target_of};
 ghost use Rattle.lk_typed.specs.Typing.{Typing};
 ghost use Rattle.lk_typed.specs.Typings.{ForEach, IsOperand, IsVerdict};
 ghost use Rattle.lk_check_expr.specs.Arguments.{AreArguments, ArePassedBy, IsArgument, IsKnownPasses, IsKnownPassing, IsPassedAt, further_codes, is_byte_kind, null_codes, passed_codes, routine_codes, size_by};
@@ -351,6 +352,50 @@ fn call_by(
     let code = lesser(passed, asked);
     let typed = Typed::of_type(ExprType::Listed(signature.result));
     unless(code, typed)
+}
+
+/// How the argument with an index is passed to what a pointer to a function points to.
+fn passing_to(types: &TypeTable, ty: &ExprType, index: usize) -> Option<Passing>
+    requires ready { IsReady types.now }
+    requires known { IsKnownType types.now ty.now }
+    ensures { IsPassedAt types.now result
+        (slice_get (spec.passes_by None (spec.signature_at (target_of (meaning_of types.now ty.now)))) index) }
+{
+    match signature_at(types, ty) {
+        Some(signature) => type_at(signature.params, index),
+        None => None,
+    }
+}
+
+/// How the argument with an index is passed to a function, perhaps one of the library.
+fn passing_by(
+    types: &TypeTable,
+    called: Option<LibraryFunction>,
+    ty: &ExprType,
+    index: usize,
+) -> Option<Passing>
+    requires ready { IsReady types.now }
+    requires known { IsKnownType types.now ty.now }
+    ensures { IsPassedAt types.now result
+        (slice_get (spec.passes_by (row_of called) (spec.signature_at (target_of (meaning_of types.now ty.now)))) index) }
+{
+    match called {
+        Some(function) => parameter_at(function.parameters(), index),
+        None => passing_to(types, ty, index),
+    }
+}
+
+/// How the argument with an index is passed in a call of this function; nothing where it has no parameter.
+pub fn passing(types: &TypeTable, function: &Argument, index: usize) -> Option<Passing>
+    requires ready { IsReady types.now }
+    requires function { IsOperand types.now function.now.typing }
+    ensures passed { (env : Env) (f : spec.Argument) → IsArgument types.now env function.now f →
+        IsPassedAt types.now result
+        (slice_get (spec.passes_by (spec.library_called f.look.word) (spec.signature_of f.typing)) index) }
+    ensures known { IfSome result (IsKnownPassing types.now) }
+{
+    let f = value(types, &function.typing);
+    passing_by(types, function.look.called, &f.ty, index)
 }
 
 /// A call: its function is a pointer to one, and each argument converts to its parameter; the library's functions ask more of

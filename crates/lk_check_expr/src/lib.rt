@@ -21,7 +21,7 @@ mod texts;
 mod words;
 
 pub use assignments::{assign, cast, converted};
-pub use calls::{Argument, call};
+pub use calls::{Argument, call, passing};
 pub use choices::{choice, comma};
 pub use fields::{arrow, dot};
 pub use library::{Asks, LibraryFunction, Parameter, Passing};

@@ -1,6 +1,6 @@
 -- A struct begins, fails and is completed, in the table and in the names alike.
-use Rattle.std.proofs.Common.{◌≡◌, ◌∙◌, ◌<◌, ℕ, zero, suc, true, false, List, [], ◌∷◌, ◌++◌, Option, Some, None, length, map, refl, sym, ap, subst, arith, All, ◌+◌, get_or, take}
-use Rattle.std.specs.Prelude.{unwrap_or}
+use Rattle.std.proofs.Common.{◌≡◌, ◌∙◌, ◌<◌, ℕ, zero, suc, Bool, true, false, List, [], ◌∷◌, ◌++◌, Option, Some, None, length, map, refl, sym, ap, subst, arith, All, ◌+◌, get_or, take}
+use Rattle.std.specs.Prelude.{if◌then◌else◌, unwrap_or}
 use Rattle.std.specs.List.{slice_get, slice_set}
 use Rattle.std.specs.Option.{option_map}
 use Rattle.std.proofs.lemmas.Bool.{false≢true}
@@ -10,13 +10,13 @@ use Rattle.std.proofs.lemmas.Option.{none-some, same_Some, slice_get-map, slice_
 use Rattle.lk_types.proofs.NewLemmas.{predeclared_types_stay}
 use Rattle.lk_types.specs.Building.{IsTable, IsLonger, IsPartOfObjects, CanComplete, with_members, types_of}
 use Rattle.lk_types.specs.Sizes.{fields_size, is_too_large}
-use Rattle.lk_types.specs.Table.{Table, IsKnown, is_empty}
+use Rattle.lk_types.specs.Table.{Table, IsKnown, is_empty, is_open}
 use Rattle.lk_types.specs.declared.member.StructMember.{StructMember}
 use Rattle.lk_typed.specs.Env as env
-use Rattle.lk_typed.specs.Env.{Env, Begins, both, extend, Tag, TagMeaning, AStructTag, AnEnumTag, AFaultyTag, members_of}
+use Rattle.lk_typed.specs.Env.{Env, Begins, Completes, both, extend, Tag, TagMeaning, AStructTag, AnEnumTag, AFaultyTag, members_of}
 use Rattle.lk_typed.specs.Redeclared as tags
 use Rattle.lk_typed.specs.Redeclared.{DefinesStruct, may_use}
-use Rattle.lk_typed.specs.Told.{known_or_new, steps, struct_meant, tag_additions}
+use Rattle.lk_typed.specs.Told.{Meant, known_or_new, meant, steps, struct_meant, struct_meant_by, tag_additions, tag_found}
 use Rattle.lk_typed.specs.Typings.{field_in, members_in, structs_in}
 use Rattle.lk_typed.proofs.Meanings.{meaning_stays}
 use Rattle.lk_typed.specs.declared.members.Field.{Field}
@@ -27,7 +27,7 @@ use Rattle.lk_names.specs.InScope.{InScope, IsKnownScope}
 use Rattle.lk_check_walk.proofs.Forming.{all_cons}
 use Rattle.lk_check_walk.proofs.States.{extend_both, extend_nothing, few_stays}
 use Rattle.lk_check_walk.specs.Moves.{IsMeant, KeepsBegun}
-use Rattle.lk_check_walk.specs.Structs.{HasMembers, listed, member_of}
+use Rattle.lk_check_walk.specs.Structs.{AreListed, HasMembers, listed, member_of}
 use Rattle.lk_check_walk.specs.Walks.{IsIn, IsSound}
 use Rattle.lk_check_walk.specs.declared.checker.Checker.{Checker}
 
@@ -177,3 +177,37 @@ taken_more f [] i x is within = absurd (omega (arith, within))
 taken_more f (y ∷ xs) zero x is within = ap (λ z. f z ∷ []) is
 taken_more f (y ∷ xs) (suc i) x is within =
     let one_more : suc (i + 1) ≡ suc i + 1 = omega arith in ap (λ ys. f y ∷ ys) (taken_more f xs i x is (omega (arith, within))) ∙ ap (λ n. map f (take n (y ∷ xs))) one_more
+
+-- ---- the struct that a definition means
+
+pub refused_meant : (new : Checker) (e : Env) (tag : Option env.Name) (s : ℕ) → may_use e (tag_found e DefinesStruct tag) DefinesStruct ≡ false → s ≡ length e.structs →
+    IsIn new (extend e (steps (Begins ∷ []))) → IsMeant new e (struct_meant_by e tag) s
+refused_meant new e tag s refused number inside =
+    subst (λ (m : Meant). IsMeant new e m s) (sym (ap (λ b. if b then meant e (tag_found e DefinesStruct tag) tag else known_or_new e None None) refused))
+    (record { number = number; behind = inside })
+
+pub admitted_meant : (new : Checker) (e : Env) (tag : Option env.Name) (s : ℕ) → may_use e (tag_found e DefinesStruct tag) DefinesStruct ≡ true →
+    IsMeant new e (meant e (tag_found e DefinesStruct tag) tag) s → IsMeant new e (struct_meant_by e tag) s
+admitted_meant new e tag s admitted is =
+    subst (λ (m : Meant). IsMeant new e m s) (sym (ap (λ b. if b then meant e (tag_found e DefinesStruct tag) tag else known_or_new e None None) admitted)) is
+
+-- the definition begins
+pub begun_meant : (new : Checker) (e : Env) (m : Meant) (s : ℕ) → s ≡ m.number → IsIn new (extend (extend e m.additions) (steps (Completes s env.Begun ∷ []))) →
+    IsIn new (extend e (both m.additions (steps (Completes m.number env.Begun ∷ []))))
+begun_meant new e m s number inside =
+    subst (λ n. IsIn new (extend e (both m.additions (steps (Completes n env.Begun ∷ []))))) number
+    (subst (IsIn new) (extend_both e m.additions (steps (Completes s env.Begun ∷ []))) inside)
+
+-- some environment
+pub blank : Env
+blank = record {
+  outside = record { defined = []; externs = [] };
+  declared = [];
+  base = 0;
+  tags = [];
+  tag_base = 0;
+  structs = [];
+  result = None;
+  role = env.AsOperand;
+  in_size = false;
+}

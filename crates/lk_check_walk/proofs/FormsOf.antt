@@ -16,7 +16,7 @@ use Rattle.lk_check_walk.specs.Shaped.{FormAt, shaped, is_large_shape}
 use Rattle.lk_check_walk.specs.Shapes.{Form, APointer, made_of, type_by}
 
 -- what is found of a declarator of this form
-told_by : (d : Declarator) (form : DeclaratorTree) → out-DeclaratorForm d.form ≡ form → declarator_layer d ≡ in_declarator (declarator_parts_told form) d.spot d.ordinal
+pub told_by : (d : Declarator) (form : DeclaratorTree) → out-DeclaratorForm d.form ≡ form → declarator_layer d ≡ in_declarator (declarator_parts_told form) d.spot d.ordinal
 told_by d form is = declarators_follow_their_forms d ∙ ap (λ form. in_declarator (declarator_parts_told form) d.spot d.ordinal) is
 
 abbrev type_told : Span → Option Ty → DeclaratorLayer → Option Ty

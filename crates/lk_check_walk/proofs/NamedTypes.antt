@@ -1,21 +1,25 @@
 -- A specifier that names a type alone is gathered.
 use Rattle.std.proofs.Common.{◌≡◌, ◌∙◌, ◌++◌, ℕ, Bool, true, false, List, [], ◌∷◌, Option, Some, None, refl, sym, ap, subst, IfSome}
-use Rattle.std.specs.Prelude.{◌||◌, if◌then◌else◌}
+use Rattle.std.specs.Prelude.{◌||◌, if◌then◌else◌, is_some}
 use Rattle.std.specs.Option.{option_map}
 use Rattle.std.proofs.lemmas.List.{append-nil}
 use Rattle.lk_types.specs.Building.{IsTable, IsLonger}
 use Rattle.lk_types.specs.Table.{Table, IsKnown}
 use Rattle.lk_typed.proofs.Meanings.{meaning_stays}
-use Rattle.lk_typed.specs.Env.{Env, Additions, Name, nothing, extend}
-use Rattle.lk_typed.specs.Faults.{Breach}
+use Rattle.lk_typed.specs.Env.{Env, Additions, Name, Tag, nothing, extend, look_up_tag}
+use Rattle.lk_typed.specs.Faults.{Breach, breach_of}
+use Rattle.lk_base.specs.declared.code.Code.TheVariants.{Redeclared}
+use Rattle.lk_typed.specs.HolderRules.{enum_rules}
 use Rattle.lk_typed.specs.Meaning.{meaning}
-use Rattle.lk_typed.specs.Redeclared.{TagUse, may_use, tag_meant}
-use Rattle.lk_typed.specs.Told.{SpecifierTold, meant, of_type_alone, struct_named, then_specifier}
-use Rattle.lk_typed.specs.Ty.{Ty, Struct}
+use Rattle.lk_typed.specs.Redeclared.{NamesEnum, TagUse, may_use, tag_meant}
+use Rattle.lk_typed.specs.Told.{SpecifierTold, enum_named, meant, of_type_alone, struct_named, then_specifier, type_if_admitted, with_optional}
+use Rattle.lk_typed.specs.Ty.{Ty, Struct, int}
 use Rattle.lk_check_walk.proofs.Shaping.{known_stays}
 use Rattle.lk_check_walk.proofs.States.{extend_nothing}
+use Rattle.lk_check_walk.specs.Moves.{IsMeant}
 use Rattle.lk_check_walk.specs.Naming.{IsNamedType, IsSpecifierPut}
 use Rattle.lk_check_walk.specs.Specified.{AreOthers, IsGathered, optional_breach}
+use Rattle.lk_check_walk.specs.Specified as code
 use Rattle.lk_check_walk.specs.Walks.{IsIn}
 use Rattle.lk_check_walk.specs.declared.checker.Checker.{Checker}
 use Rattle.lk_check_walk.specs.declared.gathered.Breach.{Breach as CodeBreach}
@@ -24,7 +28,7 @@ use Rattle.lk_check_walk.specs.declared.gathered.Others.{Others}
 use Rattle.lk_check_walk.specs.declared.gathered.Others.TheVariants as others
 
 module _ (old new : Table) (good : IsTable old) (longer : IsLonger old new) where
-  type_stays : (t : Option ℕ) → IfSome t (IsKnown old) → option_map (meaning old) t ≡ option_map (meaning new) t
+  pub type_stays : (t : Option ℕ) → IfSome t (IsKnown old) → option_map (meaning old) t ≡ option_map (meaning new) t
   type_stays None known = refl
   type_stays (Some t) known = ap Some (sym (meaning_stays old new good longer t known))
 
@@ -99,3 +103,47 @@ struct_admitted checker env wanted name admitted s t number means is =
     by : may_use env (tag_meant env wanted name) wanted ≡ true →
         struct_named env wanted name ≡ of_type_alone (meant env (tag_meant env wanted name) (Some name)).additions (Some (Struct (meant env (tag_meant env wanted name) (Some name)).number))
     by admitted = ap (λ b. if b then of_type_alone (meant env (tag_meant env wanted name) (Some name)).additions (Some (Struct (meant env (tag_meant env wanted name) (Some name)).number)) else of_type_alone nothing None) admitted
+
+-- ---- `enum tag`
+
+abbrev is_there : {A : Type 0} → List A → Bool
+is_there [] = false
+is_there (x ∷ xs) = true
+
+named_or_not : (may : Bool) (name : Name) → (if may then Some int else None) ≡ (if is_there (if may then [] else breach_of Redeclared name ∷ []) then None else Some int)
+named_or_not true name = refl
+named_or_not false name = refl
+
+enum_by : (env : Env) (name : Name) (found : Option Tag) → look_up_tag env name ≡ found →
+    with_optional None (λ tag. type_if_admitted env NamesEnum (Some tag) int) found ≡ (if is_there (enum_rules env name found) then None else Some int)
+enum_by env name None same = refl
+enum_by env name (Some tag) same =
+    named_or_not (may_use env (Some tag) NamesEnum) name ∙
+    ap (λ found. if is_there (if may_use env found NamesEnum then [] else breach_of Redeclared name ∷ []) then None else Some int) (sym same)
+
+broken_there : (b : Option CodeBreach) → is_there (optional_breach b) ≡ is_some b
+broken_there None = refl
+broken_there (Some b) = refl
+
+pub enum_is : (checker : Checker) (env : Env) (name : Name) (b : Option CodeBreach) (t : Option ℕ) → IsIn checker env → optional_breach b ≡ enum_rules env name (look_up_tag env name) →
+    option_map (meaning checker.types) t ≡ (if is_some b then None else Some int) → IsNamedType checker env t (enum_named env name)
+enum_is checker env name b t is are type = record {
+  is = ap (of_type_alone nothing)
+      (enum_by env name (look_up_tag env name) refl ∙ ap (λ bs. if is_there bs then None else Some int) (sym are) ∙ ap (λ broken. if broken then None else Some int) (broken_there b) ∙ sym type);
+  behind = subst (IsIn checker) (sym (extend_nothing env)) is;
+}
+
+-- ---- a typedef name
+
+pub typedef_put : (checker : Checker) (env : Env) (before after : Gathered) (t : Option ℕ) (type : Option Ty) → IsIn checker env → IfSome t (IsKnown checker.types) →
+    option_map (meaning checker.types) t ≡ type →
+    ((table : Table) (told : SpecifierTold) (codes : List Breach) → IfSome t (IsKnown table) → IsGathered table before told codes →
+    IsGathered table after (record told { types = told.types ++ option_map (meaning table) t ∷ [] }) codes) →
+    IsSpecifierPut checker checker env before after (of_type_alone nothing type) []
+typedef_put checker env before after t type is known same put_type = record {
+  gathered = λ others codes g.
+      subst (λ type. IsGathered checker.types after (then_specifier others (of_type_alone nothing type)) (codes ++ [])) same
+      (subst (λ bs. IsGathered checker.types after (then_specifier others (of_type_alone nothing (option_map (meaning checker.types) t))) bs) (sym (append-nil codes))
+      (type_put checker.types after others codes nothing (option_map (meaning checker.types) t) (put_type checker.types others codes known g)));
+  behind = subst (IsIn checker) (sym (extend_nothing env)) is;
+}

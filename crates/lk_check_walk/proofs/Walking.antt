@@ -54,14 +54,14 @@ same_env : (env : Env) {ds es : List Declared} {ts us : List Tag} {ms ns : List 
     ◌≡◌ {A = Env} (record env { declared = ds; tags = ts; structs = ms }) (record env { declared = es; tags = us; structs = ns })
 same_env env p q r = cc
 
-extend_nothing : (env : Env) → extend env nothing ≡ env
+pub extend_nothing : (env : Env) → extend env nothing ≡ env
 extend_nothing env = same_env env (append-nil env.declared) (append-nil env.tags) refl
 
 steps_in_turn : (structs : List Members) (a b : List StructStep) → after_steps (after_steps structs a) b ≡ after_steps structs (a ++ b)
 steps_in_turn structs [] b = refl
 steps_in_turn structs (step ∷ a) b = steps_in_turn (after_step structs step) a b
 
-extend_both : (env : Env) (a b : Additions) → extend (extend env a) b ≡ extend env (both a b)
+pub extend_both : (env : Env) (a b : Additions) → extend (extend env a) b ≡ extend env (both a b)
 extend_both env a b = same_env env (append_assoc env.declared a.declared b.declared) (append_assoc env.tags a.tags b.tags) (steps_in_turn env.structs a.structs b.structs)
 
 -- what a node stands as doesn't matter to the state
@@ -78,24 +78,24 @@ longer_trans a b c p q = record {
   members = λ s closed. q.members s (ap is_empty (p.members s closed) ∙ closed) ∙ p.members s closed;
 }
 
-known_longer : (old new : Table) (t : ℕ) → IsLonger old new → IsKnown old t → IsKnown new t
+pub known_longer : (old new : Table) (t : ℕ) → IsLonger old new → IsKnown old t → IsKnown new t
 known_longer old new t longer known = rw longer.types.1 (omega (arith, known, length-append old.types longer.types.0))
 
-type_known_longer : (old new : Table) (t : ExprType) → IsLonger old new → IsKnownType old t → IsKnownType new t
+pub type_known_longer : (old new : Table) (t : ExprType) → IsLonger old new → IsKnownType old t → IsKnownType new t
 type_known_longer old new (Listed t) longer known = known_longer old new t longer known
 type_known_longer old new (PointerTo t) longer known = known_longer old new t longer known
 
-type_longer : (old new : Table) (t : ExprType) → IsTable old → IsLonger old new → IsKnownType old t → meaning_of new t ≡ meaning_of old t
-type_longer old new (Listed t) good longer known = meaning_stays old new good longer t known
-type_longer old new (PointerTo t) good longer known = ap Pointer (meaning_stays old new good longer t known)
+pub expr_type_longer : (old new : Table) (t : ExprType) → IsTable old → IsLonger old new → IsKnownType old t → meaning_of new t ≡ meaning_of old t
+expr_type_longer old new (Listed t) good longer known = meaning_stays old new good longer t known
+expr_type_longer old new (PointerTo t) good longer known = ap Pointer (meaning_stays old new good longer t known)
 
-operand_longer : (old new : Table) (t : Typed) → IsLonger old new → IsOperand old t → IsOperand new t
+pub operand_longer : (old new : Table) (t : Typed) → IsLonger old new → IsOperand old t → IsOperand new t
 operand_longer old new t longer is = record { known = type_known_longer old new t.ty longer is.known; listed = is.listed }
 
-typing_longer : (old new : Table) (t : Typed) (x : Typing) → IsTable old → IsLonger old new → IsTyping old t x → IsTyping new t x
+pub typing_longer : (old new : Table) (t : Typed) (x : Typing) → IsTable old → IsLonger old new → IsTyping old t x → IsTyping new t x
 typing_longer old new t x good longer is = record {
   operand = operand_longer old new t longer is.operand;
-  type = type_longer old new t.ty good longer is.operand.known ∙ is.type;
+  type = expr_type_longer old new t.ty good longer is.operand.known ∙ is.type;
   place = is.place;
   constant = is.constant;
   null = is.null;
@@ -123,7 +123,7 @@ pub found_operand : (table : Table) (env : Env) (found : Found) (x : Judged) →
 found_operand table env found x h = found_typing_operand table found x.typing h.typing
 
 -- how it is written is told alike in environments of one outside
-look_elsewhere : (env other : Env) (look : Look) (x : spec.Look) → env.outside ≡ other.outside → IsLook env look x → IsLook other look x
+pub look_elsewhere : (env other : Env) (look : Look) (x : spec.Look) → env.outside ≡ other.outside → IsLook env look x → IsLook other look x
 look_elsewhere env other look x same h = record {
   called = h.called;
   routine = subst (λ (outside : Outside). names_routine (record env { outside = outside }) x.routine ≡ look.is_routine) same h.routine;

@@ -1,5 +1,5 @@
 //! Enumerators, behind their values (C99 6.7.2.2).
-ghost use Rattle.std.specs.Prelude.{◌≡◌, ◌++◌, List, OnOk};
+ghost use Rattle.std.specs.Prelude.{◌≡◌, ◌++◌, [], List, false, is_some, if◌then◌else◌, IfOk, OnOk};
 ghost use Rattle.lk_typed.specs.Env.{Env};
 ghost use Rattle.lk_typed.specs.Faults.{Breach};
 ghost use Rattle.lk_typed.specs.HolderRules.{counted_rules, written_rules};
@@ -10,12 +10,14 @@ ghost use Rattle.lk_typed.specs.Redeclared.{name_rules};
 ghost use Rattle.lk_typed.specs.Told.{declares, enumerator, next_value as spec_next, written_value as spec_written};
 ghost use Rattle.lk_check_decl.specs.Breaches.{told};
 ghost use Rattle.lk_rules.specs.Keeping.{KeepsCodes};
+ghost use Rattle.lk_check_walk.specs.Counting.{IsSettled, constant_found};
 ghost use Rattle.lk_check_walk.specs.Keepings.{AreUnnamed};
 ghost use Rattle.lk_check_walk.specs.Moves.{Grows, GoesOn};
+ghost use Rattle.lk_check_walk.specs.Specifying.{IsSame, KeepsAt};
 ghost use Rattle.lk_check_walk.specs.Walks.{IsIn, IsSound, kept_in, mark_at};
 
 use crate::checker::Checker;
-use crate::found::At;
+use crate::found::{At, Found};
 use lk_base::{Code, Name, NoMemory};
 use lk_check_decl::{next_code, next_value, written_code, written_value};
 use lk_typed::{Constant, Meaning};
@@ -27,6 +29,15 @@ pub(crate) struct ItemValue {
     pub(crate) value: Option<i32>,
     /// Its code.
     pub(crate) code: Option<Code>,
+}
+
+/// What is found of an enumerator.
+#[derive(Clone, Copy)]
+pub(crate) struct ItemFound {
+    /// Its value, where no fault takes it away.
+    pub(crate) value: Option<i32>,
+    /// Whether a `sizeof` stands in it.
+    pub(crate) holds_sizeof: bool,
 }
 
 /// The value of an enumerator that is written as an expression.
@@ -113,5 +124,90 @@ impl Checker {
         let meaning = declared(value);
         self.declare_plain(name, meaning, at.ordinal)?;
         Ok(())
+    }
+
+    /// Keeps the codes of an enumerator of this value, none where its expression has no type.
+    fn keep_typed_item(
+        &mut self,
+        at: At,
+        name: &Name,
+        found: ItemValue,
+        is_typed: bool,
+    ) -> Result<(), NoMemory>
+        requires { IsSound self.old }
+        ensures same { OnOk result (IsSame self.old self.new) }
+        ensures keeps { OnOk result ((env : Env) (broken : List Breach) → IsIn self.old env →
+            found.code ≡ told broken → AreUnnamed broken → KeepsAt self.old self.new at (if is_typed then
+            broken ++ name_rules env (plain_name name.now (item_meaning found.value)) else [])) }
+    {
+        if !is_typed {
+            return Ok(());
+        }
+        self.keep_item(at, name, found)?;
+        Ok(())
+    }
+
+    /// Keeps the codes of an enumerator of this value, none where its expression has no type, and declares it.
+    pub(crate) fn settle_item(
+        &mut self,
+        at: At,
+        name: &Name,
+        found: ItemValue,
+        is_typed: bool,
+    ) -> Result<(), NoMemory>
+        requires { IsSound self.old }
+        ensures { OnOk result ((env : Env) (broken : List Breach) → IsIn self.old env →
+            found.code ≡ told broken → AreUnnamed broken →
+            IsSettled self.old self.new env at name.now found.value (if is_typed then
+            broken ++ name_rules env (plain_name name.now (item_meaning found.value)) else [])) }
+    {
+        self.keep_typed_item(at, name, found, is_typed)?;
+        self.declare_item(at, name, found.value)?;
+        Ok(())
+    }
+
+    /// An enumerator whose value is written as an expression of which this is found.
+    pub(crate) fn written_item(
+        &mut self,
+        at: At,
+        name: &Name,
+        found: Found,
+    ) -> Result<ItemFound, NoMemory>
+        requires { IsSound self.old }
+        ensures value { IfOk result (λ item. item.value ≡ spec_written (constant_found found)) }
+        ensures holds_sizeof { IfOk result (λ item. item.holds_sizeof ≡ found.look.holds_sizeof) }
+        ensures settled { IfOk result (λ item. (env : Env) → IsIn self.old env →
+            IsSettled self.old self.new env at name.now item.value (if is_some found.typing then
+            written_rules (constant_found found) ++
+            name_rules env (plain_name name.now (item_meaning item.value)) else [])) }
+    {
+        let value = written(found.constant());
+        self.settle_item(at, name, value, found.typing.is_some())?;
+        Ok(ItemFound {
+            value: value.value,
+            holds_sizeof: found.look.holds_sizeof,
+        })
+    }
+
+    /// An enumerator without an expression, behind one of this value.
+    pub(crate) fn counted_item(
+        &mut self,
+        at: At,
+        name: &Name,
+        before: Option<i32>,
+    ) -> Result<ItemFound, NoMemory>
+        requires { IsSound self.old }
+        ensures value { IfOk result (λ item. item.value ≡ spec_next before) }
+        ensures holds_sizeof { IfOk result (λ item. item.holds_sizeof ≡ false) }
+        ensures settled { IfOk result (λ item. (env : Env) → IsIn self.old env →
+            IsSettled self.old self.new env at name.now item.value
+            (counted_rules before ++ name_rules env (plain_name name.now (item_meaning item.value)))) }
+    {
+        let value = counted(before);
+        self.settle_item(at, name, value, true)?;
+        Ok(ItemFound {
+            value: value.value,
+            holds_sizeof: false,
+        })
     }
 }

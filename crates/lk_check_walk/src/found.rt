@@ -1,11 +1,11 @@
 //! What is found of expressions and types, and what an expression stands as.
-ghost use Rattle.std.specs.Prelude.{◌≡◌};
+ghost use Rattle.std.specs.Prelude.{◌≡◌, option_map};
 ghost use Rattle.lk_typed.specs.declared.role.Role.TheVariants.{Operand};
 
 use crate::addresses::Address;
 use lk_base::Spot;
 use lk_check_expr::Look;
-use lk_typed::{Role, Typed};
+use lk_typed::{Constant, Role, Typed};
 use lk_types::TypeId;
 
 /// Where a node stands, and its number.
@@ -48,6 +48,18 @@ pub struct Found {
     pub address: Address,
     /// How it is written.
     pub look: Look,
+}
+
+impl Found {
+    /// What it is as an integer constant expression, where it has a type.
+    pub(crate) fn constant(&self) -> Option<Constant>
+        ensures { result ≡ option_map (λ typed. typed.constant) self.now.typing }
+    {
+        match &self.typing {
+            Some(typed) => Some(typed.constant),
+            None => None,
+        }
+    }
 }
 
 /// What is found of a type name or a parameter.

@@ -6,26 +6,42 @@
 #![tactic(auto)]
 
 mod addresses;
+mod arguments;
 mod checker;
+mod declarators;
 mod declaring;
+mod defining;
 mod elements;
 mod enumerators;
+mod expressions;
+mod fields;
 mod found;
 mod gathered;
+mod items;
+mod keeping;
 mod laws;
 mod layers;
+mod member_rules;
+mod members;
 mod names;
 mod naming;
+mod parameters;
+mod passed;
 mod roles;
 mod ruled;
+mod scoping;
 mod settle;
 mod shapes;
+mod specifiers;
 mod state;
 mod structs;
 mod tagged;
+mod type_names;
+mod walked;
 
 pub use addresses::{Address, Place, is_address, value_address};
 pub use checker::{Checker, Outside};
+pub use declarators::{Asked, DeclaratorFound, DeclaredName, declared_name};
 pub use found::{At, Found, Stands, TypeFound};
 pub use gathered::{Breach, Specified};
 pub use laws::types_follow_forms;

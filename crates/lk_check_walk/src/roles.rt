@@ -85,7 +85,7 @@ fn role_of_plain(types: &TypeTable, left: &Found) -> Role
 
 /// The right side of an assignment: that of `=` is converted to the type of the left one, where that is no function; that of
 /// `op=` isn't converted directly.
-pub(crate) fn role_on_right(types: &TypeTable, op: AssignOperator, left: &Found) -> Role
+fn role_on_right(types: &TypeTable, op: AssignOperator, left: &Found) -> Role
     requires { HasOperand types.now left.now }
     ensures value { (env : Env) (x : Option Typing) → IsFoundTyping types.now left.now x →
         role_in types.now result ≡ (spec.as_right (operator_of op) x env).role }
@@ -107,8 +107,9 @@ pub(crate) fn role_on_right(types: &TypeTable, op: AssignOperator, left: &Found)
 }
 
 /// The operand of a cast: a value that is converted to the type that is named, where there is one.
-pub(crate) fn role_in_cast(target: &TypeFound) -> Role
-    ensures value { (table : Table) (env : Env) (t : Option Ty) → option_map (meaning table) target.now.ty ≡ t →
+fn role_in_cast(target: &TypeFound) -> Role
+    ensures value { (table : Table) (env : Env) (t : Option Ty) →
+        option_map (meaning table) target.now.ty ≡ t →
         role_in table result ≡ (spec.as_cast t env).role }
     ensures known { (table : Table) → HasKnownType table target.now → IsKnownRole table result }
 {
@@ -118,10 +119,35 @@ pub(crate) fn role_in_cast(target: &TypeFound) -> Role
     }
 }
 
+/// The operand of a cast, where that stands in the size of an allocation or not.
+pub(crate) fn in_cast(target: &TypeFound, in_size: bool) -> Stands
+    ensures value { (table : Table) (env : Env) (t : Option Ty) →
+        option_map (meaning table) target.now.ty ≡ t →
+        role_in table result.role ≡ (spec.as_cast t env).role }
+    ensures known { (table : Table) → HasKnownType table target.now → IsKnownRole table result.role }
+    ensures in_size { result.in_size ≡ in_size }
+{
+    let role = role_in_cast(target);
+    Stands { role, in_size }
+}
+
 impl Checker {
+    /// The right side of an assignment, behind this left one.
+    pub(crate) fn on_right(&self, op: AssignOperator, left: &Found, in_size: bool) -> Stands
+        requires { HasOperand self.now.types left.now }
+        ensures value { (env : Env) (x : Option Typing) → IsFoundTyping self.now.types left.now x →
+            role_in self.now.types result.role ≡ (spec.as_right (operator_of op) x env).role }
+        ensures known { IsKnownRole self.now.types result.role }
+        ensures in_size { result.in_size ≡ in_size }
+    {
+        let role = role_on_right(&self.types, op, left);
+        Stands { role, in_size }
+    }
+
     /// The operand of an operator before it, where that stands so.
     pub(crate) fn in_prefix(&self, op: PrefixOperator, stands: Stands) -> Stands
-        ensures value { role_in self.now.types result.role ≡ spec.role_in_prefix op (role_in self.now.types stands.role) }
+        ensures value { role_in self.now.types result.role ≡
+            spec.role_in_prefix op (role_in self.now.types stands.role) }
         ensures known { IsKnownRole self.now.types result.role }
         ensures in_size { result.in_size ≡ stands.in_size }
     {
@@ -134,7 +160,8 @@ impl Checker {
 
     /// What is in parentheses that stand so.
     pub(crate) fn in_parentheses(&self, stands: Stands) -> Stands
-        ensures value { role_in self.now.types result.role ≡ spec.role_in_parentheses (role_in self.now.types stands.role) }
+        ensures value { role_in self.now.types result.role ≡
+            spec.role_in_parentheses (role_in self.now.types stands.role) }
         ensures known { IsKnownRole self.now.types result.role }
         ensures in_size { result.in_size ≡ stands.in_size }
     {

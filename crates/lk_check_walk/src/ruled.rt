@@ -39,7 +39,7 @@ pub(crate) struct Ruled {
 
 impl Ruled {
     /// Nothing: a part has no type.
-    fn silent() -> Ruled
+    pub(crate) fn silent() -> Ruled
         ensures { (table : Table) → IsRuled table result spec.Silent }
     {
         Ruled {

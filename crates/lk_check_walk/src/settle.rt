@@ -1,18 +1,22 @@
-//! An expression whose parts are judged: the rule of its form is asked, its code is kept, and what is found of it is told (C99 6.5).
-ghost use Rattle.std.specs.Prelude.{◌≡◌, ◌||◌, Bool, Option, IfOk, OnOk, option_map};
+//! An expression whose parts are judged: the rule of its form is asked, its code is kept, and what is found of it is told
+//! (C99 6.5).
+ghost use Rattle.std.specs.Prelude.{◌≡◌, ◌||◌, Bool, Option, List, IfOk, OnOk, option_map};
 ghost use Rattle.lk_types.specs.Table.{Table};
 ghost use Rattle.lk_tree.specs.declared.expression.DeclaratorForm.TheOpen.{ExprForm-F};
 ghost use Rattle.lk_typed.specs.Env.{Env};
 ghost use Rattle.lk_typed.specs.ExprRules.{look_of, rule};
 ghost use Rattle.lk_typed.specs.Faults.{breach};
+ghost use Rattle.lk_typed.specs.Names.{IsKnownRole, role_in};
 ghost use Rattle.lk_typed.specs.NodeRules.{mark};
 ghost use Rattle.lk_typed.specs.Typing as spec;
 ghost use Rattle.lk_typed.specs.Typing.{Judged, Named, Typing, plain_look, with_one};
 ghost use Rattle.lk_check_expr.specs.Looks.{IsLook};
+ghost use Rattle.lk_check_walk.specs.Arguments.{AreOperands, IsGiven};
 ghost use Rattle.lk_check_walk.specs.Judging.{HasKnownType, HasOperand, IsRuled, SettlesOne, SettlesThree, SettlesTwo, TellsNoName, code_in, typed_in};
 ghost use Rattle.lk_check_walk.specs.Walks.{IsFound, IsFoundType, IsFoundTyping, IsIn, IsSound, JudgedForm, Settles, Tells, mark_at};
 
 use crate::addresses::Address;
+use crate::arguments::{Given, call_ruled};
 use crate::checker::Checker;
 use crate::found::{At, Found, TypeFound};
 use crate::ruled::{
@@ -23,7 +27,7 @@ use crate::ruled::{
 use lk_base::{Kind, Name, NoMemory};
 use lk_check_expr::{Look, character, number};
 use lk_tree::{AssignOperator, BinaryOperator, Expr, PrefixOperator, StepOperator};
-use lk_typed::{Typed, Verdict};
+use lk_typed::{Role, Typed, Verdict};
 
 /// Where an expression stands.
 pub(crate) fn at_expr(e: &Expr) -> At
@@ -37,13 +41,14 @@ pub(crate) fn at_expr(e: &Expr) -> At
 
 /// Of an expression with one operand nothing is asked but whether a `sizeof` stands in it.
 fn look_of_one(a: &Look) -> Look
-    ensures { (env : Env) (x : spec.Look) → IsLook env a.now x → IsLook env result (plain_look x.holds_sizeof) }
+    ensures { (env : Env) (x : spec.Look) →
+        IsLook env a.now x → IsLook env result (plain_look x.holds_sizeof) }
 {
     Look::plain(a.holds_sizeof)
 }
 
 /// Whether one of two things holds.
-fn either(first: bool, second: bool) -> bool
+pub(crate) fn either(first: bool, second: bool) -> bool
     ensures { result ≡ first || second }
 {
     first || second
@@ -68,9 +73,19 @@ fn look_of_three(a: &Look, b: &Look, c: &Look) -> Look
     Look::plain(holds)
 }
 
+/// The same of a call, by what holds of its arguments.
+fn look_of_call(f: &Look, in_arguments: bool) -> Look
+    ensures { (env : Env) (x : spec.Look) (holds : Bool) → IsLook env f.now x → in_arguments ≡ holds →
+        IsLook env result (plain_look (x.holds_sizeof || holds)) }
+{
+    let holds = either(f.holds_sizeof, in_arguments);
+    Look::plain(holds)
+}
+
 /// The same of a cast.
 fn look_of_cast(target: &TypeFound, a: &Look) -> Look
-    ensures { (env : Env) (holds : Bool) (x : spec.Look) → target.now.holds_sizeof ≡ holds → IsLook env a.now x →
+    ensures { (env : Env) (holds : Bool) (x : spec.Look) → target.now.holds_sizeof ≡ holds →
+        IsLook env a.now x →
         IsLook env result (plain_look (holds || x.holds_sizeof)) }
 {
     let holds = either(target.holds_sizeof, a.holds_sizeof);
@@ -97,7 +112,8 @@ impl Checker {
     fn settle(&mut self, e: &Expr, ruled: Ruled, look: Look) -> Result<Found, NoMemory>
         requires { IsSound self.old }
         ensures { IfOk result (λ found. (env behind : Env) (form : JudgedForm) → TellsNoName e.now →
-            IsRuled self.old.types ruled (rule behind e.now.ordinal form) → IsLook env look (look_of env form) →
+            IsRuled self.old.types ruled (rule behind e.now.ordinal form) →
+            IsLook env look (look_of env form) →
             Settles self.old self.new e.now env behind form found) }
     {
         let at = at_expr(e);
@@ -114,7 +130,8 @@ impl Checker {
         requires sound { IsSound self.old }
         requires first { HasOperand self.old.types a.now }
         requires second { HasOperand self.old.types b.now }
-        ensures { IfOk result (λ found. SettlesTwo self.old self.new e.now a.now b.now found (λ x y. ExprForm-F.Comma x y)) }
+        ensures { IfOk result (λ found.
+            SettlesTwo self.old self.new e.now a.now b.now found (λ x y. ExprForm-F.Comma x y)) }
     {
         let ruled = comma_ruled(&self.types, a, b);
         let look = look_of_two(&a.look, &b.look);
@@ -133,7 +150,8 @@ impl Checker {
         requires sound { IsSound self.old }
         requires first { HasOperand self.old.types a.now }
         requires second { HasOperand self.old.types b.now }
-        ensures { IfOk result (λ found. SettlesTwo self.old self.new e.now a.now b.now found (λ x y. ExprForm-F.Assign op x y)) }
+        ensures { IfOk result (λ found.
+            SettlesTwo self.old self.new e.now a.now b.now found (λ x y. ExprForm-F.Assign op x y)) }
     {
         let ruled = assign_ruled(&self.types, self.names.structs(), op, a, b);
         let look = look_of_two(&a.look, &b.look);
@@ -173,7 +191,8 @@ impl Checker {
         requires sound { IsSound self.old }
         requires first { HasOperand self.old.types a.now }
         requires second { HasOperand self.old.types b.now }
-        ensures { IfOk result (λ found. SettlesTwo self.old self.new e.now a.now b.now found (λ x y. ExprForm-F.Binary op x y)) }
+        ensures { IfOk result (λ found.
+            SettlesTwo self.old self.new e.now a.now b.now found (λ x y. ExprForm-F.Binary op x y)) }
     {
         let ruled = binary_ruled(&self.types, self.names.structs(), op, a, b);
         let look = Look::binary(op, &a.look, &b.look);
@@ -191,12 +210,36 @@ impl Checker {
         requires sound { IsSound self.old }
         requires target { HasKnownType self.old.types target.now }
         requires operand { HasOperand self.old.types a.now }
-        ensures { IfOk result (λ found. (env behind : Env) (t : Named) (x : Judged) → IsIn self.old behind → TellsNoName e.now →
+        ensures { IfOk result (λ found.
+            (env behind : Env) (t : Named) (x : Judged) → IsIn self.old behind → TellsNoName e.now →
             IsFoundType self.old.types target.now t → IsFound self.old.types env a.now x →
             Settles self.old self.new e.now env behind (ExprForm-F.Cast t x) found) }
     {
         let ruled = cast_ruled(&self.types, target, a);
         let look = look_of_cast(target, &a.look);
+        let found = self.settle(e, ruled, look)?;
+        Ok(found)
+    }
+
+    /// A call that stands so.
+    pub(crate) fn settle_call(
+        &mut self,
+        e: &Expr,
+        role: Role,
+        f: &Found,
+        given: &Given,
+    ) -> Result<Found, NoMemory>
+        requires sound { IsSound self.old }
+        requires role { IsKnownRole self.old.types role }
+        requires function { HasOperand self.old.types f.now }
+        requires arguments { AreOperands self.old.types given.now }
+        ensures { IfOk result (λ found. (env behind : Env) (x : Judged) (ys : List Judged) → TellsNoName e.now →
+            behind.outside ≡ env.outside → role_in self.old.types role ≡ behind.role →
+            IsFound self.old.types env f.now x → IsGiven self.old.types env given.now ys →
+            Settles self.old self.new e.now env behind (ExprForm-F.Call x ys) found) }
+    {
+        let ruled = call_ruled(&self.types, role, f, given);
+        let look = look_of_call(&f.look, given.holds_sizeof);
         let found = self.settle(e, ruled, look)?;
         Ok(found)
     }
@@ -210,7 +253,8 @@ impl Checker {
     ) -> Result<Found, NoMemory>
         requires sound { IsSound self.old }
         requires operand { HasOperand self.old.types a.now }
-        ensures { IfOk result (λ found. SettlesOne self.old self.new e.now a.now found (λ x. ExprForm-F.Pre op x)) }
+        ensures { IfOk result (λ found.
+            SettlesOne self.old self.new e.now a.now found (λ x. ExprForm-F.Pre op x)) }
     {
         let ruled = step_ruled(&self.types, self.names.structs(), a);
         let look = look_of_one(&a.look);
@@ -227,7 +271,8 @@ impl Checker {
     ) -> Result<Found, NoMemory>
         requires sound { IsSound self.old }
         requires operand { HasOperand self.old.types a.now }
-        ensures { IfOk result (λ found. SettlesOne self.old self.new e.now a.now found (λ x. ExprForm-F.Post op x)) }
+        ensures { IfOk result (λ found.
+            SettlesOne self.old self.new e.now a.now found (λ x. ExprForm-F.Post op x)) }
     {
         let ruled = step_ruled(&self.types, self.names.structs(), a);
         let look = look_of_one(&a.look);
@@ -244,7 +289,8 @@ impl Checker {
     ) -> Result<Found, NoMemory>
         requires sound { IsSound self.old }
         requires operand { HasOperand self.old.types a.now }
-        ensures { IfOk result (λ found. SettlesOne self.old self.new e.now a.now found (λ x. ExprForm-F.Prefix op x)) }
+        ensures { IfOk result (λ found.
+            SettlesOne self.old self.new e.now a.now found (λ x. ExprForm-F.Prefix op x)) }
     {
         let ruled = prefix_ruled(&self.types, op, a);
         let look = a.look.behind_prefix(op);
@@ -261,7 +307,8 @@ impl Checker {
     ) -> Result<Found, NoMemory>
         requires sound { IsSound self.old }
         requires operand { HasOperand self.old.types a.now }
-        ensures { IfOk result (λ found. (env behind : Env) (x : Judged) → IsIn self.old behind → TellsNoName e.now →
+        ensures { IfOk result (λ found.
+            (env behind : Env) (x : Judged) → IsIn self.old behind → TellsNoName e.now →
             in_size ≡ behind.in_size → IsFound self.old.types env a.now x →
             Settles self.old self.new e.now env behind (ExprForm-F.SizeofExpr x) found) }
     {
@@ -280,7 +327,8 @@ impl Checker {
     ) -> Result<Found, NoMemory>
         requires sound { IsSound self.old }
         requires known { HasKnownType self.old.types named.now }
-        ensures { IfOk result (λ found. (env behind : Env) (t : Named) → IsIn self.old behind → TellsNoName e.now →
+        ensures { IfOk result (λ found.
+            (env behind : Env) (t : Named) → IsIn self.old behind → TellsNoName e.now →
             in_size ≡ behind.in_size → IsFoundType self.old.types named.now t →
             Settles self.old self.new e.now env behind (ExprForm-F.SizeofType t) found) }
     {
@@ -295,7 +343,8 @@ impl Checker {
         requires sound { IsSound self.old }
         requires array { HasOperand self.old.types a.now }
         requires inner { HasOperand self.old.types i.now }
-        ensures { IfOk result (λ found. SettlesTwo self.old self.new e.now a.now i.now found (λ x y. ExprForm-F.Index x y)) }
+        ensures { IfOk result (λ found.
+            SettlesTwo self.old self.new e.now a.now i.now found (λ x y. ExprForm-F.Index x y)) }
     {
         let ruled = index_ruled(&self.types, self.names.structs(), a, i);
         let look = look_of_two(&a.look, &i.look);
@@ -307,7 +356,8 @@ impl Checker {
     pub(crate) fn settle_dot(&mut self, e: &Expr, a: &Found, name: &Name) -> Result<Found, NoMemory>
         requires sound { IsSound self.old }
         requires operand { HasOperand self.old.types a.now }
-        ensures { IfOk result (λ found. SettlesOne self.old self.new e.now a.now found (λ x. ExprForm-F.Member x name.now)) }
+        ensures { IfOk result (λ found.
+            SettlesOne self.old self.new e.now a.now found (λ x. ExprForm-F.Member x name.now)) }
     {
         let ruled = dot_ruled(&self.types, self.names.structs(), a, name);
         let look = look_of_one(&a.look);
@@ -324,7 +374,8 @@ impl Checker {
     ) -> Result<Found, NoMemory>
         requires sound { IsSound self.old }
         requires operand { HasOperand self.old.types a.now }
-        ensures { IfOk result (λ found. SettlesOne self.old self.new e.now a.now found (λ x. ExprForm-F.Arrow x name.now)) }
+        ensures { IfOk result (λ found.
+            SettlesOne self.old self.new e.now a.now found (λ x. ExprForm-F.Arrow x name.now)) }
     {
         let ruled = arrow_ruled(&self.types, self.names.structs(), a, name);
         let look = look_of_one(&a.look);
@@ -336,7 +387,8 @@ impl Checker {
     pub(crate) fn settle_paren(&mut self, e: &Expr, a: &Found) -> Result<Found, NoMemory>
         requires sound { IsSound self.old }
         requires operand { HasOperand self.old.types a.now }
-        ensures { IfOk result (λ found. SettlesOne self.old self.new e.now a.now found (λ x. ExprForm-F.Paren x)) }
+        ensures { IfOk result (λ found.
+            SettlesOne self.old self.new e.now a.now found (λ x. ExprForm-F.Paren x)) }
     {
         let ruled = paren_ruled(a);
         let look = a.look.in_parentheses();

@@ -1,5 +1,5 @@
 //! The type of a declarator, made of the type on its left from its outermost form to its name (C99 6.7.5).
-ghost use Rattle.std.specs.Prelude.{◌≡◌, ◌||◌, IfOk, OnOk, IfSome, All, reverse};
+ghost use Rattle.std.specs.Prelude.{◌≡◌, ◌&&◌, ◌||◌, IfOk, OnOk, IfSome, All, reverse};
 ghost use Rattle.std.specs.Option.{option_map};
 ghost use Rattle.lk_types.specs.Table.{IsKnown};
 ghost use Rattle.lk_typed.specs.Meaning.{meaning};
@@ -35,8 +35,15 @@ pub(crate) struct Left {
     pub(crate) is_large: bool,
 }
 
+/// Whether two things hold.
+pub(crate) fn both(one: bool, other: bool) -> bool
+    ensures { result ≡ (one && other) }
+{
+    one && other
+}
+
 /// Whether one of two things holds.
-fn either(one: bool, other: bool) -> bool
+pub(crate) fn either(one: bool, other: bool) -> bool
     ensures { result ≡ (one || other) }
 {
     one || other

@@ -29,7 +29,7 @@ use std::alloc::Global;
 
 impl Checker {
     /// The number of a new struct, of whose members nothing is known.
-    fn new_struct(&mut self) -> Result<u32, NoMemory>
+    pub(crate) fn new_struct(&mut self) -> Result<u32, NoMemory>
         requires { IsSound self.old }
         ensures number { IfOk result (λ s. s ≡ length self.old.names.structs) }
         ensures structs { OnOk result (self.new.names.structs ≡ self.old.names.structs ++ members.NotYet ∷ []) }

@@ -1,16 +1,14 @@
 -- What racing items begin with.
-use Rattle.std.specs.List.{list_any}
-use Rattle.std.proofs.lemmas.Bool.{and_parts, false≢true, or_cases}
+use Rattle.std.proofs.lemmas.Bool.{and_parts, both_ways, or_cases}
 use Rattle.lk_facts.specs.Program.{writes_at}
-use Rattle.std.proofs.Common.{◌≡◌, ◌<◌, ◌+◌, ◌++◌, ◌&&◌, ◌||◌, ◌⊎◌, ◌↔◌, ℕ, true, false, List, [], ◌∷◌, length, get_or, take, Contains, refl, sym, ◌∙◌, subst, ⊎_elim, inl, inr}
-use Rattle.std.proofs.lemmas.List.{take_more}
+use Rattle.std.proofs.Common.{◌≡◌, ◌<◌, ◌++◌, ◌&&◌, ◌||◌, ◌⊎◌, ◌↔◌, ℕ, true, false, List, [], ◌∷◌, Contains, refl, sym, subst, ⊎_elim, inl, inr}
 use Rattle.std.proofs.lemmas.List.Elements.{Contains-append_left, Contains-push, Contains-push_cases}
 use Rattle.lk_facts.specs.Facts.{FactTable, basis_of}
 use Rattle.lk_facts.specs.Racing.{Setting}
 use Rattle.lk_conflict.specs.Bases.{MayBeAt, IsInConflict, IsBasis, Adds}
 use Rattle.lk_conflict.specs.Kinds.{IsRacingKind, are_in_conflict, kind_of, may_meet}
 use Rattle.lk_conflict.specs.Listing.{at_location}
-use Rattle.lk_rise.proofs.ListLemmas.{in_filter, passes_there}
+use Rattle.lk_rise.proofs.ListLemmas.{in_filter}
 use Rattle.lk_rise.specs.PointItems.{IsItemOf}
 use Rattle.lk_rise.specs.declared.point_items.ItemAt.{ItemAt}
 use Rattle.lk_rise.specs.declared.correlations.Correlation.{Correlation}
@@ -98,13 +96,12 @@ module _ (facts : FactTable) (setting : Setting) (f o : ℕ) (list here : List I
   )
 
 -- a function none of whose items is a child's has no conflict
-pub none_meet : (facts : FactTable) (setting : Setting) (f o : ℕ) (i : ItemAt) (list : List ItemAt) → ((i : ItemAt) → Contains list i ↔ IsItemOf (basis_of facts) setting.has f i) →
-    list_any (λ (j : ItemAt). j.child) list ≡ false → IsInConflict facts setting f o i → ⊥
-none_meet facts setting f o i list all none is =
-    let children : (j : ItemAt) → Contains list j → j.child ≡ true → ⊥ = λ j there child. false≢true (sym none ∙ passes_there (λ (k : ItemAt). k.child) list j there child) in
+pub none_meet : (facts : FactTable) (setting : Setting) (f o : ℕ) (i : ItemAt) → ((i : ItemAt) → IsItemOf (basis_of facts) setting.has f i → i.child ≡ false) → IsInConflict facts setting f o i → ⊥
+none_meet facts setting f o i none is =
+    let children : (j : ItemAt) → IsItemOf (basis_of facts) setting.has f j → j.child ≡ true → ⊥ = λ j of child. both_ways j.child (none j of) child in
     let a = kind_of facts.program i in
     let b = kind_of facts.program is.other in
     elim (or_cases (may_meet setting.after a b) (may_meet setting.after b a) is.conflict) [
-      | inl meets ↦ children i ((all i).1 is.here.item) (and_parts i.child (setting.after i.point is.other.point && (writes_at facts.program i.access || writes_at facts.program is.other.access)) meets).0
-      | inr meets ↦ children is.other ((all is.other).1 is.there.item) (and_parts is.other.child (setting.after is.other.point i.point && (writes_at facts.program is.other.access || writes_at facts.program i.access)) meets).0
+      | inl meets ↦ children i is.here.item (and_parts i.child (setting.after i.point is.other.point && (writes_at facts.program i.access || writes_at facts.program is.other.access)) meets).0
+      | inr meets ↦ children is.other is.there.item (and_parts is.other.child (setting.after is.other.point i.point && (writes_at facts.program is.other.access || writes_at facts.program i.access)) meets).0
     ]

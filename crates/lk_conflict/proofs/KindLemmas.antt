@@ -1,5 +1,5 @@
 -- Kinds of items: when two are the same, and what sets of them have.
-use Rattle.std.proofs.Common.{◌≡◌, ◌<◌, ◌+◌, ◌++◌, ◌||◌, ◌⊎◌, ◌↔◌, ℕ, Bool, true, false, eqb, cond, if◌then◌else◌, List, [], ◌∷◌, length, get_or, take, All, Contains, refl, sym, ap, ◌∙◌, subst, ⊎_elim, inl, inr}
+use Rattle.std.proofs.Common.{◌≡◌, ◌<◌, ◌+◌, ◌++◌, ◌⊎◌, ◌↔◌, ℕ, Bool, true, false, eqb, if◌then◌else◌, List, [], ◌∷◌, length, get_or, take, All, Contains, refl, sym, ap, ◌∙◌, subst, ⊎_elim, inl, inr}
 use Rattle.std.proofs.Math.Bool.{beq}
 use Rattle.std.specs.Cmp.{bool_eq_equiv, booleans_Decides}
 use Rattle.std.specs.List.{list_any}
@@ -7,7 +7,7 @@ use Rattle.std.proofs.lemmas.Bool.{and_from, and_parts, eqb-true, eq-eqb}
 use Rattle.std.proofs.lemmas.List.{get_or_default}
 use Rattle.std.proofs.lemmas.List.Elements.{All-contains, All-contains_itself, All-weaker, Contains-append_left, Contains-push, Contains-push_cases}
 use Rattle.indexmap.specs.IndexSet.{insert_key}
-use Rattle.indexmap.proofs.CallerLemmas.{Contains-list_any, Contains-insert_key}
+use Rattle.indexmap.proofs.CallerLemmas.{Contains-list_any}
 use Rattle.lk_facts.specs.Facts.{FactTable}
 use Rattle.lk_facts.specs.declared.program.Program.{Program}
 use Rattle.lk_conflict.specs.Kinds.{HasKind, IsKindInRange, IsRacingKind, are_in_conflict, is_in_conflict, is_kind, kind_of}

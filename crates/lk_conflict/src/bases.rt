@@ -1,6 +1,5 @@
 //! What racing items begin with.
 ghost use Rattle.std.specs.Prelude.{◌≡◌, ◌<◌, ◌↔◌, Contains, length, All, OnOk};
-ghost use Rattle.std.specs.List.{list_any};
 ghost use Rattle.lk_conflict.specs.Bases.{Adds, IsInConflict};
 ghost use Rattle.lk_conflict.specs.Kinds.{IsRacingKind, kind_of};
 ghost use Rattle.lk_conflict.specs.Settings.{setting};
@@ -17,13 +16,6 @@ use lk_base::NoMemory;
 use lk_rise::{Correlation, ItemAt};
 use lk_sets::IdSet;
 use std::alloc::Global;
-
-/// Whether an access of one of the items is made by a thread that is started at its point or below.
-fn has_child(items: &[ItemAt]) -> bool
-    ensures { result ≡ list_any (λ i. i.child) items.now }
-{
-    items.iter().any(|item| item.child)
-}
 
 impl Grounds<'_> {
     /// Puts the racing item of a function for a location that an item of a point begins behind the others.
@@ -167,10 +159,10 @@ impl Grounds<'_> {
             (λ f o i. (f ≡ function) × IsInConflict self.now.items.now.facts (setting self.now) f o i)
             based.old.items based.new.items) }
     {
-        let items = self.items.items_in(alloc, function)?;
-        if !has_child(&items) {
+        if !self.items.may_start(function) {
             return Ok(());
         }
+        let items = self.items.items_in(alloc, function)?;
         self.push_at_locations(alloc, function, &items, based)?;
         Ok(())
     }

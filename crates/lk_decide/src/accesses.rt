@@ -2,13 +2,13 @@
 ghost use Rattle.std.specs.Prelude.{◌≡◌, IfOk};
 ghost use Rattle.std.specs.Option.{option_copied};
 ghost use Rattle.lk_cells.specs.Operands as of_operand;
-ghost use Rattle.lk_decide.specs.Undefined as spec;
+ghost use Rattle.lk_decide.specs.Accesses as spec;
 
 use crate::frames::is_owned_in;
 use crate::roots::{constant, kind_of_object, start_of};
 use lk_base::NoMemory;
 use lk_cells::{
-    State, Thread, current, followed, given, lives, moved_by, number_in, operand, part_of, used,
+    State, Thread, current, followed, given, moved_by, number_in, operand, part_of, used,
     value_through,
 };
 use lk_facts::Points;
@@ -44,7 +44,7 @@ fn moved_cause(
     match value {
         Some(Value::Pointer(pointer)) => {
             let outside = move_cause(points, state, pointer, by)?;
-            Ok(either(Why::Dead.when(!lives(state, pointer.part.object)), outside))
+            Ok(either(Why::Dead.when(!state.lives(pointer.part.object)), outside))
         }
         Some(Value::Null) => Ok(Some(Why::Null)),
         Some(Value::Number(_, _) | Value::Function(_) | Value::Thread(_)) => Ok(Some(
@@ -168,7 +168,7 @@ fn is_start(
 ) -> Result<bool, NoMemory>
     ensures { IfOk result (λ start. start ≡ spec.is_start points.now state.now pointer.now) }
 {
-    if !lives(state, pointer.part.object) || pointer.past {
+    if !state.lives(pointer.part.object) || pointer.past {
         return Ok(false);
     }
     let Some(kind) = kind_of_object(points, state, pointer.part.object) else {

@@ -2,7 +2,7 @@
 ghost use Rattle.std.specs.Prelude.{◌≡◌};
 ghost use Rattle.std.specs.List.{list_any};
 ghost use Rattle.std.specs.Option.{option_copied};
-ghost use Rattle.lk_decide.specs.Undefined as spec;
+ghost use Rattle.lk_decide.specs.Frames as spec;
 
 use lk_cells::{Frame, State, Thread, all_used, given, object_at, operand};
 use lk_values::{Value, Why, either};

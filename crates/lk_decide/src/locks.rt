@@ -2,7 +2,7 @@
 ghost use Rattle.std.specs.Prelude.{◌≡◌, IfOk};
 ghost use Rattle.std.specs.Option.{option_copied};
 ghost use Rattle.lk_cells.specs.Operands as of_operand;
-ghost use Rattle.lk_decide.specs.Undefined as spec;
+ghost use Rattle.lk_decide.specs.Locks as spec;
 
 use lk_base::NoMemory;
 use lk_cells::{

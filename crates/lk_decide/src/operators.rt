@@ -1,6 +1,6 @@
 //! Why what an operator or a conversion computes is undefined.
 ghost use Rattle.std.specs.Prelude.{◌≡◌, IfOk};
-ghost use Rattle.lk_decide.specs.Undefined as spec;
+ghost use Rattle.lk_decide.specs.Operators as spec;
 
 use lk_arith::{Op, UnaryOp};
 use lk_base::NoMemory;

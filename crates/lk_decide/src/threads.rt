@@ -1,7 +1,7 @@
 //! Why a thread isn't joined or detached.
 ghost use Rattle.std.specs.Prelude.{◌≡◌, ◌&&◌, not, nat_eq};
 ghost use Rattle.std.specs.Option.{option_copied};
-ghost use Rattle.lk_decide.specs.Undefined as spec;
+ghost use Rattle.lk_decide.specs.Threads as spec;
 
 use lk_cells::{State, used};
 use lk_values::{Value, Why, either};

@@ -1,5 +1,6 @@
 //! Orders of points in which loops over them end after few rounds.
-ghost use Rattle.std.specs.Prelude.{◌<◌, All, IfOk, length};
+ghost use Rattle.std.specs.Prelude.{◌≡◌, ◌<◌, All, IfOk, length};
+ghost use Rattle.std.specs.List.{range_with_len};
 ghost use Rattle.lk_graph.specs.Graph.{AreAllBelow};
 
 use crate::steps::Steps;
@@ -18,7 +19,9 @@ pub fn in_order(alloc: Global, points: &Points) -> Result<Vec<u32>, NoMemory>
 
 /// All functions, in the order of their numbers.
 pub fn all_functions(alloc: Global, points: &Points) -> Result<Vec<u32>, NoMemory>
-    ensures { IfOk result (λ functions. All (λ f. f < length points.now.functions) functions.items) }
+    ensures all { IfOk result (λ functions.
+        functions.items ≡ range_with_len 0 (length points.now.functions)) }
+    ensures below { IfOk result (λ functions. All (λ f. f < length points.now.functions) functions.items) }
 {
     let mut functions = Vec::new(alloc);
     for function in 0..points.functions() {

@@ -13,9 +13,10 @@ fn access(facts: &Facts<'_>, point: u32) -> Option<Correlation>
     requires { point < length facts.now.program.points }
     ensures { IsAccessOf facts.now point result }
 {
+    let points = facts.points();
     let subject = accessed(facts, point)?;
     Some(Correlation {
-        function: facts.points().function(point),
+        function: points.function(point),
         child: false,
         subject: subject.0,
         access: point,

@@ -1,20 +1,18 @@
 -- Declarations of one name whose types differ.
-use Rattle.std.proofs.Common.{◌≡◌, ◌∙◌, ◌⊎◌, ◌↔◌, inl, inr, ◌<◌, ◌≤◌, ◌+◌, [], ℕ, List, Some, refl, sym, ap, subst, length, get_or, arith}
+use Rattle.std.proofs.Common.{◌≡◌, ◌∙◌, ◌↔◌, inl, inr, ◌<◌, ◌≤◌, ◌+◌, [], ℕ, List, Some, refl, sym, ap, subst, length, get_or, arith}
 use Rattle.std.specs.Prelude.{All}
 use Rattle.std.proofs.lemmas.List.Elements.{Contains-get_or}
 use Rattle.std.proofs.lemmas.Option.{same_Some, slice_get-get_or}
 use Rattle.std.proofs.Math.Nat.{eq-or-lt_of_le}
-use Rattle.std.specs.List.{slice_get, Contains, Any}
+use Rattle.std.specs.List.{slice_get, Contains}
 use Rattle.lk_base.specs.declared.code.Code.TheVariants.{TypesDiffer}
 use Rattle.lk_types.proofs.SizeLemmas.{all_read}
 use Rattle.lk_types.specs.Table.{IsKnown}
-use Rattle.lk_typed.specs.declared.entity.Declaration.{Declaration}
-use Rattle.lk_typed.specs.declared.entity.Entity.{Entity}
 use Rattle.lk_link.specs.Clashes.{DiffersFrom}
 use Rattle.lk_link.specs.Differing.{DiffersAt, IsDifferent, IsDifferentAt, type_at}
-use Rattle.lk_link.specs.Sources.{Units, AreSources, IsSource, IsTypeOf, ComesBefore, Declares}
+use Rattle.lk_link.specs.Sources.{Units, AreSources, IsSource, IsTypeOf, ComesBefore}
 use Rattle.lk_link.specs.Structs.{AreDeclaredAlike}
-use Rattle.lk_link.specs.Sites.{Grows, IsOfBelow, IsOfAt, IsSite, AreSites, AreNames, NameIndex, clash_of, group_at, site_of}
+use Rattle.lk_link.specs.Sites.{Grows, IsOfBelow, IsOfAt, IsSite, AreNames, NameIndex, clash_of, group_at}
 use Rattle.lk_link.specs.declared.clash.Clash.{Clash}
 use Rattle.lk_link.specs.declared.place.TypeOf.{TypeOf}
 use Rattle.lk_link.specs.declared.sites.Site.{Site}

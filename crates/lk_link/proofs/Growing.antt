@@ -1,10 +1,10 @@
 -- Lists that grow by what belongs to each turn of a loop.
-use Rattle.std.proofs.Common.{◌≡◌, ◌∙◌, ◌⊎◌, ◌↔◌, inl, inr, ◌<◌, ◌≤◌, ◌+◌, ◌++◌, ◌∷◌, [], ℕ, List, Some, None, Option, refl, sym, ap, subst, length, get_or, arith}
+use Rattle.std.proofs.Common.{◌≡◌, ◌∙◌, ◌⊎◌, ◌↔◌, inl, inr, ◌<◌, ◌≤◌, ◌+◌, ◌++◌, ◌∷◌, [], ℕ, List, Some, sym, ap, subst, arith}
 use Rattle.std.proofs.lemmas.List.Elements.{Contains-append_left, Contains-push, Contains-push_cases}
-use Rattle.std.proofs.lemmas.Option.{none-some, same_Some, slice_get_within, slice_get-get_or, get_or_from_slice_get}
+use Rattle.std.proofs.lemmas.Option.{same_Some, slice_get_within, slice_get-get_or, get_or_from_slice_get}
 use Rattle.std.proofs.Math.Nat.{eq-or-lt_of_le}
-use Rattle.std.specs.List.{slice_get, Contains, Any}
-use Rattle.lk_link.specs.Sites.{Grows, IsOfBelow, IsOfAt, IsOfSome}
+use Rattle.std.specs.List.{slice_get, Contains}
+use Rattle.lk_link.specs.Sites.{Grows, IsOfBelow, IsOfAt}
 
 module _ {A : Type 0} where
   -- an element stands at a place

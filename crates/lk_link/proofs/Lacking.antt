@@ -3,11 +3,9 @@ use Rattle.std.proofs.Common.{◌≡◌, ◌∙◌, ◌⊎◌, ◌↔◌, inl, i
 use Rattle.std.proofs.lemmas.Option.{none-some, same_Some, slice_get_within}
 use Rattle.std.proofs.Math.Nat.{eq-or-lt_of_le}
 use Rattle.std.specs.Prelude.{MatchOption}
-use Rattle.std.specs.List.{slice_get, Contains, Any}
+use Rattle.std.specs.List.{slice_get, Contains}
 use Rattle.lk_base.specs.declared.code.Code.TheVariants.{NotDefined}
-use Rattle.lk_typed.specs.Library.{library_function}
 use Rattle.lk_typed.specs.declared.entity.Entity.{Entity}
-use Rattle.lk_typed.specs.declared.entity.EntityKind.TheVariants.{Function}
 use Rattle.lk_typed.specs.declared.entity.Use.{Use}
 use Rattle.lk_link.specs.Absent.{AreLeast, AreListed, AreUsers, IsAbsent, IsAbsentAt, IsListedElsewhere, IsNoted, UsesIn, number_at, use_clash}
 use Rattle.lk_link.specs.Clashes.{IsMissing, IsElsewhere}
@@ -16,7 +14,7 @@ use Rattle.lk_link.specs.Sites.{AreExternals, AreNames, Grows, IsExternal, IsOfA
 use Rattle.lk_link.specs.declared.clash.Clash.{Clash}
 use Rattle.lk_link.specs.declared.sites.EntityOf.{EntityOf}
 use Rattle.lk_link.specs.declared.sites.Site.{Site}
-use Rattle.lk_link.proofs.Growing.{at_contains, contains_at, grows_at, grows_by, grows_push, grows_same, grows_from_nothing}
+use Rattle.lk_link.proofs.Growing.{at_contains, grows_at, grows_by, grows_push, grows_same, grows_from_nothing}
 use Rattle.lk_link.proofs.Naming.{known_external, same_entity}
 use Rattle.lk_link.proofs.Noting.{least_by, least_nothing, least_noted}
 use Rattle.lk_link.proofs.Placing.{defining_declares, kept_site}

@@ -2,9 +2,12 @@ pub mod Answering
 pub mod Becoming
 pub mod Differing
 pub mod Gaining
+pub mod Gathering
 pub mod Growing
 pub mod Keeping
 pub mod Lacking
+pub mod LibraryClashes
+pub mod LibraryRows
 pub mod Making
 pub mod Meeting
 pub mod Members

@@ -1,12 +1,12 @@
 -- Declarations of names of external linkage, as places, and clashes at them.
-use Rattle.std.proofs.Common.{◌≡◌, ◌∙◌, ◌⊎◌, ◌↔◌, inl, inr, ◌<◌, ◌≤◌, ◌+◌, ◌++◌, ◌∷◌, [], ℕ, List, Some, refl, sym, ap, subst, length, arith}
+use Rattle.std.proofs.Common.{◌≡◌, ◌∙◌, ◌↔◌, ◌<◌, ◌≤◌, ◌++◌, ◌∷◌, [], ℕ, List, Some, refl, sym, ap, subst, length, arith}
 use Rattle.std.proofs.lemmas.Option.{slice_get_within}
-use Rattle.std.specs.List.{slice_get, Contains, Any}
+use Rattle.std.specs.List.{slice_get, Contains}
 use Rattle.lk_base.specs.declared.code.Code.{Code}
 use Rattle.lk_typed.specs.declared.entity.Declaration.{Declaration}
 use Rattle.lk_typed.specs.declared.entity.Entity.{Entity}
 use Rattle.lk_link.specs.Sources.{Units, Declares, DefinesAt, IsDefining, IsEntity}
-use Rattle.lk_link.specs.Sites.{Grows, IsOfBelow, IsOfAt, IsSite, AreSites, AreGroups, AreNames, NameIndex, StandsFor, clash_of, group_at, site_of}
+use Rattle.lk_link.specs.Sites.{Grows, IsOfBelow, IsOfAt, IsSite, AreSites, AreNames, NameIndex, clash_of, group_at, site_of}
 use Rattle.lk_link.specs.declared.clash.Clash.{Clash}
 use Rattle.lk_link.specs.declared.sites.EntityOf.{EntityOf}
 use Rattle.lk_link.specs.declared.sites.Site.{Site}

@@ -1,10 +1,9 @@
 -- Names that several sources define.
-use Rattle.std.proofs.Common.{◌≡◌, ◌∙◌, ◌⊎◌, ◌↔◌, inl, inr, ◌<◌, ◌≤◌, ◌+◌, [], ℕ, List, Some, refl, sym, ap, subst, length, arith}
-use Rattle.std.specs.List.{slice_get, Contains, Any}
+use Rattle.std.proofs.Common.{◌≡◌, ◌∙◌, ◌↔◌, [], ℕ, List, refl, sym, ap, subst, length, arith}
+use Rattle.std.specs.List.{Contains}
 use Rattle.lk_base.specs.declared.code.Code.TheVariants.{DefinedTwice}
-use Rattle.lk_typed.specs.declared.entity.Declaration.{Declaration}
 use Rattle.lk_link.specs.Clashes.{IsDefinedTwice}
-use Rattle.lk_link.specs.Sources.{Units, Declares, DefinesAt, IsDefining}
+use Rattle.lk_link.specs.Sources.{Units, DefinesAt, IsDefining}
 use Rattle.lk_link.specs.Sites.{Grows, IsOfBelow, IsOfAt, IsSite, AreNames, NameIndex, IsAgain, IsAgainAt, clash_of, group_at}
 use Rattle.lk_link.specs.declared.clash.Clash.{Clash}
 use Rattle.lk_link.specs.declared.sites.Site.{Site}

@@ -4,10 +4,8 @@ use Rattle.std.specs.Cmp.Lexicographic.{pointwise}
 use Rattle.std.specs.List.{Any, Contains}
 use Rattle.std.specs.Map.{lookup}
 use Rattle.lk_base.specs.declared.code.Code.TheVariants.{NotDefined}
-use Rattle.lk_link.specs.Sites.{group_at}
 use Rattle.lk_link.specs.Sources.{Units, IsDefining, IsUsed}
 use Rattle.lk_link.specs.declared.clash.Clash.{Clash}
-use Rattle.lk_link.specs.declared.sites.EntityOf.{EntityOf}
 use Rattle.lk_link.specs.declared.sites.Site.{Site}
 use Rattle.lk_typed.specs.Library.{library_function}
 use Rattle.lk_typed.specs.declared.entity.Entity.{Entity}

@@ -2,7 +2,10 @@ pub mod Absent
 pub mod Clashes
 pub mod Comparing
 pub mod Differing
+pub mod First
 pub mod Joining
+pub mod Library
+pub mod LibraryTypes
 pub mod Pairs
 pub mod Sites
 pub mod Sources

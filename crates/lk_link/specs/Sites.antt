@@ -6,7 +6,7 @@ use Rattle.std.specs.Map.{lookup}
 use Rattle.lk_base.specs.declared.code.Code.{Code}
 use Rattle.lk_base.specs.declared.code.Code.TheVariants.{DefinedTwice}
 use Rattle.lk_link.specs.declared.clash.Clash.{Clash}
-use Rattle.lk_link.specs.Sources.{Units, IsEntity, IsDefining, ComesBefore}
+use Rattle.lk_link.specs.Sources.{Units, IsEntity, IsDefining}
 use Rattle.lk_link.specs.declared.sites.EntityOf.{EntityOf}
 use Rattle.lk_link.specs.declared.sites.Site.{Site}
 use Rattle.lk_typed.specs.declared.entity.Declaration.{Declaration}

@@ -2,7 +2,7 @@
 ghost use Rattle.std.specs.Prelude.{◌≡◌, ◌↔◌, [], IsTrue, IfOk, MatchOption};
 ghost use Rattle.lk_link.specs.Clashes.{IsToldBefore, IsFirstOf};
 
-use lk_base::{Code, Name, Spot};
+use lk_base::{Code, Name, NoMemory, Spot};
 
 /// Why sources make no program together: 61 to 63.
 #[derive(Drop)]
@@ -16,6 +16,22 @@ pub struct Clash {
     pub code: Code,
     /// The name that it is about.
     pub name: Name,
+}
+
+impl Clash {
+    /// A copy of it.
+    pub(crate) fn copy(&self) -> Result<Clash, NoMemory>
+        ensures { IfOk result (λ copy. copy ≡ self.now) }
+    {
+        let name = self.name.copy()?;
+        Ok(Clash {
+            source: self.source,
+            ordinal: self.ordinal,
+            spot: self.spot,
+            code: self.code,
+            name,
+        })
+    }
 }
 
 /// Whether one clash is told before another: by the place of the source, then the number of the node, then that of the

@@ -29,7 +29,8 @@ fn type_of(site: &Site) -> TypeOf
 
 /// Whether one declaration stands before another: in an earlier source, or earlier in the text.
 fn comes_before(other: &Site, site: &Site) -> bool
-    ensures { IsTrue result ↔ ComesBefore other.now.entity.source other.now.ordinal site.now.entity.source site.now.ordinal }
+    ensures { IsTrue result ↔ ComesBefore other.now.entity.source other.now.ordinal
+        site.now.entity.source site.now.ordinal }
 {
     other.entity.source < site.entity.source
         || (other.entity.source == site.entity.source && other.ordinal < site.ordinal)

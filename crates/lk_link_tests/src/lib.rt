@@ -6,6 +6,8 @@ mod external;
 #[cfg(test)]
 mod names;
 #[cfg(test)]
+mod numbers;
+#[cfg(test)]
 mod sources;
 #[cfg(test)]
 mod structs;

@@ -41,9 +41,15 @@ static DEEP: [Sketch; 2] = [
     ("t", true, &[("n", Shape::Char)]),
 ];
 
+/// `struct s { int n; };` in each of two blocks
+static TWICE: [Sketch; 2] = [
+    ("s", false, &[("n", Shape::Int)]),
+    ("s", false, &[("n", Shape::Int)]),
+];
+
 /// One of the sources above.
 #[derive(Clone, Copy)]
-enum Text {
+pub enum Text {
     List,
     Renamed,
     Turned,
@@ -54,6 +60,7 @@ enum Text {
     Inside,
     Pair,
     Deep,
+    Twice,
 }
 
 /// Two sources, and whether a name may be declared with their first structs.
@@ -72,7 +79,7 @@ const CASES: [(Text, Text, bool); 11] = [
 ];
 
 /// The structs of a source.
-fn sketches(text: Text) -> &'static [Sketch] {
+pub fn sketches(text: Text) -> &'static [Sketch] {
     match text {
         Text::List => &LIST,
         Text::Renamed => &RENAMED,
@@ -84,6 +91,7 @@ fn sketches(text: Text) -> &'static [Sketch] {
         Text::Inside => &INSIDE,
         Text::Pair => &PAIR,
         Text::Deep => &DEEP,
+        Text::Twice => &TWICE,
     }
 }
 

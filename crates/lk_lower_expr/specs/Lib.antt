@@ -3,13 +3,14 @@ pub mod Expressions
 pub mod Initialisers
 pub mod Laid
 pub mod Library
+pub mod Lowering
 pub mod Names
 pub mod Naming
-pub mod Lowering
 pub mod Owned
 pub mod Parts
 pub mod Programs
-pub mod Statics
+pub mod Reads
 pub mod Statements
+pub mod Statics
 pub mod Values
 pub mod Walk

@@ -126,7 +126,7 @@ module _ (whole : Whole) (numbers : Numbers) where
     at = numbers.point s;
     form = type_at linked.unit.types;
     type = λ t. get_or linked.types t 0;
-    pointer = λ t. numbers.pointer (get_or linked.types t 0);
+    pointer = λ t. option_map_or numbers.pointer (slice_get linked.types t) 0;
     object = object_root s locals;
     text = numbers.root s;
     heap = numbers.root s;

@@ -71,7 +71,7 @@ abbrev pub declared_node : List LocalNames → ℕ → Node
 declared_node locals n = node_of_local (local_of locals n)
 
 abbrev pub object_of : SourceNames → Storage → ℕ
-object_of source (Entity n) = get_or source.entities n 0
+object_of source (Entity n) = get_or source.objects n 0
 object_of source (Local n) = local_number source.locals n
 
 abbrev pub at_of : SourceNames → ℕ → ℕ → ℕ
@@ -95,7 +95,7 @@ names_of table source = record {
   inside = part_type table;
   declared = declared_node source.locals;
   slot = slot_of source.locals;
-  function = λ n. get_or source.entities n 0;
+  function = λ n. get_or source.functions n 0;
   is_defined = λ n. get_or source.defined n false;
 }
 

@@ -6,7 +6,7 @@ use Rattle.lk_facts.specs.declared.action.Action.TheVariants as does
 use Rattle.lk_facts.specs.declared.place.Place.{Place}
 use Rattle.lk_lower_expr.specs.Expressions.{part}
 use Rattle.lk_lower_expr.specs.Initialisers as initialisers
-use Rattle.lk_lower_expr.specs.Names.{Names, Node}
+use Rattle.lk_lower_expr.specs.Names.{Names}
 use Rattle.lk_lower_expr.specs.Parts.{Part, goes, step}
 use Rattle.lk_lower_expr.specs.Walk.{Walk, nothing, own, ◌then◌}
 use Rattle.lk_lower_expr.specs.declared.goals.Goals.{Goals}

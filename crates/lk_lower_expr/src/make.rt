@@ -2,17 +2,16 @@
 ghost use Rattle.std.specs.Prelude.{◌≡◌, ◌∷◌, [], IfOk, Some};
 ghost use Rattle.lk_base.specs.declared.kind.Kind.TheVariants.{Int as IntKind};
 ghost use Rattle.lk_facts.specs.declared.action.Action.TheVariants as does;
-ghost use Rattle.lk_lower_expr.specs.Naming.{names_of, part_in, AreFew};
+ghost use Rattle.lk_lower_expr.specs.Reads.{names_by, part_by};
 ghost use Rattle.lk_lower_expr.specs.Parts as parts;
 ghost use Rattle.lk_types.specs.Predeclared.{kind_id};
 
-use crate::names::SourceNames;
+use crate::lowering::Lowering;
 use crate::step::Step;
-use crate::value::{slot_of, value_of};
 use lk_base::{Kind, NoMemory, Seq, Spot};
 use lk_facts::Action;
 use lk_typed::TypedExpr;
-use lk_types::{CType, TypeId, TypeTable};
+use lk_types::{CType, TypeId};
 use std::alloc::Global;
 
 /// A step after which control goes on at one point.
@@ -62,63 +61,54 @@ pub(crate) fn int_step(
     step(alloc, does, Some(int), e.spot, on)
 }
 
-/// The type of a value: void has none.
-pub fn value_type(table: &TypeTable, names: &SourceNames, ty: TypeId) -> Option<TypeId>
-    ensures { result ≡ parts.value_of (names_of table.now names.now) ty }
-{
-    if ty.0 >= table.count() {
-        return None;
+impl Lowering<'_> {
+    /// The type of a value: void has none.
+    pub fn value_type(&self, ty: TypeId) -> Option<TypeId>
+        ensures { result ≡ parts.value_of (names_by self.now) ty }
+    {
+        if ty.0 >= self.table.count() {
+            return None;
+        }
+        match self.table.get(ty) {
+            CType::Void => None,
+            CType::Int(_)
+            | CType::ThreadId
+            | CType::Mutex
+            | CType::Cond
+            | CType::Pointer(_)
+            | CType::Array(_, _)
+            | CType::Struct(_)
+            | CType::Function { .. }
+            | CType::Opaque(_) => Some(self.names.type_number(ty)),
+        }
     }
-    match table.get(ty) {
-        CType::Void => None,
-        CType::Int(_)
-        | CType::ThreadId
-        | CType::Mutex
-        | CType::Cond
-        | CType::Pointer(_)
-        | CType::Array(_, _)
-        | CType::Struct(_)
-        | CType::Function { .. }
-        | CType::Opaque(_) => Some(names.type_number(ty)),
-    }
-}
 
-/// What reads a place.
-pub(crate) fn read_of(
-    table: &TypeTable,
-    names: &SourceNames,
-    place: &TypedExpr,
-) -> Result<Action, NoMemory>
-    requires { AreFew names.now }
-    ensures { IfOk result (λ does. does ≡ parts.reads (names_of table.now names.now)
-        (part_in table.now names.now place.now).slot (part_in table.now names.now place.now).value) }
-{
-    match slot_of(table, names, place) {
-        None => Ok(Action::Read {
-            a: value_of(table, names, place)?,
-            raw: false,
-        }),
-        Some(slot) => Ok(Action::SlotRead(slot)),
+    /// What reads a place.
+    pub(crate) fn read_of(&self, place: &TypedExpr) -> Result<Action, NoMemory>
+        ensures { IfOk result (λ does. does ≡ parts.reads (names_by self.now)
+            (part_by self.now place.now).slot (part_by self.now place.now).value) }
+    {
+        match self.slot_of(place) {
+            None => Ok(Action::Read {
+                a: self.value_of(place)?,
+                raw: false,
+            }),
+            Some(slot) => Ok(Action::SlotRead(slot)),
+        }
     }
-}
 
-/// What writes a value into a place.
-pub(crate) fn write_of(
-    table: &TypeTable,
-    names: &SourceNames,
-    place: &TypedExpr,
-    value: u32,
-) -> Result<Action, NoMemory>
-    requires { AreFew names.now }
-    ensures { IfOk result (λ does. does ≡ parts.writes (names_of table.now names.now)
-        (part_in table.now names.now place.now).slot (part_in table.now names.now place.now).value value) }
-{
-    match slot_of(table, names, place) {
-        None => Ok(Action::Write {
-            a: value_of(table, names, place)?,
-            b: value,
-            raw: false,
-        }),
-        Some(slot) => Ok(Action::SlotWrite { slot, a: value }),
+    /// What writes a value into a place.
+    pub(crate) fn write_of(&self, place: &TypedExpr, value: u32) -> Result<Action, NoMemory>
+        ensures { IfOk result (λ does. does ≡ parts.writes (names_by self.now)
+            (part_by self.now place.now).slot (part_by self.now place.now).value value) }
+    {
+        match self.slot_of(place) {
+            None => Ok(Action::Write {
+                a: self.value_of(place)?,
+                b: value,
+                raw: false,
+            }),
+            Some(slot) => Ok(Action::SlotWrite { slot, a: value }),
+        }
     }
 }

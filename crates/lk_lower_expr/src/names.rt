@@ -47,8 +47,10 @@ pub struct SourceNames {
     pub types: Seq<TypeId>,
     /// That of the pointer to it.
     pub pointers: Seq<TypeId>,
-    /// The root of each entity that is an object, and the function of each that is a function.
-    pub entities: Seq<u32>,
+    /// The root of each entity that a source of the program defines.
+    pub objects: Seq<u32>,
+    /// The function of each entity that a source of the program defines.
+    pub functions: Seq<u32>,
     /// Whether a source of the program defines each entity.
     pub defined: Seq<bool>,
     /// The locals of the body.
@@ -116,16 +118,26 @@ impl SourceNames {
         ensures { result ≡ object_of self.now storage }
     {
         match storage {
-            Storage::Entity(entity) => self.entity_number(entity),
+            Storage::Entity(entity) => self.entity_root(entity),
             Storage::Local(local) => self.local(local).number,
         }
     }
 
-    /// The root or the function that an entity of the source is; 0 past the last one.
-    pub fn entity_number(&self, entity: u32) -> u32
-        ensures { result ≡ get_or self.now.entities entity 0 }
+    /// The root of an entity; 0 past the last one.
+    fn entity_root(&self, entity: u32) -> u32
+        ensures { result ≡ get_or self.now.objects entity 0 }
     {
-        match self.entities.list().get(entity as usize) {
+        match self.objects.list().get(entity as usize) {
+            Some(number) => *number,
+            None => 0,
+        }
+    }
+
+    /// The function that an entity of the source is; 0 past the last one.
+    pub fn function_number(&self, entity: u32) -> u32
+        ensures { result ≡ get_or self.now.functions entity 0 }
+    {
+        match self.functions.list().get(entity as usize) {
             Some(number) => *number,
             None => 0,
         }

@@ -1,101 +1,101 @@
 //! The steps of an expression's own node.
 ghost use Rattle.std.specs.Prelude.{◌≡◌, IfOk};
-ghost use Rattle.lk_lower_expr.specs.Naming.{part_in, AreFew};
+ghost use Rattle.lk_lower_expr.specs.Naming.{node_of};
+ghost use Rattle.lk_lower_expr.specs.Reads.{names_by, part_by};
+ghost use Rattle.lk_lower_expr.specs.Values as rules;
 
-use crate::assign::assign_steps;
-use crate::call::{call_steps, extern_steps};
-use crate::change::{change_steps, compound_steps};
-use crate::compute::{
-    binary_steps, function_steps, index_steps, member_steps, name_steps, null_steps, number_steps,
-    text_steps, unary_steps,
-};
-use crate::convert::{convert_step, element_step, load_step};
-use crate::decide::{and_steps, choice_steps, or_steps};
-use crate::library::library_steps;
+use crate::lowering::Lowering;
 use crate::make::int_step;
-use crate::names::SourceNames;
 use crate::step::Step;
-use crate::value::behind;
 use lk_base::NoMemory;
 use lk_typed::{TypedExpr, TypedForm};
-use lk_types::TypeTable;
-use std::alloc::Global;
 
-/// The steps of the node of an expression, in their order, where control goes on at a point behind it. A slot has
-/// none until it is read or written.
-///
-/// `Err` comes for want of memory.
-#[tactic(auto, unfolding(crate::specs::Expressions::part))]
-pub fn own_steps(
-    alloc: Global,
-    table: &TypeTable,
-    names: &SourceNames,
-    e: &TypedExpr,
-    on: u32,
-) -> Result<Vec<Step>, NoMemory>
-    requires { AreFew names.now }
-    ensures { IfOk result (λ steps. steps.items ≡ (part_in table.now names.now e.now).steps on) }
-{
-    match &e.form {
-        TypedForm::Object(storage) => name_steps(alloc, table, names, e, *storage, on),
-        TypedForm::Text(_) => text_steps(alloc, table, names, e, on),
-        TypedForm::Member(a, k) => member_steps(alloc, table, names, e, a.get(), *k, on),
-        TypedForm::Arrow(a, k) => member_steps(alloc, table, names, e, a.get(), *k, on),
-        TypedForm::Index(a, b) => index_steps(alloc, table, names, e, a.get(), b.get(), on),
-        TypedForm::Number(number) => number_steps(alloc, table, names, e, *number, on),
-        TypedForm::Size(count) => number_steps(alloc, table, names, e, i128::from(*count), on),
-        TypedForm::Function(entity) => function_steps(alloc, table, names, e, *entity, on),
-        TypedForm::Null => null_steps(alloc, table, names, e, on),
-        TypedForm::Unary(op, a) => unary_steps(alloc, table, names, e, *op, a.get(), on),
-        TypedForm::Binary(op, a, b) => {
-            binary_steps(alloc, table, names, e, *op, a.get(), b.get(), on)
+impl Lowering<'_> {
+    /// The steps of the node of an expression, in their order, where control goes on at a point behind it. A slot has
+    /// none until it is read or written.
+    ///
+    /// `Err` comes for want of memory.
+    #[cycle(owns)]
+    #[tactic(auto, unfolding(crate::specs::Expressions::part))]
+    pub fn own_steps(&self, e: &TypedExpr, on: u32) -> Result<Vec<Step>, NoMemory>
+        ensures { IfOk result (λ steps. steps.items ≡ (part_by self.now e.now).steps on) }
+    {
+        match &e.form {
+            TypedForm::Object(storage) => self.name_steps(e, *storage, on),
+            TypedForm::Text(_) => self.text_steps(e, on),
+            TypedForm::Member(a, k) => self.member_steps(e, a.get(), *k, on),
+            TypedForm::Arrow(a, k) => self.member_steps(e, a.get(), *k, on),
+            TypedForm::Index(a, b) => self.index_steps(e, a.get(), b.get(), on),
+            TypedForm::Number(number) => self.number_steps(e, *number, on),
+            TypedForm::Size(count) => self.number_steps(e, i128::from(*count), on),
+            TypedForm::Function(entity) => self.function_steps(e, *entity, on),
+            TypedForm::Null => self.null_steps(e, on),
+            TypedForm::Unary(op, a) => self.unary_steps(e, *op, a.get(), on),
+            TypedForm::Binary(op, a, b) => self.binary_steps(e, *op, a.get(), b.get(), on),
+            TypedForm::And(a, b) => self.and_steps(e, a.get(), b.get(), on),
+            TypedForm::Or(a, b) => self.or_steps(e, a.get(), b.get(), on),
+            TypedForm::Choice(c, a, b) => self.choice_steps(e, c.get(), a.get(), b.get(), on),
+            TypedForm::Assign(a, b) => self.assign_steps(e, a.get(), b.get(), on),
+            TypedForm::Compound(op, a, b, ty) => {
+                self.compound_steps(e, *op, a.get(), b.get(), *ty, on)
+            }
+            TypedForm::Step(operator, _, a, ty) => {
+                self.change_steps(e, *operator, a.get(), *ty, on)
+            }
+            TypedForm::Call(callee, args) => self.call_steps(e, callee, args.list(), on),
+            TypedForm::Library(call) => self.library_steps(e, call, on),
+            TypedForm::Extern(entity, args) => self.extern_steps(e, *entity, args.list(), on),
+            TypedForm::Paren(_) => Ok(Vec::new(self.alloc)),
+            TypedForm::Indirection(_)
+            | TypedForm::Address(_)
+            | TypedForm::Comma(_, _)
+            | TypedForm::Discard(_) => Ok(Vec::new(self.alloc)),
+            TypedForm::Load(place) => self.load_steps(e, place.get(), on),
+            TypedForm::Convert(value) => self.convert_steps(e, value.get(), on),
+            TypedForm::Decay(array) => self.decay_steps(e, array.get(), on),
         }
-        TypedForm::And(a, b) => and_steps(alloc, table, names, e, a.get(), b.get(), on),
-        TypedForm::Or(a, b) => or_steps(alloc, table, names, e, a.get(), b.get(), on),
-        TypedForm::Choice(c, a, b) => {
-            choice_steps(alloc, table, names, e, c.get(), a.get(), b.get(), on)
-        }
-        TypedForm::Assign(a, b) => assign_steps(alloc, table, names, e, a.get(), b.get(), on),
-        TypedForm::Compound(op, a, b, ty) => {
-            compound_steps(alloc, table, names, e, *op, a.get(), b.get(), *ty, on)
-        }
-        TypedForm::Step(operator, _, a, ty) => {
-            change_steps(alloc, table, names, e, *operator, a.get(), *ty, on)
-        }
-        TypedForm::Call(callee, args) => {
-            call_steps(alloc, table, names, e, callee, args.list(), on)
-        }
-        TypedForm::Library(call) => library_steps(alloc, table, names, e, call, on),
-        TypedForm::Extern(entity, args) => {
-            extern_steps(alloc, table, names, e, *entity, args.list(), on)
-        }
-        TypedForm::Paren(_) => Ok(Vec::new(alloc)),
-        TypedForm::Indirection(_)
-        | TypedForm::Address(_)
-        | TypedForm::Comma(_, _)
-        | TypedForm::Discard(_) => Ok(Vec::new(alloc)),
-        TypedForm::Load(place) => {
-            let a = place.get();
-            let own = behind(table, names, e.ordinal, a, 0)?;
-            let mut steps = own_steps(alloc, table, names, a, own)?;
-            steps.push(load_step(alloc, table, names, e, a, on)?)?;
-            Ok(steps)
-        }
-        TypedForm::Convert(value) => {
-            let a = value.get();
-            let own = behind(table, names, e.ordinal, a, 0)?;
-            let mut steps = own_steps(alloc, table, names, a, own)?;
-            steps.push(convert_step(alloc, table, names, e, a, on)?)?;
-            Ok(steps)
-        }
-        TypedForm::Decay(array) => {
-            let a = array.get();
-            let zero = behind(table, names, e.ordinal, a, 0)?;
-            let own = behind(table, names, e.ordinal, a, 1)?;
-            let mut steps = own_steps(alloc, table, names, a, zero)?;
-            steps.push(int_step(alloc, e, 0, own)?)?;
-            steps.push(element_step(alloc, table, names, e, a, zero, on)?)?;
-            Ok(steps)
-        }
+    }
+
+    /// The steps of a place, and then that of its value.
+    #[cycle(owns)]
+    fn load_steps(&self, e: &TypedExpr, place: &TypedExpr, on: u32) -> Result<Vec<Step>, NoMemory>
+        ensures { IfOk result (λ steps. steps.items ≡
+            (rules.load_part (names_by self.now) (node_of e.now) (part_by self.now place.now)).steps on) }
+    {
+        let own = self.behind(e.ordinal, place, 0)?;
+        let mut steps = self.own_steps(place, own)?;
+        steps.push(self.load_step(e, place, on)?)?;
+        Ok(steps)
+    }
+
+    /// The steps of a value, and then that of its conversion.
+    #[cycle(owns)]
+    fn convert_steps(
+        &self,
+        e: &TypedExpr,
+        value: &TypedExpr,
+        on: u32,
+    ) -> Result<Vec<Step>, NoMemory>
+        ensures { IfOk result (λ steps. steps.items ≡
+            (rules.convert_part (names_by self.now) (node_of e.now) (part_by self.now value.now)).steps on) }
+    {
+        let own = self.behind(e.ordinal, value, 0)?;
+        let mut steps = self.own_steps(value, own)?;
+        steps.push(self.convert_step(e, value, on)?)?;
+        Ok(steps)
+    }
+
+    /// The steps of an array, and then those of the pointer to its first element.
+    #[cycle(owns)]
+    fn decay_steps(&self, e: &TypedExpr, array: &TypedExpr, on: u32) -> Result<Vec<Step>, NoMemory>
+        ensures { IfOk result (λ steps. steps.items ≡
+            (rules.decay_part (names_by self.now) (node_of e.now) (part_by self.now array.now)).steps on) }
+    {
+        let zero = self.behind(e.ordinal, array, 0)?;
+        let own = self.behind(e.ordinal, array, 1)?;
+        let mut steps = self.own_steps(array, zero)?;
+        steps.push(int_step(self.alloc, e, 0, own)?)?;
+        steps.push(self.element_step(e, array, zero, on)?)?;
+        Ok(steps)
     }
 }

@@ -5,49 +5,13 @@ ghost use Rattle.lk_lower_expr.specs.Values as rules;
 ghost use Rattle.lk_types.specs.Table.{type_at};
 ghost use Rattle.lk_lower_expr.specs.Expressions.{library_part};
 ghost use Rattle.lk_lower_expr.specs.Library as calls;
-ghost use Rattle.lk_lower_expr.specs.Naming.{at_of, names_of, node_of, part_in, slot_of, AreFew};
+ghost use Rattle.lk_lower_expr.specs.Reads.{names_by, part_by};
+ghost use Rattle.lk_lower_expr.specs.Naming.{at_of, node_of, slot_of};
 
-use crate::names::SourceNames;
+use crate::lowering::Lowering;
 use lk_base::{Kind, NoMemory};
 use lk_typed::{Change, LibraryCall, Storage, TypedExpr, TypedForm};
 use lk_types::{CType, TypeId, TypeTable};
-
-/// The slot that an expression names, where it names one.
-#[tactic(auto, unfolding(crate::specs::Expressions::part))]
-pub fn slot_of(table: &TypeTable, names: &SourceNames, e: &TypedExpr) -> Option<u32>
-    ensures { result ≡ (part_in table.now names.now e.now).slot }
-{
-    match &e.form {
-        TypedForm::Object(storage) => names.slot(*storage),
-        TypedForm::Paren(inner) => slot_of(table, names, inner.get()),
-        TypedForm::Choice(_, _, _) => None,
-        TypedForm::Compound(_, _, _, _) => None,
-        TypedForm::Step(_, _, _, _) => None,
-        TypedForm::Text(_)
-        | TypedForm::Member(_, _)
-        | TypedForm::Arrow(_, _)
-        | TypedForm::Index(_, _)
-        | TypedForm::Indirection(_)
-        | TypedForm::Number(_)
-        | TypedForm::Function(_)
-        | TypedForm::Address(_)
-        | TypedForm::Unary(_, _)
-        | TypedForm::Binary(_, _, _)
-        | TypedForm::And(_, _)
-        | TypedForm::Or(_, _)
-        | TypedForm::Comma(_, _)
-        | TypedForm::Assign(_, _)
-        | TypedForm::Call(_, _)
-        | TypedForm::Library(_)
-        | TypedForm::Extern(_, _)
-        | TypedForm::Size(_)
-        | TypedForm::Load(_)
-        | TypedForm::Decay(_)
-        | TypedForm::Convert(_)
-        | TypedForm::Discard(_)
-        | TypedForm::Null => None,
-    }
-}
 
 /// Whether a type is void; it is where the table has no type of that number.
 pub(crate) fn is_void(table: &TypeTable, ty: TypeId) -> bool
@@ -159,96 +123,6 @@ pub(crate) fn text_count(table: &TypeTable, args: &[TypedExpr]) -> Result<u32, N
     Ok(count)
 }
 
-/// How many steps the name of an object has: a slot has none.
-fn name_count(names: &SourceNames, storage: Storage) -> u32
-    ensures { result ≡ counts.name_count (rules.slot_named (slot_of names.now.locals) storage) }
-{
-    match names.slot(storage) {
-        None => 1,
-        Some(_) => 0,
-    }
-}
-
-/// How many steps of its own the node of an expression has.
-#[tactic(auto, unfolding(crate::specs::Expressions::part))]
-pub fn count_of(table: &TypeTable, names: &SourceNames, e: &TypedExpr) -> Result<u32, NoMemory>
-    ensures { IfOk result (λ count. count ≡ (part_in table.now names.now e.now).count) }
-{
-    match &e.form {
-        TypedForm::Load(inner) => {
-            let count = count_of(table, names, inner.get())?;
-            with_more(count, 1)
-        }
-        TypedForm::Decay(inner) => {
-            let count = count_of(table, names, inner.get())?;
-            with_more(count, 2)
-        }
-        TypedForm::Convert(inner) => {
-            let count = count_of(table, names, inner.get())?;
-            with_more(count, 1)
-        }
-        TypedForm::Choice(_, _, _) => Ok(choice_count(table, e.ty)),
-        TypedForm::Compound(_, place, _, ty) => Ok(compound_count(place.get().ty, *ty)),
-        TypedForm::Step(_, _, place, ty) => Ok(step_count(table, place.get().ty, *ty)),
-        TypedForm::And(_, _) | TypedForm::Or(_, _) => Ok(7),
-        TypedForm::Paren(_) => Ok(0),
-        TypedForm::Call(_, _) => Ok(1),
-        TypedForm::Library(call) => library_count(table, names, call, e),
-        TypedForm::Object(storage) => Ok(name_count(names, *storage)),
-        TypedForm::Indirection(_)
-        | TypedForm::Address(_)
-        | TypedForm::Comma(_, _)
-        | TypedForm::Discard(_) => Ok(0),
-        TypedForm::Text(_)
-        | TypedForm::Member(_, _)
-        | TypedForm::Arrow(_, _)
-        | TypedForm::Index(_, _)
-        | TypedForm::Number(_)
-        | TypedForm::Function(_)
-        | TypedForm::Unary(_, _)
-        | TypedForm::Binary(_, _, _)
-        | TypedForm::Assign(_, _)
-        | TypedForm::Extern(_, _)
-        | TypedForm::Size(_)
-        | TypedForm::Null => Ok(1),
-    }
-}
-
-/// How many steps a call of the library has, at the node of an expression.
-#[tactic(auto, unfolding(crate::specs::Expressions::library_part))]
-fn library_count(
-    table: &TypeTable,
-    names: &SourceNames,
-    call: &LibraryCall,
-    e: &TypedExpr,
-) -> Result<u32, NoMemory>
-    ensures { IfOk result (λ count. count ≡
-        (library_part (names_of table.now names.now) call.now (node_of e.now)).count) }
-{
-    match call {
-        LibraryCall::Print(_, args) => {
-            let count = text_count(table, args.list())?;
-            with_more(count, 1)
-        }
-        LibraryCall::Create(_, _, _) | LibraryCall::Wait(_, _) => Ok(2),
-        LibraryCall::Join(_)
-        | LibraryCall::Detach(_)
-        | LibraryCall::ExitThread(_)
-        | LibraryCall::SelfId
-        | LibraryCall::Equal(_, _)
-        | LibraryCall::Init(_)
-        | LibraryCall::Destroy(_)
-        | LibraryCall::Lock(_)
-        | LibraryCall::Unlock(_)
-        | LibraryCall::Signal(_)
-        | LibraryCall::Allocate(_, _, _)
-        | LibraryCall::Free(_)
-        | LibraryCall::Exit(_)
-        | LibraryCall::Scan(_)
-        | LibraryCall::Compute(_) => Ok(1),
-    }
-}
-
 /// The step of `?:` that gives its value.
 fn choice_step(table: &TypeTable, ty: TypeId) -> u32
     ensures value { result ≡ counts.choice_step (type_at table.now ty) }
@@ -279,69 +153,187 @@ fn written_step(table: &TypeTable, place: TypeId, computed: TypeId) -> u32
     3
 }
 
-/// The step behind those that a place or a value has at its node, where its value is read or converted.
-pub(crate) fn behind(
-    table: &TypeTable,
-    names: &SourceNames,
-    node: u32,
-    inner: &TypedExpr,
-    more: u32,
-) -> Result<u32, NoMemory>
-    requires { AreFew names.now }
-    ensures { IfOk result (λ point.
-        point ≡ at_of names.now node ((part_in table.now names.now inner.now).count + more)) }
-{
-    let count = count_of(table, names, inner)?;
-    let step = with_more(count, more)?;
-    if step >= 1 << 31 {
-        return Err(NoMemory);
+impl Lowering<'_> {
+    /// The slot that an expression names, where it names one.
+    #[tactic(auto, unfolding(crate::specs::Expressions::part))]
+    pub fn slot_of(&self, e: &TypedExpr) -> Option<u32>
+        ensures { result ≡ (part_by self.now e.now).slot }
+    {
+        match &e.form {
+            TypedForm::Object(storage) => self.names.slot(*storage),
+            TypedForm::Paren(inner) => self.slot_of(inner.get()),
+            TypedForm::Choice(_, _, _) => None,
+            TypedForm::Compound(_, _, _, _) => None,
+            TypedForm::Step(_, _, _, _) => None,
+            TypedForm::Text(_)
+            | TypedForm::Member(_, _)
+            | TypedForm::Arrow(_, _)
+            | TypedForm::Index(_, _)
+            | TypedForm::Indirection(_)
+            | TypedForm::Number(_)
+            | TypedForm::Function(_)
+            | TypedForm::Address(_)
+            | TypedForm::Unary(_, _)
+            | TypedForm::Binary(_, _, _)
+            | TypedForm::And(_, _)
+            | TypedForm::Or(_, _)
+            | TypedForm::Comma(_, _)
+            | TypedForm::Assign(_, _)
+            | TypedForm::Call(_, _)
+            | TypedForm::Library(_)
+            | TypedForm::Extern(_, _)
+            | TypedForm::Size(_)
+            | TypedForm::Load(_)
+            | TypedForm::Decay(_)
+            | TypedForm::Convert(_)
+            | TypedForm::Discard(_)
+            | TypedForm::Null => None,
+        }
     }
-    Ok(names.at(node, step))
-}
 
-/// The point that gives the value of an expression, or the pointer to the place that it names.
-#[tactic(auto, unfolding(crate::specs::Expressions::part))]
-pub fn value_of(table: &TypeTable, names: &SourceNames, e: &TypedExpr) -> Result<u32, NoMemory>
-    requires { AreFew names.now }
-    ensures { IfOk result (λ point. point ≡ (part_in table.now names.now e.now).value) }
-{
-    let node = e.ordinal;
-    match &e.form {
-        TypedForm::Load(inner) => behind(table, names, node, inner.get(), 0),
-        TypedForm::Decay(inner) => behind(table, names, node, inner.get(), 1),
-        TypedForm::Convert(inner) => behind(table, names, node, inner.get(), 0),
-        TypedForm::Indirection(inner) => value_of(table, names, inner.get()),
-        TypedForm::Address(inner) => value_of(table, names, inner.get()),
-        TypedForm::Discard(inner) => value_of(table, names, inner.get()),
-        TypedForm::Paren(inner) => match slot_of(table, names, inner.get()) {
-            None => value_of(table, names, inner.get()),
-            Some(_) => Ok(names.at(node, 0)),
-        },
-        TypedForm::Comma(_, right) => value_of(table, names, right.get()),
-        TypedForm::Assign(_, right) => value_of(table, names, right.get()),
-        TypedForm::And(_, _) | TypedForm::Or(_, _) => Ok(names.at(node, 6)),
-        TypedForm::Choice(_, _, _) => Ok(names.at(node, choice_step(table, e.ty))),
-        TypedForm::Compound(_, place, _, ty) => Ok(names.at(
-            node,
-            compound_step(place.get().ty, *ty),
-        )),
-        TypedForm::Step(_, change, place, ty) => match change {
-            Change::After => Ok(names.at(node, 0)),
-            Change::Before => Ok(names.at(node, written_step(table, place.get().ty, *ty))),
-        },
-        TypedForm::Call(_, _) => Ok(names.at(node, 0)),
-        TypedForm::Library(_) => Ok(names.at(node, 0)),
-        TypedForm::Object(_) => Ok(names.at(node, 0)),
-        TypedForm::Text(_)
-        | TypedForm::Member(_, _)
-        | TypedForm::Arrow(_, _)
-        | TypedForm::Index(_, _)
-        | TypedForm::Number(_)
-        | TypedForm::Function(_)
-        | TypedForm::Unary(_, _)
-        | TypedForm::Binary(_, _, _)
-        | TypedForm::Extern(_, _)
-        | TypedForm::Size(_)
-        | TypedForm::Null => Ok(names.at(node, 0)),
+    /// How many steps the name of an object has: a slot has none.
+    fn name_count(&self, storage: Storage) -> u32
+        ensures { result ≡ counts.name_count (rules.slot_named (slot_of self.now.names.now.locals) storage) }
+    {
+        match self.names.slot(storage) {
+            None => 1,
+            Some(_) => 0,
+        }
+    }
+
+    /// How many steps of its own the node of an expression has.
+    #[tactic(auto, unfolding(crate::specs::Expressions::part))]
+    pub fn count_of(&self, e: &TypedExpr) -> Result<u32, NoMemory>
+        ensures { IfOk result (λ count. count ≡ (part_by self.now e.now).count) }
+    {
+        match &e.form {
+            TypedForm::Load(inner) => {
+                let count = self.count_of(inner.get())?;
+                with_more(count, 1)
+            }
+            TypedForm::Decay(inner) => {
+                let count = self.count_of(inner.get())?;
+                with_more(count, 2)
+            }
+            TypedForm::Convert(inner) => {
+                let count = self.count_of(inner.get())?;
+                with_more(count, 1)
+            }
+            TypedForm::Choice(_, _, _) => Ok(choice_count(self.table, e.ty)),
+            TypedForm::Compound(_, place, _, ty) => Ok(compound_count(place.get().ty, *ty)),
+            TypedForm::Step(_, _, place, ty) => Ok(step_count(self.table, place.get().ty, *ty)),
+            TypedForm::And(_, _) | TypedForm::Or(_, _) => Ok(7),
+            TypedForm::Paren(_) => Ok(0),
+            TypedForm::Call(_, _) => Ok(1),
+            TypedForm::Library(call) => self.library_count(call, e),
+            TypedForm::Object(storage) => Ok(self.name_count(*storage)),
+            TypedForm::Indirection(_)
+            | TypedForm::Address(_)
+            | TypedForm::Comma(_, _)
+            | TypedForm::Discard(_) => Ok(0),
+            TypedForm::Text(_)
+            | TypedForm::Member(_, _)
+            | TypedForm::Arrow(_, _)
+            | TypedForm::Index(_, _)
+            | TypedForm::Number(_)
+            | TypedForm::Function(_)
+            | TypedForm::Unary(_, _)
+            | TypedForm::Binary(_, _, _)
+            | TypedForm::Assign(_, _)
+            | TypedForm::Extern(_, _)
+            | TypedForm::Size(_)
+            | TypedForm::Null => Ok(1),
+        }
+    }
+
+    /// How many steps a call of the library has, at the node of an expression.
+    #[tactic(auto, unfolding(crate::specs::Expressions::library_part))]
+    fn library_count(&self, call: &LibraryCall, e: &TypedExpr) -> Result<u32, NoMemory>
+        ensures { IfOk result (λ count. count ≡
+            (library_part (names_by self.now) call.now (node_of e.now)).count) }
+    {
+        match call {
+            LibraryCall::Print(_, args) => {
+                let count = text_count(self.table, args.list())?;
+                with_more(count, 1)
+            }
+            LibraryCall::Create(_, _, _) | LibraryCall::Wait(_, _) => Ok(2),
+            LibraryCall::Join(_)
+            | LibraryCall::Detach(_)
+            | LibraryCall::ExitThread(_)
+            | LibraryCall::SelfId
+            | LibraryCall::Equal(_, _)
+            | LibraryCall::Init(_)
+            | LibraryCall::Destroy(_)
+            | LibraryCall::Lock(_)
+            | LibraryCall::Unlock(_)
+            | LibraryCall::Signal(_)
+            | LibraryCall::Allocate(_, _, _)
+            | LibraryCall::Free(_)
+            | LibraryCall::Exit(_)
+            | LibraryCall::Scan(_)
+            | LibraryCall::Compute(_) => Ok(1),
+        }
+    }
+
+    /// The step behind those that a place or a value has at its node, where its value is read or converted.
+    pub(crate) fn behind(&self, node: u32, inner: &TypedExpr, more: u32) -> Result<u32, NoMemory>
+        ensures { IfOk result (λ point.
+            point ≡ at_of self.now.names.now node ((part_by self.now inner.now).count + more)) }
+    {
+        let count = self.count_of(inner)?;
+        let step = with_more(count, more)?;
+        if step >= 1 << 31 {
+            return Err(NoMemory);
+        }
+        Ok(self.names.at(node, step))
+    }
+
+    /// The point that gives the value of an expression, or the pointer to the place that it names.
+    #[tactic(auto, unfolding(crate::specs::Expressions::part))]
+    pub fn value_of(&self, e: &TypedExpr) -> Result<u32, NoMemory>
+        ensures { IfOk result (λ point. point ≡ (part_by self.now e.now).value) }
+    {
+        let node = e.ordinal;
+        match &e.form {
+            TypedForm::Load(inner) => self.behind(node, inner.get(), 0),
+            TypedForm::Decay(inner) => self.behind(node, inner.get(), 1),
+            TypedForm::Convert(inner) => self.behind(node, inner.get(), 0),
+            TypedForm::Indirection(inner) => self.value_of(inner.get()),
+            TypedForm::Address(inner) => self.value_of(inner.get()),
+            TypedForm::Discard(inner) => self.value_of(inner.get()),
+            TypedForm::Paren(inner) => match self.slot_of(inner.get()) {
+                None => self.value_of(inner.get()),
+                Some(_) => Ok(self.names.at(node, 0)),
+            },
+            TypedForm::Comma(_, right) => self.value_of(right.get()),
+            TypedForm::Assign(_, right) => self.value_of(right.get()),
+            TypedForm::And(_, _) | TypedForm::Or(_, _) => Ok(self.names.at(node, 6)),
+            TypedForm::Choice(_, _, _) => Ok(self.names.at(node, choice_step(self.table, e.ty))),
+            TypedForm::Compound(_, place, _, ty) => Ok(
+                self.names.at(node, compound_step(place.get().ty, *ty)),
+            ),
+            TypedForm::Step(_, change, place, ty) => match change {
+                Change::After => Ok(self.names.at(node, 0)),
+                Change::Before => Ok(
+                    self.names
+                        .at(node, written_step(self.table, place.get().ty, *ty)),
+                ),
+            },
+            TypedForm::Call(_, _) => Ok(self.names.at(node, 0)),
+            TypedForm::Library(_) => Ok(self.names.at(node, 0)),
+            TypedForm::Object(_) => Ok(self.names.at(node, 0)),
+            TypedForm::Text(_)
+            | TypedForm::Member(_, _)
+            | TypedForm::Arrow(_, _)
+            | TypedForm::Index(_, _)
+            | TypedForm::Number(_)
+            | TypedForm::Function(_)
+            | TypedForm::Unary(_, _)
+            | TypedForm::Binary(_, _, _)
+            | TypedForm::Extern(_, _)
+            | TypedForm::Size(_)
+            | TypedForm::Null => Ok(self.names.at(node, 0)),
+        }
     }
 }

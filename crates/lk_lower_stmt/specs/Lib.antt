@@ -1,1 +1,3 @@
 pub mod Flows
+pub mod Lays
+pub mod Reaches

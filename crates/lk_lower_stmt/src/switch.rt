@@ -39,7 +39,8 @@ fn ways(
     labelled: &[Labelled],
     past: u32,
 ) -> Result<Seq<u32>, NoMemory>
-    ensures { IfOk result (λ next. next ≡ map (λ one. rules.begins_at one.ordinal labelled.now past) cases.now ++
+    ensures { IfOk result (λ next. next ≡ map (λ one. rules.begins_at one.ordinal labelled.now past)
+        cases.now ++
         (rules.default_of default labelled.now past ∷ [])) }
 {
     let mut next = Vec::new(alloc);

@@ -4,7 +4,8 @@ ghost use Rattle.lk_base.specs.declared.cell.CellStep.TheVariants.{Index as Inde
 ghost use Rattle.lk_facts.specs.declared.action.Action.TheVariants as does;
 ghost use Rattle.lk_lower_expr.specs.Initialisers as initialisers;
 ghost use Rattle.lk_lower_expr.specs.Laid.{laid_from};
-ghost use Rattle.lk_lower_expr.specs.Naming.{at_of, names_of, node_of_local, part_type, AreFew};
+ghost use Rattle.lk_lower_expr.specs.Naming.{at_of, node_of_local, part_type};
+ghost use Rattle.lk_lower_expr.specs.Reads.{names_by};
 ghost use Rattle.lk_lower_expr.specs.Parts as parts;
 ghost use Rattle.lk_types.specs.Table.{type_at};
 
@@ -12,7 +13,7 @@ use crate::way::{inside, push_way};
 use lk_arith::convert;
 use lk_base::{CellStep, NoMemory, Seq, Spot};
 use lk_facts::Action;
-use lk_lower_expr::{Deed, LocalNames, NamedStep, SourceNames, Step, lay, value_type};
+use lk_lower_expr::{Deed, LocalNames, Lowering, NamedStep, Step, lay};
 use lk_types::{CType, TypeId, TypeTable};
 use std::alloc::Global;
 
@@ -49,26 +50,25 @@ fn byte_of(table: &TypeTable, ty: TypeId, byte: u8) -> i128
 
 /// The step of the value of a byte of a text, which leads to the step that writes it.
 fn byte_step(
-    alloc: Global,
-    table: &TypeTable,
-    names: &SourceNames,
+    source: &Lowering<'_>,
     ty: TypeId,
     byte: u8,
     spot: Spot,
     on: u32,
 ) -> Result<Step, NoMemory>
     ensures { IfOk result (λ is. is ≡ parts.step
-        (does.Value (initialisers.byte_of (type_at table.now ty) byte) ((names_of table.now names.now).type ty))
-        (parts.value_of (names_of table.now names.now) ty) spot on) }
+        (does.Value (initialisers.byte_of (type_at source.now.table.now ty) byte)
+        ((names_by source.now).type ty))
+        (parts.value_of (names_by source.now) ty) spot on) }
 {
     let does = Action::Value {
-        number: byte_of(table, ty, byte),
-        ty: names.type_number(ty),
+        number: byte_of(source.table, ty, byte),
+        ty: source.names.type_number(ty),
     };
     Ok(Step {
         does,
-        gives: value_type(table, names, ty),
-        next: Seq::new(vec![in alloc; on]?),
+        gives: source.value_type(ty),
+        next: Seq::new(vec![in source.alloc; on]?),
         spot,
     })
 }
@@ -84,31 +84,29 @@ fn element_path(alloc: Global, path: &[CellStep], index: u32) -> Result<Vec<Cell
 
 /// Adds the steps that write a byte of the text at a node into an element of an array. Answers the one that writes.
 fn push_byte(
-    alloc: Global,
-    table: &TypeTable,
-    names: &SourceNames,
+    source: &Lowering<'_>,
     local: &LocalNames,
     path: &[CellStep],
     node: u32,
     index: u32,
     deeds: &mut Vec<Deed>,
 ) -> Result<u32, NoMemory>
-    requires names { AreFew names.now }
     requires few { index < 2 ^ 30 }
     ensures deeds { OnOk result (deeds.new.items ≡ deeds.old.items ++
-        initialisers.settled (names_of table.now names.now) (node_of_local local.now) local.now.number
-        (length deeds.old.items) (path.now ++ (IndexStep index ∷ [])) (Some (at_of names.now node index))
-        (λ pointer. does.Write pointer (at_of names.now node index) false)) }
+        initialisers.settled (names_by source.now) (node_of_local local.now) local.now.number
+        (length deeds.old.items) (path.now ++ (IndexStep index ∷ []))
+        (Some (at_of source.now.names.now node index))
+        (λ pointer. does.Write pointer (at_of source.now.names.now node index) false)) }
     ensures writes { IfOk result (λ k.
         k ≡ 1 + initialisers.pointed (length deeds.old.items) (path.now ++ (IndexStep index ∷ []))) }
     ensures last { IfOk result (λ k. length deeds.new.items ≡ k + 1) }
     ensures few { IfOk result (λ k. k < 2 ^ 31) }
 {
-    let path = element_path(alloc, path, index)?;
-    let pointer = push_way(table, names, local, &path, deeds)?;
-    let value = names.at(node, index);
+    let path = element_path(source.alloc, path, index)?;
+    let pointer = push_way(source, local, &path, deeds)?;
+    let value = source.names.at(node, index);
     let does = Action::Write {
-        a: names.at(local.ordinal, pointer),
+        a: source.names.at(local.ordinal, pointer),
         b: value,
         raw: false,
     };
@@ -135,9 +133,7 @@ fn next_byte(index: u32) -> Result<u32, NoMemory>
 /// Adds the steps of the bytes of a text, which go to the elements of an array of type `ty`, and those of their values,
 /// which are steps of the text.
 pub(crate) fn push_text(
-    alloc: Global,
-    table: &TypeTable,
-    names: &SourceNames,
+    source: &Lowering<'_>,
     local: &LocalNames,
     path: &[CellStep],
     ty: TypeId,
@@ -146,21 +142,20 @@ pub(crate) fn push_text(
     deeds: &mut Vec<Deed>,
     steps: &mut Vec<NamedStep>,
 ) -> Result<(), NoMemory>
-    requires { AreFew names.now }
     ensures deeds { OnOk result (deeds.new.items ≡ deeds.old.items ++
-        initialisers.text_deeds (names_of table.now names.now) (node_of_local local.now) local.now.number
+        initialisers.text_deeds (names_by source.now) (node_of_local local.now) local.now.number
         (length deeds.old.items) path.now text.node 0 bytes.now) }
     ensures steps { OnOk result (steps.new.items ≡ laid_from text.node 0 (initialisers.byte_steps
-        (names_of table.now names.now) (node_of_local local.now) text.spot (length deeds.old.items)
-        (part_type table.now ty (IndexStep 0)) path.now 0 bytes.now) steps.old.items) }
+        (names_by source.now) (node_of_local local.now) text.spot (length deeds.old.items)
+        (part_type source.now.table.now ty (IndexStep 0)) path.now 0 bytes.now) steps.old.items) }
 {
-    let element = inside(table, ty, CellStep::Index(0));
-    let mut own = Vec::new(alloc);
+    let element = inside(source.table, ty, CellStep::Index(0));
+    let mut own = Vec::new(source.alloc);
     let mut index = 0;
     for byte in bytes {
-        let writes = push_byte(alloc, table, names, local, path, text.node, index, deeds)?;
-        let on = names.at(local.ordinal, writes);
-        own.push(byte_step(alloc, table, names, element, *byte, text.spot, on)?)?;
+        let writes = push_byte(source, local, path, text.node, index, deeds)?;
+        let on = source.names.at(local.ordinal, writes);
+        own.push(byte_step(source, element, *byte, text.spot, on)?)?;
         index = next_byte(index)?;
     }
     lay(text.node, own, steps)

@@ -1,13 +1,15 @@
 //! The steps to the parts of an object that is declared, at its name (C99 6.7.8).
-ghost use Rattle.std.specs.Prelude.{◌≡◌, ◌++◌, ◌+◌, ◌<◌, ◌^◌, get_or, length, IfOk, None, OnOk, Some};
+ghost use Rattle.std.specs.Prelude.{◌≡◌, ◌+◌, ◌<◌, ◌^◌, get_or, length, IfOk};
 ghost use Rattle.lk_base.specs.declared.cell.CellStep.TheVariants.{Field as FieldStep, Index as IndexStep};
 ghost use Rattle.lk_lower_expr.specs.Initialisers as initialisers;
 ghost use Rattle.lk_lower_expr.specs.Naming as naming;
-ghost use Rattle.lk_lower_expr.specs.Naming.{names_of, node_of_local, part_type, AreFew};
+ghost use Rattle.lk_lower_expr.specs.Naming.{node_of_local, part_type};
+ghost use Rattle.lk_lower_expr.specs.Reads.{names_by};
+ghost use Rattle.lk_lower_stmt.specs.Reaches.{Reaches, pointing};
 
 use lk_base::{CellStep, Kind, NoMemory};
 use lk_facts::Action;
-use lk_lower_expr::{Deed, LocalNames, SourceNames};
+use lk_lower_expr::{Deed, LocalNames, Lowering};
 use lk_types::{CType, TypeId, TypeTable};
 
 /// The type of a member of a struct; `ty` where it has no such member.
@@ -70,12 +72,12 @@ pub(crate) fn next_step(deeds: &[Deed]) -> Result<u32, NoMemory>
 }
 
 /// A step that gives a pointer to a type.
-fn points(names: &SourceNames, does: Action, ty: TypeId) -> Deed
-    ensures { result ≡ record { does = does; gives = Some (get_or names.now.pointers ty 0); comes = None } }
+fn points(source: &Lowering<'_>, does: Action, ty: TypeId) -> Deed
+    ensures { result ≡ pointing does (get_or source.now.names.now.pointers ty 0) }
 {
     Deed {
         does,
-        gives: Some(names.pointer_number(ty)),
+        gives: Some(source.names.pointer_number(ty)),
         comes: None,
     }
 }
@@ -83,51 +85,41 @@ fn points(names: &SourceNames, does: Action, ty: TypeId) -> Deed
 /// Adds the step from the pointer that the step `k` gives to a member of the struct of type `ty` that it points to.
 /// Answers the step that gives the pointer to the member.
 fn push_member(
-    table: &TypeTable,
-    names: &SourceNames,
+    source: &Lowering<'_>,
     local: &LocalNames,
     k: u32,
     ty: TypeId,
     member: u32,
     deeds: &mut Vec<Deed>,
 ) -> Result<u32, NoMemory>
-    requires names { AreFew names.now }
     requires few { k < 2 ^ 30 }
     requires next { length deeds.old.items ≡ k + 1 }
-    ensures deeds { OnOk result (deeds.new.items ≡ deeds.old.items ++ initialisers.to_part
-        (names_of table.now names.now) (node_of_local local.now) k (part_type table.now ty (FieldStep member))
-        (FieldStep member)) }
-    ensures pointer { IfOk result (λ next. next ≡ k + 1) }
-    ensures last { IfOk result (λ next. length deeds.new.items ≡ next + 1) }
-    ensures few { IfOk result (λ next. next < 2 ^ 30) }
+    ensures { Reaches (initialisers.to_part (names_by source.now) (node_of_local local.now) k
+        (part_type source.now.table.now ty (FieldStep member)) (FieldStep member)) (k + 1)
+        deeds.old.items deeds.new.items result }
 {
     let next = next_step(deeds)?;
-    let a = names.at(local.ordinal, k);
-    let inner = inside(table, ty, CellStep::Field(member));
-    deeds.push(points(names, Action::Field { a, member }, inner))?;
+    let a = source.names.at(local.ordinal, k);
+    let inner = inside(source.table, ty, CellStep::Field(member));
+    deeds.push(points(source, Action::Field { a, member }, inner))?;
     Ok(next)
 }
 
 /// Adds the steps from the pointer that the step `k` gives to an element of the array of type `ty` that it points to.
 /// Answers the step that gives the pointer to the element.
 fn push_element(
-    table: &TypeTable,
-    names: &SourceNames,
+    source: &Lowering<'_>,
     local: &LocalNames,
     k: u32,
     ty: TypeId,
     index: u64,
     deeds: &mut Vec<Deed>,
 ) -> Result<u32, NoMemory>
-    requires names { AreFew names.now }
     requires few { k < 2 ^ 30 }
     requires next { length deeds.old.items ≡ k + 1 }
-    ensures deeds { OnOk result (deeds.new.items ≡ deeds.old.items ++ initialisers.to_part
-        (names_of table.now names.now) (node_of_local local.now) k (part_type table.now ty (IndexStep index))
-        (IndexStep index)) }
-    ensures pointer { IfOk result (λ next. next ≡ k + 2) }
-    ensures last { IfOk result (λ next. length deeds.new.items ≡ next + 1) }
-    ensures few { IfOk result (λ next. next < 2 ^ 30) }
+    ensures { Reaches (initialisers.to_part (names_by source.now) (node_of_local local.now) k
+        (part_type source.now.table.now ty (IndexStep index)) (IndexStep index)) (k + 2)
+        deeds.old.items deeds.new.items result }
 {
     let value = next_step(deeds)?;
     let int = TypeId::of_kind(Kind::Int);
@@ -141,85 +133,72 @@ fn push_element(
     })?;
     let next = next_step(deeds)?;
     let does = Action::Index {
-        a: names.at(local.ordinal, k),
-        b: names.at(local.ordinal, value),
+        a: source.names.at(local.ordinal, k),
+        b: source.names.at(local.ordinal, value),
         into: true,
     };
-    let inner = inside(table, ty, CellStep::Index(index));
-    deeds.push(points(names, does, inner))?;
+    let inner = inside(source.table, ty, CellStep::Index(index));
+    deeds.push(points(source, does, inner))?;
     Ok(next)
 }
 
 /// Adds the steps from the pointer that the step `k` gives to a part of what it points to, of type `ty`. Answers the
 /// step that gives the pointer to the part.
 fn push_part(
-    table: &TypeTable,
-    names: &SourceNames,
+    source: &Lowering<'_>,
     local: &LocalNames,
     k: u32,
     ty: TypeId,
     to: CellStep,
     deeds: &mut Vec<Deed>,
 ) -> Result<u32, NoMemory>
-    requires names { AreFew names.now }
     requires few { k < 2 ^ 30 }
     requires next { length deeds.old.items ≡ k + 1 }
-    ensures deeds { OnOk result (deeds.new.items ≡ deeds.old.items ++ initialisers.to_part
-        (names_of table.now names.now) (node_of_local local.now) k (part_type table.now ty to) to) }
-    ensures pointer { IfOk result (λ next. next ≡ initialisers.after k to) }
-    ensures last { IfOk result (λ next. length deeds.new.items ≡ next + 1) }
-    ensures few { IfOk result (λ next. next < 2 ^ 30) }
+    ensures { Reaches (initialisers.to_part (names_by source.now) (node_of_local local.now) k
+        (part_type source.now.table.now ty to) to) (initialisers.after k to)
+        deeds.old.items deeds.new.items result }
 {
     match to {
-        CellStep::Field(member) => push_member(table, names, local, k, ty, member, deeds),
-        CellStep::Index(index) => push_element(table, names, local, k, ty, index, deeds),
+        CellStep::Field(member) => push_member(source, local, k, ty, member, deeds),
+        CellStep::Index(index) => push_element(source, local, k, ty, index, deeds),
     }
 }
 
 /// Adds the steps from the pointer that the step `k` gives along a path. Answers the step that gives the pointer to the
 /// part at its end.
 fn push_along(
-    table: &TypeTable,
-    names: &SourceNames,
+    source: &Lowering<'_>,
     local: &LocalNames,
     k: u32,
     path: &[CellStep],
     deeds: &mut Vec<Deed>,
 ) -> Result<u32, NoMemory>
-    requires names { AreFew names.now }
     requires few { k < 2 ^ 30 }
     requires next { length deeds.old.items ≡ k + 1 }
-    ensures deeds { OnOk result (deeds.new.items ≡ deeds.old.items ++ initialisers.along
-        (names_of table.now names.now) (node_of_local local.now) k local.now.ty path.now) }
-    ensures pointer { IfOk result (λ last. last ≡ initialisers.pointed k path.now) }
-    ensures last { IfOk result (λ last. length deeds.new.items ≡ last + 1) }
-    ensures few { IfOk result (λ last. last < 2 ^ 30) }
+    ensures { Reaches (initialisers.along (names_by source.now) (node_of_local local.now) k local.now.ty
+        path.now) (initialisers.pointed k path.now) deeds.old.items deeds.new.items result }
 {
     let mut ty = local.ty;
     let mut pointer = k;
     for to in path {
-        pointer = push_part(table, names, local, pointer, ty, *to, deeds)?;
-        ty = inside(table, ty, *to);
+        pointer = push_part(source, local, pointer, ty, *to, deeds)?;
+        ty = inside(source.table, ty, *to);
     }
     Ok(pointer)
 }
 
 /// Adds the steps to a part of a declared object. Answers the step that gives the pointer to the part.
-pub(crate) fn push_way(
-    table: &TypeTable,
-    names: &SourceNames,
+pub fn push_way(
+    source: &Lowering<'_>,
     local: &LocalNames,
     path: &[CellStep],
     deeds: &mut Vec<Deed>,
 ) -> Result<u32, NoMemory>
-    requires { AreFew names.now }
-    ensures deeds { OnOk result (deeds.new.items ≡ deeds.old.items ++ initialisers.way_to
-        (names_of table.now names.now) (node_of_local local.now) local.now.number (length deeds.old.items) path.now) }
-    ensures pointer { IfOk result (λ k. k ≡ initialisers.pointed (length deeds.old.items) path.now) }
-    ensures last { IfOk result (λ k. length deeds.new.items ≡ k + 1) }
-    ensures few { IfOk result (λ k. k < 2 ^ 30) }
+    ensures { Reaches (initialisers.way_to (names_by source.now) (node_of_local local.now) local.now.number
+        (length deeds.old.items) path.now) (initialisers.pointed (length deeds.old.items) path.now)
+        deeds.old.items deeds.new.items result }
 {
     let k = next_step(deeds)?;
-    deeds.push(points(names, Action::Root(local.number), local.ty))?;
-    push_along(table, names, local, k, path, deeds)
+    deeds.push(points(source, Action::Root(local.number), local.ty))?;
+    push_along(source, local, k, path, deeds)
 }

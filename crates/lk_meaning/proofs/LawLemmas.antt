@@ -22,7 +22,8 @@ use Rattle.lk_cells.specs.declared.object.Object.{Object}
 use Rattle.lk_cells.specs.declared.state.Frame.{Frame}
 use Rattle.lk_cells.specs.declared.state.State.{State}
 use Rattle.lk_cells.specs.declared.state.Thread.{Thread}
-use Rattle.lk_change.specs.Changes.{change, caller_of}
+use Rattle.lk_change.specs.Changes.{change}
+use Rattle.lk_change.specs.Calls.{caller_of}
 use Rattle.lk_change.specs.declared.change.Change.{Change}
 use Rattle.lk_change.specs.declared.change.Change.TheVariants.{Goes, Enter, Leave, EndThread, EndProcess}
 use Rattle.lk_change.specs.declared.change.Effect.{Effect}

@@ -13,7 +13,7 @@ use Rattle.lk_cells.specs.declared.state.Frame.{Frame}
 use Rattle.lk_cells.specs.declared.state.Local.{Local}
 use Rattle.lk_cells.specs.declared.state.State.{State}
 use Rattle.lk_cells.specs.declared.state.Thread.{Thread}
-use Rattle.lk_change.specs.Changes.{caller_of}
+use Rattle.lk_change.specs.Calls.{caller_of}
 use Rattle.lk_change.specs.declared.change.Change.{Change}
 use Rattle.lk_change.specs.declared.change.Change.TheVariants.{Goes, Enter, Leave, EndThread, EndProcess}
 use Rattle.lk_change.specs.declared.change.Effect.{Effect}

@@ -15,5 +15,5 @@ pub use laws::{
     owners_are_kept, steps_reach,
 };
 pub use locating::location;
-pub use stepping::{Event, Next, Stepped, step, threads};
+pub use stepping::{Event, Next, Stepped, step};
 pub use touching::{Touched, touch};

@@ -62,14 +62,6 @@ pub enum Next {
     Full,
 }
 
-/// How many threads there are. Those below it are their numbers. It takes no memory.
-pub fn threads(state: &State) -> u32
-    requires { IsSmall state.now }
-    ensures { result ≡ length state.now.threads }
-{
-    state.threads.len() as u32
-}
-
 /// How many objects an effect makes.
 fn objects_by(alloc: Global, points: &Points, effect: &Effect) -> Result<usize, NoMemory>
     ensures { IfOk result (λ count. count ≡ objects_by points.now effect.now) }

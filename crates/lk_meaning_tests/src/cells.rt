@@ -7,7 +7,7 @@ use lk_cells::{
     CellKind, Computed, Initial, Object, State, all_given, all_used, binary, condition_in,
     condition_through, converted_to, current, element_of, elements_of, followed, form_of,
     form_through, function_in, given, id_in, is_condition_unready, is_not_of, is_same_place,
-    is_taken, is_unready, kind_of, kind_through, lives, moved, moved_by, mutex_through, number_in,
+    is_taken, is_unready, kind_of, kind_through, moved, moved_by, mutex_through, number_in,
     object_at, operand, part_at, part_of, pointer_in, type_along, unary_of, used, value_through,
     zero_of,
 };
@@ -272,7 +272,7 @@ fn elements_are_reached(rt: HostRuntime) -> Result<(), Fail> {
 fn leads(state: &State, value: &Value) -> bool {
     followed(state, Some(value)).is_none()
         && part_of(state, Some(value)).is_some()
-        && lives(state, 0)
+        && state.lives(0)
         && object_at(state, 1).is_none()
 }
 

@@ -15,4 +15,6 @@ mod scenes;
 #[cfg(test)]
 mod steps;
 #[cfg(test)]
+mod turns;
+#[cfg(test)]
 mod values;

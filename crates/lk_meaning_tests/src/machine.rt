@@ -265,7 +265,7 @@ pub fn own_state(alloc: Global) -> Result<State, NoMemory> {
 }
 
 /// A point, whose value is an int.
-fn point(alloc: Global, act: Act, next: &[u32]) -> Result<Point, NoMemory> {
+pub fn point(alloc: Global, act: Act, next: &[u32]) -> Result<Point, NoMemory> {
     let action = act.action(alloc)?;
     let next = Vec::from_slice(alloc, next)?;
     Ok(Point {
@@ -293,7 +293,7 @@ fn point_list(alloc: Global, act: Act) -> Result<Seq<Point>, NoMemory> {
 }
 
 /// A name.
-fn name(alloc: Global) -> Result<Name, NoMemory> {
+pub fn name(alloc: Global) -> Result<Name, NoMemory> {
     match Name::from_bytes(alloc, b"main") {
         Ok(name) => Ok(name),
         Err(_) => Err(NoMemory),
@@ -321,15 +321,20 @@ fn functions(alloc: Global) -> Result<Seq<Function>, NoMemory> {
     Ok(Seq::new(functions))
 }
 
-/// The root of an object.
-fn root(alloc: Global, kind: RootKind, ty: TypeId) -> Result<Root, NoMemory> {
+/// The root of an object, which belongs to this function, where it belongs to one.
+pub fn root(
+    alloc: Global,
+    kind: RootKind,
+    ty: TypeId,
+    function: Option<u32>,
+) -> Result<Root, NoMemory> {
     let name = name(alloc)?;
     Ok(Root {
         kind,
         ty,
         spot: SPOT,
         name,
-        function: None,
+        function,
         point: None,
         bytes: Seq::new(Vec::new(alloc)),
     })
@@ -339,18 +344,19 @@ fn root(alloc: Global, kind: RootKind, ty: TypeId) -> Result<Root, NoMemory> {
 fn roots(alloc: Global) -> Result<Seq<Root>, NoMemory> {
     let mut roots = Vec::new(alloc);
     for (kind, sort, _) in OBJECTS {
-        roots.push(root(alloc, *kind, sort.ty())?)?;
+        roots.push(root(alloc, *kind, sort.ty(), None)?)?;
     }
     Ok(Seq::new(roots))
 }
 
-/// A program of these parts.
-fn program(
+/// A program of these parts, whose main has this number.
+pub fn program(
     alloc: Global,
     types: TypeTable,
     points: Seq<Point>,
     functions: Seq<Function>,
     roots: Seq<Root>,
+    main: u32,
 ) -> Program {
     Program {
         points,
@@ -360,7 +366,7 @@ fn program(
         places: Places::new(alloc),
         locations: 0,
         initials: Seq::new(Vec::new(alloc)),
-        main: 0,
+        main,
         sites: 0,
     }
 }
@@ -371,7 +377,7 @@ pub fn points(rt: &impl Abort, alloc: Global, act: Act) -> Result<Points, NoMemo
     let functions = functions(alloc)?;
     let roots = roots(alloc)?;
     let types = types(rt, alloc)?;
-    let program = program(alloc, types, points, functions, roots);
+    let program = program(alloc, types, points, functions, roots, 0);
     assert!(rt; Points::fits(&program));
     Ok(Points::new(program))
 }

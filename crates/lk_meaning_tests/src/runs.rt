@@ -7,7 +7,7 @@ use lk_cells::State;
 use lk_facts::Points;
 use lk_meaning::{
     Event, Stepped, each_thread_has_one_fate, ended_stay_ended, first_states_are_reached,
-    other_cells_are_kept, owners_are_kept, step, steps_reach, threads,
+    other_cells_are_kept, owners_are_kept, step, steps_reach,
 };
 use lk_values::Why;
 use std::alloc::Global;
@@ -16,7 +16,7 @@ use std::test::Fail;
 
 /// What came of a step, as plain data.
 #[derive(Clone, Copy, PartialEq)]
-enum Came {
+pub enum Came {
     /// The point that was performed, the object of the cell that it touched, and where the thread stands.
     Moved(u32, Option<u32>, Option<u32>),
     Waits,
@@ -40,7 +40,7 @@ fn moved(state: &State, event: &Event) -> Came {
 }
 
 /// What came of a step.
-fn of_stepped(stepped: &Stepped) -> Came {
+pub fn of_stepped(stepped: &Stepped) -> Came {
     match stepped {
         Stepped::Moved(state, event) => moved(state, event),
         Stepped::Waits(_) => Came::Waits,
@@ -54,7 +54,7 @@ fn of_stepped(stepped: &Stepped) -> Came {
 
 /// What comes of a step of a thread of a state of three threads.
 fn comes(alloc: Global, points: &Points, state: State, thread: u32) -> Option<Came> {
-    if state.objects.len() > 100 || state.threads.len() > 100 || threads(&state) != 3 {
+    if state.objects.len() > 100 || state.threads.len() > 100 || state.threads() != 3 {
         return None;
     }
     let stepped = step(alloc, points, state, thread, 1);

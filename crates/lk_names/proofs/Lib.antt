@@ -1,5 +1,4 @@
 pub mod Environments
 pub mod KnownScopes
-pub mod LastPlaces
+pub mod LatestNames
 pub mod TellingRules
-pub mod TurnedLists

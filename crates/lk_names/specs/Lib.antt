@@ -1,8 +1,6 @@
 pub mod Again
-pub mod Places
 pub mod InScope
 pub mod Growing
 pub mod Uses
 pub mod Laws
 pub mod Words
-pub mod Turned

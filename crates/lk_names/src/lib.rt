@@ -5,7 +5,7 @@
 mod declaring;
 mod laws;
 mod names;
-mod scopes;
+mod scoped;
 mod tags;
 mod words;
 

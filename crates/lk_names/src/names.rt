@@ -12,33 +12,20 @@ ghost use Rattle.lk_typed.specs.declared.members.Members.TheVariants.{NotYet};
 ghost use Rattle.lk_names.specs.InScope.{env_in, nothing_in_scope, HasStruct, IsKnownScope};
 ghost use Rattle.lk_names.specs.Growing.{Adds, Enters, GivesBack, IsKnownLeft, IsMarkOf, Leaves, in_innermost, left, name_added, scope_added, tag_added};
 
-use crate::scopes::{Named, Scopes};
+use crate::scoped::{Scoped, latest_behind, latest_of};
 use lk_base::{Name, NoMemory, Seq};
+use lk_scopes::Declarations;
 use lk_typed::{Declared, Members, Tag};
 use std::alloc::Global;
 use std::marker::Model;
 
-impl Named for Declared {
-    ghost name_of = { λ declared. declared.name };
-
-    fn name(&self) -> &Name {
-        &self.name
-    }
-}
-
-impl Named for Tag {
-    ghost name_of = { λ tag. tag.name };
-
-    fn name(&self) -> &Name {
-        &self.name
-    }
-}
-
 /// The names, tags and structs in scope at a place of a source.
 #[derive(Drop)]
 pub struct Names {
-    declared: Scopes<Declared>,
-    tags: Scopes<Tag>,
+    declared: Declarations<Scoped<Declared>>,
+    base: usize,
+    tags: Declarations<Scoped<Tag>>,
+    tag_base: usize,
     structs: Seq<Members>,
 }
 
@@ -48,10 +35,10 @@ impl Model for Names {
     ghost Value = { InScope };
 
     ghost view = { λ names. record {
-      declared = names.declared.0;
-      base = names.declared.1;
-      tags = names.tags.0;
-      tag_base = names.tags.1;
+      declared = names.declared;
+      base = names.base;
+      tags = names.tags;
+      tag_base = names.tag_base;
       structs = names.structs;
     } };
 }
@@ -66,19 +53,18 @@ pub struct Mark {
 /// What was declared in a scope that was left, the oldest first. It names no struct that its scope didn't.
 #[derive(Drop)]
 pub struct LeftScope {
-    declared: Vec<Declared>,
-    tags: Vec<Tag>,
+    declared: Vec<Scoped<Declared>>,
+    tags: Vec<Scoped<Tag>>,
 }
 
 impl Model for LeftScope {
     ghost use Rattle.lk_names.specs.Growing.{InLeftScope};
-    ghost use Rattle.lk_names.specs.Turned.{reversed};
 
     ghost Value = { InLeftScope };
 
     ghost view = { λ scope. record {
-      declared = reversed scope.declared.items;
-      tags = reversed scope.tags.items;
+      declared = scope.declared.items;
+      tags = scope.tags.items;
     } };
 }
 
@@ -89,8 +75,10 @@ impl Names {
         ensures known { (table : Table) → IsKnownScope table result }
     {
         Names {
-            declared: Scopes::new(alloc),
-            tags: Scopes::new(alloc),
+            declared: Declarations::new(alloc),
+            base: 0,
+            tags: Declarations::new(alloc),
+            tag_base: 0,
             structs: Seq::new(Vec::new(alloc)),
         }
     }
@@ -104,7 +92,7 @@ impl Names {
         ensures known { (table : Table) → IsKnownScope table self.now →
             IfSome (option_copied result) (IsKnownName table) }
     {
-        self.declared.look_up(name)
+        latest_of(&self.declared, name)
     }
 
     /// The latest declaration of a name that is no tag in the innermost scope.
@@ -117,7 +105,7 @@ impl Names {
         ensures known { (table : Table) → IsKnownScope table self.now →
             IfSome (option_copied result) (IsKnownName table) }
     {
-        self.declared.look_up_here(name)
+        latest_behind(&self.declared, self.base, name)
     }
 
     /// The innermost declaration of a tag.
@@ -129,7 +117,7 @@ impl Names {
         ensures known { (table : Table) → IsKnownScope table self.now →
             IfSome (option_copied result) (λ tag. HasStruct (length self.now.structs) tag.meaning) }
     {
-        self.tags.look_up(name)
+        latest_of(&self.tags, name)
     }
 
     /// The latest declaration of a tag in the innermost scope.
@@ -142,7 +130,7 @@ impl Names {
         ensures known { (table : Table) → IsKnownScope table self.now →
             IfSome (option_copied result) (λ tag. HasStruct (length self.now.structs) tag.meaning) }
     {
-        self.tags.look_up_here(name)
+        latest_behind(&self.tags, self.tag_base, name)
     }
 
     /// The structs of the source by their numbers.
@@ -170,7 +158,7 @@ impl Names {
             IsKnownScope table self.old → IsKnownName table declared → IsKnownScope table self.new) }
         ensures err { OnErr result (self.new ≡ self.old) }
     {
-        self.declared.push(declared)?;
+        self.declared.push(Scoped { item: declared })?;
         Ok(())
     }
 
@@ -182,7 +170,7 @@ impl Names {
             HasStruct (length self.old.structs) tag.meaning → IsKnownScope table self.new) }
         ensures err { OnErr result (self.new ≡ self.old) }
     {
-        self.tags.push(tag)?;
+        self.tags.push(Scoped { item: tag })?;
         Ok(())
     }
 
@@ -222,10 +210,13 @@ impl Names {
         ensures enters { Enters self.old self.new }
         ensures known { (table : Table) → IsKnownScope table self.old → IsKnownScope table self.new }
     {
-        Mark {
-            base: self.declared.enter(),
-            tag_base: self.tags.enter(),
-        }
+        let mark = Mark {
+            base: self.base,
+            tag_base: self.tag_base,
+        };
+        self.base = self.declared.len();
+        self.tag_base = self.tags.len();
+        mark
     }
 
     /// Ends the scope that was begun when the mark was given: its names and tags are gone, and those that they hid
@@ -235,10 +226,12 @@ impl Names {
         ensures leaves { Leaves mark self.old self.new }
         ensures known { (table : Table) → IsKnownScope table self.old → IsKnownScope table self.new }
     {
-        let Mark { base, tag_base } = mark;
-        self.declared.leave(base);
-        self.tags.leave(tag_base);
+        self.declared.truncate(self.base);
+        self.tags.truncate(self.tag_base);
+        self.base = mark.base;
+        self.tag_base = mark.tag_base;
     }
+
     /// Ends the scope that was begun when the mark was given, as `leave` does, and hands out its names and tags. Where no
     /// memory is found the scope stays.
     pub fn leave_with(&mut self, alloc: Global, mark: Mark) -> Result<LeftScope, NoMemory>
@@ -252,11 +245,12 @@ impl Names {
             IsKnownLeft table (length self.old.structs) scope) }
         ensures err { OnErr result (self.new ≡ self.old) }
     {
-        let mut declared = self.declared.room(alloc)?;
-        let mut tags = self.tags.room(alloc)?;
-        let Mark { base, tag_base } = mark;
-        self.declared.leave_into(base, &mut declared);
-        self.tags.leave_into(tag_base, &mut tags);
+        let mut declared = self.declared.room(alloc, self.base)?;
+        let mut tags = self.tags.room(alloc, self.tag_base)?;
+        self.declared.split_into(self.base, &mut declared);
+        self.tags.split_into(self.tag_base, &mut tags);
+        self.base = mark.base;
+        self.tag_base = mark.tag_base;
         Ok(LeftScope { declared, tags })
     }
 

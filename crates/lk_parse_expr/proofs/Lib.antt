@@ -1,5 +1,6 @@
 pub mod Steps
 pub mod Taking
+pub mod Typedefs
 pub mod Turns
 pub mod Growing
 pub mod Levels

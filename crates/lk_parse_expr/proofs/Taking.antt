@@ -1,6 +1,5 @@
 -- One more token taken.
-use Rattle.std.proofs.Common.{◌≡◌, ℕ, zero, suc, ◌+◌, min, List, [], ◌∷◌, length, take, drop, refl, ap, ◌∙◌, arith}
-use Rattle.std.proofs.lemmas.List.{drop_min, take_min}
+use Rattle.std.proofs.Common.{◌≡◌, ℕ, zero, suc, ◌+◌, List, [], ◌∷◌, drop, refl, ap, ◌∙◌, arith}
 use Rattle.lk_lex.specs.declared.token.Token.{Token}
 use Rattle.lk_parse_expr.specs.Input.{Names, next}
 
@@ -17,10 +16,3 @@ pub next_taken : (source : List ℕ) (tokens : List Token) (names : Names) (n : 
     → next (record { source = source; tokens = drop n tokens; names = names }) ≡ record { source = source; tokens = drop (n + 1) tokens; names = names }
 unfolding next
 next_taken source tokens names n = ap (λ t. record { source = source; tokens = t; names = names }) (drop_one n tokens)
-
--- where there may be fewer
-pub drop_all_since : {A : Type 0} (n : ℕ) (list : List A) → drop (min n (length list)) list ≡ drop n list
-drop_all_since n list = drop_min n list
-
-pub take_all_since : {A : Type 0} (n : ℕ) (list : List A) → take (min n (length list)) list ≡ take n list
-take_all_since n list = take_min n list

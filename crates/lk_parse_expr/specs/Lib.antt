@@ -7,7 +7,6 @@ pub mod Reading
 pub mod Grammar
 pub mod Declarations
 pub mod Statements
-pub mod Tree
 pub mod Nests
 pub mod NestsTypes
 pub mod Parts

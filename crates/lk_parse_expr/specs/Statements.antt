@@ -10,7 +10,6 @@
 --
 -- Blocks, `if`, `switch`, loops and their substatements are scopes (C99 6.8.2, 6.8.4, 6.8.5). An `else` belongs to the nearest `if` that can take it.
 use Rattle.std.specs.Prelude.{◌≡◌, ℕ, ◌+◌, max, Bool, true, false, not, ◌&&◌, List, [], ◌∷◌, Option, Some, None}
-use Rattle.lk_lex.specs.declared.token.Token.{Token}
 use Rattle.lk_lex.specs.declared.token.TokenKind.{TokenKind}
 use Rattle.lk_lex.specs.declared.token.TokenKind.TheVariants as k
 use Rattle.lk_lex.specs.declared.punct.Punct.TheVariants as p
@@ -138,7 +137,3 @@ pub data ReadsDecl : ℕ → Decl → Input → Input → Type 0 where
 pub data ReadsUnit : ℕ → List Decl → Input → Type 0 where
   unit_end : {from : Input} → peek from ≡ k.End → ReadsUnit 0 [] from
   unit_more : {g h : ℕ} {first : Decl} {others : List Decl} {from mid : Input} → ReadsDecl g first from mid → ReadsUnit h others mid → ReadsUnit (max g h) (first ∷ others) from
-
--- the input of a whole source
-abbrev pub start : List ℕ → List Token → Input
-start source tokens = record { source = source; tokens = tokens; names = [] }

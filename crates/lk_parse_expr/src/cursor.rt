@@ -16,6 +16,7 @@ use crate::naming::{Head, Naming};
 use crate::words::{is_close_brace, is_ellipsis, is_specifier_word, qualifier_of};
 use lk_base::{Code, Fault, Name, NoMemory, Refusal, Seq, Spot};
 use lk_lex::{Keyword, Punct, Token, TokenKind, push_text, text_of};
+use lk_scopes::Declarations;
 use lk_tree::Qualifier;
 use std::alloc::Global;
 use std::marker::Model;
@@ -28,7 +29,7 @@ pub struct Cursor<'t> {
     tokens: &'t [Token],
     /// How many of the tokens were taken.
     taken: usize,
-    names: Vec<(Name, bool)>,
+    names: Declarations<(Name, bool)>,
 }
 
 impl<'t> Model for Cursor<'t> {
@@ -39,7 +40,7 @@ impl<'t> Model for Cursor<'t> {
 
     ghost coded = { input_code };
 
-    ghost view = { λ c. record { source = c.source.now; tokens = drop c.taken c.tokens.now; names = c.names.items } };
+    ghost view = { λ c. record { source = c.source.now; tokens = drop c.taken c.tokens.now; names = c.names } };
 
     ghost invariant = { λ c. (c.taken ≤ length c.tokens.now) × AreInside c.source.now c.tokens.now };
 }
@@ -55,7 +56,7 @@ impl<'t> Cursor<'t> {
             source,
             tokens,
             taken: 0,
-            names: Vec::new(alloc),
+            names: Declarations::new(alloc),
         }
     }
 
@@ -293,17 +294,13 @@ impl<'t> Cursor<'t> {
     }
 
     /// Whether the innermost declaration of a word is a typedef.
-    #[tactic(auto, unfolding(crate::specs::Input::is_typedef))]
     fn is_typedef(&self, word: &[u8]) -> bool
         ensures { result ≡ spec.is_typedef self.now.names word.now }
     {
-        self.names.iter().fold(false, |found, (name, typedef)| {
-            if name.bytes() == word {
-                *typedef
-            } else {
-                found
-            }
-        })
+        match self.names.look_up(word) {
+            Some(declared) => declared.1,
+            None => false,
+        }
     }
 
     /// Whether the next token begins a specifier, where `typed` says that a type came before it.
@@ -467,18 +464,17 @@ impl<'t> Cursor<'t> {
     pub fn declare_all(&mut self, names: Seq<(Name, bool)>) -> Result<(), NoMemory>
         ensures { OnOk result (self.new ≡ spec.with_names names self.old) }
     {
-        self.names.append(&mut names.into_vec())?;
-        Ok(())
+        self.names.push_all(names.into_vec())
     }
 
     /// Ends the scopes of the names that were declared since there were so many, and hands them out.
-    #[tactic(auto, using(crate::proofs::Taking::drop_all_since, crate::proofs::Taking::take_all_since))]
     pub fn leave_with_names(&mut self, mark: usize) -> Result<Seq<(Name, bool)>, NoMemory>
         ensures names { IfOk result (λ names. names ≡ drop mark self.old.names) }
         ensures rest { OnOk result (self.new ≡ record self.old { names = take mark self.old.names }) }
     {
-        let mark = mark.min(self.names.len());
-        Ok(Seq::new(self.names.split_off(mark)?))
+        let mut names = self.names.room(self.alloc, mark)?;
+        self.names.split_into(mark, &mut names);
+        Ok(Seq::new(names))
     }
 
     /// Takes the `)` behind parameters, where the scopes end of the names that were declared since there were

@@ -1,5 +1,5 @@
 -- What tables of items have.
-use Rattle.std.proofs.Common.{◌≡◌, ◌<◌, ℕ, true, List, [], ◌∷◌, length, map, All, Contains, Option, Some, None, refl, sym, ap, ◌∙◌, subst, inl, inr}
+use Rattle.std.proofs.Common.{◌≡◌, ◌<◌, ℕ, true, false, List, [], ◌∷◌, length, map, All, Contains, Option, Some, None, refl, sym, ap, ◌∙◌, subst, inl, inr}
 use Rattle.std.specs.List.{slice_get}
 use Rattle.std.specs.Option.{is_some, option_map}
 use Rattle.std.proofs.lemmas.Bool.{cases_Bool, false≢true}
@@ -8,7 +8,8 @@ use Rattle.std.proofs.lemmas.List.Elements.{All-cons, All-head, All-nil, All-tai
 use Rattle.lk_facts.specs.Facts.{FactTable}
 use Rattle.lk_rise.specs.Correlations.{is_same, has_item, set_of, AreInRange, IsEntryInRange}
 use Rattle.lk_rise.specs.Groups.{AreGroups, group_at}
-use Rattle.lk_rise.specs.PointItems.{functions_of}
+use Rattle.lk_rise.specs.PointItems.{HasNoChild, functions_of}
+use Rattle.lk_rise.specs.Tables.{item_at}
 use Rattle.lk_rise.specs.declared.correlations.Correlation.{Correlation}
 use Rattle.lk_rise.proofs.ItemLemmas.{same_from_equal, same_item}
 use Rattle.lk_rise.proofs.ListLemmas.{head_or_tail, head_there, none_there, tail_there}
@@ -64,6 +65,14 @@ module _ (h : Correlation → ℕ) (entries : List (Correlation × List ℕ)) (n
   number_at e there =
       let at : slice_get entries there.0 ≡ Some e = slice_get_read entries _ there.0 e refl there.1 (sym there.2) in
       (there.0, (groups.each (h e.0) there.0).1 (slice_get-map (λ (d : Correlation × List ℕ). h d.0) entries there.0 ∙ ap (option_map (λ (d : Correlation × List ℕ). h d.0)) at), at)
+
+-- where no item of a function's numbers is a child's, no item of the function is
+pub no_child_among : (entries : List (Correlation × List ℕ)) (numbers : List (List ℕ)) (f : ℕ) → AreGroups (functions_of entries) numbers →
+    ((k : ℕ) → Contains (group_at numbers f) k → (item : Correlation) → item_at entries k ≡ Some item → item.child ≡ false) → HasNoChild entries f
+no_child_among entries numbers f groups each item there of =
+    let entry = entry_there entries item there in
+    let number = number_at (λ (i : Correlation). i.function) entries numbers groups (item, entry.0) entry.1 in
+    each number.0 (subst (λ g. Contains (group_at numbers g) number.0) of number.1) item (ap (option_map (λ (e : Correlation × List ℕ). e.0)) number.2)
 
 -- the functions of items in range
 pub functions_within : (facts : FactTable) (n : ℕ) (entries : List (Correlation × List ℕ)) → AreInRange facts n entries → All (λ f. f < length facts.program.functions) (functions_of entries)

@@ -1,5 +1,5 @@
 -- What points access and what items they have.
-use Rattle.std.proofs.Common.{◌≡◌, ◌<◌, ◌||◌, ◌↔◌, ◌+◌, ◌++◌, ℕ, Bool, true, false, List, [], ◌∷◌, length, map, take, get_or, Contains, Some, Option, None, refl, sym, ap, ◌∙◌, subst, inl, inr, arith}
+use Rattle.std.proofs.Common.{◌≡◌, ◌<◌, ◌||◌, ◌↔◌, ◌+◌, ◌++◌, ℕ, Bool, true, false, List, [], ◌∷◌, length, take, get_or, All, Contains, Some, Option, None, refl, sym, ap, ◌∙◌, subst, inl, inr, arith}
 use Rattle.std.specs.List.{flat_map, slice_get}
 use Rattle.std.specs.Option.{IfSome, option_and_then, option_map, option_map_or}
 use Rattle.std.proofs.lemmas.List.{map-append, take_more}
@@ -18,7 +18,7 @@ use Rattle.lk_facts.specs.Items.PointItem.{accessed, risen}
 use Rattle.lk_facts.specs.Items.Rises.{run, start}
 use Rattle.lk_facts.specs.Labels.{LabelTable, AreLabelsInRange, target_at}
 use Rattle.lk_facts.specs.InRange.{IsInRange, IsPointInRange, sizes_of}
-use Rattle.lk_facts.specs.Origins.{OriginTable, AreOriginsInRange, flow_of}
+use Rattle.lk_facts.specs.Origins.{AreOriginsInRange, flow_of}
 use Rattle.lk_facts.specs.Program.{live_at, function_at, effect_at}
 use Rattle.lk_facts.specs.declared.effect.Effect.{Effect}
 use Rattle.lk_facts.specs.declared.effect.Effect.TheVariants as effect
@@ -33,11 +33,11 @@ use Rattle.lk_links.specs.Links.{IsLink, AreLinksAt}
 use Rattle.lk_links.specs.Only.{IsTheOne, over_list}
 use Rattle.lk_links.specs.declared.link.Link.{Link}
 use Rattle.lk_rise.proofs.DoingLemmas.{accessing, accessed_by}
-use Rattle.lk_rise.proofs.ListLemmas.{head_there, in_flat_map, in_map, none_there, one_there}
+use Rattle.lk_rise.proofs.ListLemmas.{head_there, in_flat_map, in_map, one_there}
 use Rattle.lk_rise.proofs.EntryLemmas.{entry_at, entry_there, number_at, there_found}
 use Rattle.lk_rise.specs.Correlations.{AreInRange, IsEntryInRange, has_of, item_of}
 use Rattle.lk_rise.specs.Groups.{AreGroups, group_at}
-use Rattle.lk_rise.specs.PointItems.{IsItemInRange, IsItemOf, functions_of, items_by, items_from, items_through, own_access_of, point_functions, risen_item_of}
+use Rattle.lk_rise.specs.PointItems.{IsItemInRange, IsItemOf, StartsNothing, functions_of, items_by, items_from, items_through, own_access_of, point_functions, risen_item_of}
 use Rattle.lk_rise.specs.declared.point_items.ItemAt.{ItemAt}
 use Rattle.lk_rise.specs.declared.correlations.Correlation.{Correlation}
 use Rattle.lk_sets.specs.Rows.{IsSquare}
@@ -268,3 +268,19 @@ functions_more program p f of =
           ∙ ap (λ g. point_functions (take p program.points) ++ g ∷ []) (ap (λ (x : Point). x.function) found.3 ∙ is)
       | inr past ↦ absurd (let none : None ≡ Some f = sym (ap (option_map (λ (x : Point). x.function)) past.1) ∙ of in cc)
     ]
+
+-- a point whose links start nothing has no item of a started thread
+module _ (facts : FactTable) (entries : List (Correlation × List ℕ)) (p : ℕ) (links : List Link) (are : AreLinksAt (basis_of facts) p links) (none : All (StartsNothing entries) links) where
+  no_child_at : (f x a : ℕ) (source : Source) (child : Bool) → PointItem (basis_of facts) (has_of entries) p f source child x a → child ≡ false
+  no_child_at f x a source child (accessed accesses) = refl
+  no_child_at f x a source child (risen {g} {s} {way = way} {child = below} rises there over) =
+      let found = are.all f g way below child rises in
+      let link = found.0 in
+      let by = found.2 in
+      let starts = All-contains (StartsNothing entries) links link none found.1 in
+      let before : below ≡ false = starts.below (item_of g below s a) there (sym by.into) in
+      sym by.becomes ∙ ap (λ b. b || link.starts) before ∙ starts.runs
+
+  pub no_child : (f : ℕ) (i : ItemAt) → i.point ≡ p → IsItemOf (basis_of facts) (has_of entries) f i → i.child ≡ false
+  no_child f i at is =
+      no_child_at f i.subject i.access i.source i.child (subst (λ q. PointItem (basis_of facts) (has_of entries) q f i.source i.child i.subject i.access) at is)

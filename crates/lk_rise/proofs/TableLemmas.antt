@@ -6,11 +6,12 @@ use Rattle.std.specs.Map.{values_of}
 use Rattle.std.specs.Option.{option_map, option_map_or, unwrap_or}
 use Rattle.std.proofs.lemmas.List.Elements.{All-cons, All-head, All-tail}
 use Rattle.std.proofs.lemmas.List.Sums.{sum_by-cons}
+use Rattle.std.proofs.lemmas.Map.Entries.{place_from_lookup}
 use Rattle.std.proofs.lemmas.Option.{slice_get_cases}
 use Rattle.std.proofs.lemmas.Bool.{and_from, and_parts, and_right, false≢true}
 use Rattle.indexmap.specs.IndexMap.{insert_entry}
 use Rattle.lk_rise.specs.declared.correlations.Correlation.{Correlation}
-use Rattle.lk_rise.specs.Correlations.{is_same, set_of, has_item}
+use Rattle.lk_rise.specs.Correlations.{is_same, set_of, has_item, AreCorrelations}
 use Rattle.lk_rise.specs.Tables.{IsLeft, IsWithin, item_at, weight}
 use Rattle.lk_rise.proofs.ItemLemmas.{same_item}
 use Rattle.lk_links.proofs.SetLemmas.{all_pass, one_fails, shorter}
@@ -93,24 +94,7 @@ module _ (item : Correlation) (left : List ℕ) where
           let sums : sum_by length (values_of (e ∷ insert_entry is_same es item left)) + length old ≡ sum_by length (values_of (e ∷ es)) + length left = omega (arith, rest found, more, here) in
           sums
 
-  -- and no item is added
-  pub length-insert : (entries : List (Correlation × List ℕ)) → has_item entries item ≡ true → length (insert_entry is_same entries item left) ≡ length entries
-  length-insert [] there = absurd (false≢true there)
-  length-insert (e ∷ es) there = by_test (is_same item e.0) there (length-insert es)
-    where
-      by_test : (b : Bool) → is_some (cond b (Some e.1) (set_of es item)) ≡ true → (has_item es item ≡ true → length (insert_entry is_same es item left) ≡ length es) →
-          length (cond b ((e.0, left) ∷ es) (e ∷ insert_entry is_same es item left)) ≡ suc (length es)
-      by_test true found rest = refl
-      by_test false found rest = ap suc (rest found)
-
--- an entry, from its item and its set
-pub entry_known : (o : Option (Correlation × List ℕ)) (item : Correlation) (set : List ℕ) → option_map (λ e. e.0) o ≡ Some item → option_map (λ e. e.1) o ≡ Some set → o ≡ Some (item, set)
-entry_known None item set first second = absurd (false≢true (ap is_some first))
-entry_known (Some e) item set first second =
-    let here : e.0 ≡ item = ap (λ o. unwrap_or o item) first in
-    let there : e.1 ≡ set = ap (λ o. unwrap_or o set) second in
-    (λ i. Some (here i, there i))
-
+-- the item of a known entry
 pub item_at_known : (entries : List (Correlation × List ℕ)) (k : ℕ) (item : Correlation) (set : List ℕ) → slice_get entries k ≡ Some (item, set) → item_at entries k ≡ Some item
 item_at_known entries k item set is = ap (option_map (λ e. e.0)) is
 
@@ -129,3 +113,27 @@ item_there entries k within =
       | inl found ↦ (found.0.0, ap (option_map (λ (e : Correlation × List ℕ). e.0)) found.2)
       | inr past ↦ absurd (omega (arith, past.0))
     ]
+
+-- an item that is there has a set
+pub item_known : (entries : List (Correlation × List ℕ)) (item : Correlation) → has_item entries item ≡ true → (set : List ℕ) × (set_of entries item ≡ Some set)
+item_known entries item there = known (set_of entries item) refl there
+  where
+    known : (o : Option (List ℕ)) → set_of entries item ≡ o → is_some o ≡ true → (set : List ℕ) × (set_of entries item ≡ Some set)
+    known None is some = absurd (false≢true some)
+    known (Some set) is some = (set, is)
+
+-- and a place
+pub place_of_item : (entries : List (Correlation × List ℕ)) (item : Correlation) (set : List ℕ) → set_of entries item ≡ Some set → (k : ℕ) × (slice_get entries k ≡ Some (item, set))
+place_of_item entries item set is =
+    let found = place_from_lookup (is_same item) entries set is in
+    (found.0, subst (λ other. slice_get entries found.0 ≡ Some (other, set)) (sym (same_item item found.1 found.3)) found.2)
+
+-- what stands at a place is there
+pub at_has_item : (entries : List (Correlation × List ℕ)) (i : ℕ) (item : Correlation) → AreCorrelations entries → item_at entries i ≡ Some item → has_item entries item ≡ true
+at_has_item entries i item each at = known (slice_get entries i) refl at
+  where
+    known : (o : Option (Correlation × List ℕ)) → slice_get entries i ≡ o → option_map (λ (e : Correlation × List ℕ). e.0) o ≡ Some item → has_item entries item ≡ true
+    known None is first = absurd (false≢true (ap is_some first))
+    known (Some e) is first =
+        let one : e.0 ≡ item = ap (λ o. unwrap_or o item) first in
+        subst (λ z. has_item entries z ≡ true) one (ap is_some (each.each i e.0 e.1 is))

@@ -1,16 +1,17 @@
 -- Steps of the work on a table, one behind another.
-use Rattle.std.proofs.Common.{◌≡◌, ◌<◌, ◌≤◌, ◌+◌, ◌||◌, ℕ, Bool, true, false, cond, List, All, Option, Some, None, is_some, length, refl, sym, ap, ◌∙◌, subst, inl, inr, arith, below_more}
+use Rattle.std.proofs.Common.{◌≡◌, ◌<◌, ◌+◌, ◌++◌, ◌⊎◌, ℕ, Bool, true, false, cond, List, [], ◌∷◌, All, Contains, Option, Some, None, is_some, length, length-append, refl, sym, ap, ◌∙◌, subst, ⊎_elim, inl, inr, arith, below_more}
 use Rattle.std.specs.Option.{option_map_or}
-use Rattle.std.proofs.lemmas.Bool.{and_from, and_parts, both_ways, false≢true, or_cases, or_parts}
+use Rattle.std.proofs.lemmas.Bool.{and_from, and_parts, both_ways, false≢true}
+use Rattle.std.proofs.lemmas.List.Elements.{Contains-append_left, Contains-push, Contains-push_cases}
 use Rattle.indexmap.specs.IndexMap.{insert_entry}
 use Rattle.lk_facts.specs.Items.{LockTest}
 use Rattle.lk_rise.specs.declared.correlations.Correlation.{Correlation}
 use Rattle.lk_rise.specs.Correlations.{is_same, set_of, has_item, has_lock, IsEntryInRange}
 use Rattle.lk_rise.specs.Rising.{subjects_below}
-use Rattle.lk_rise.specs.Tables.{Setting, Fits, Offered, Puts, HasRisen, IsAllowed, IsSound, Grows, Works, lock_in, item_at, weight}
+use Rattle.lk_rise.specs.Tables.{Setting, Fits, Offered, Puts, HasRisen, HasWithin, IsAllowed, IsSound, Grows, Steps, Works, lock_in, item_at, weight}
 use Rattle.lk_links.proofs.SetLemmas.{All-from_has_id, All-has_id}
 use Rattle.lk_rise.proofs.ItemLemmas.{same_item, same_itself}
-use Rattle.lk_rise.proofs.TableLemmas.{item_at-insert, All-insert, weight-insert, length-insert}
+use Rattle.lk_rise.proofs.TableLemmas.{item_at-insert, All-insert, weight-insert}
 use Rattle.lk_sets.specs.Ids.{has_id}
 
 module _ (s : Setting) where
@@ -31,69 +32,71 @@ module _ (s : Setting) where
   }
 
   -- no step
-  pub works_not : (Present Done : List (Correlation × List ℕ) → Type 0) (entries : List (Correlation × List ℕ)) → Present entries → Done entries → Works s Present Done entries entries false
-  works_not Present Done entries present done = record {
+  pub steps_not : (Present : List (Correlation × List ℕ) → Type 0) (entries : List (Correlation × List ℕ)) (was : List Correlation) → Present entries → Steps s Present entries entries was was
+  steps_not Present entries was present = record {
     grows = grows_not entries;
-    long = λ _. refl;
-    falls = λ yes. absurd (both_ways false refl yes);
-    same = λ _. refl;
+    kept = λ item set at. inl at;
+    more = λ item there. there;
+    there = λ all. all;
+    same = λ _ item there. there;
+    falls = λ _. omega arith;
     present = present;
-    done = λ _. done;
   }
-
-  not_heavier : (Present Done : List (Correlation × List ℕ) → Type 0) (old new : List (Correlation × List ℕ)) (changed : Bool) → Works s Present Done old new changed → Present old → weight new ≤ weight old
-  not_heavier Present Done old new true step present = omega (arith, step.falls refl present)
-  not_heavier Present Done old new false step present = let e = ap weight (step.same refl) in omega arith
 
   -- one step more
-  pub works_more : (Present Step More Done Now All : List (Correlation × List ℕ) → Type 0) (old mid new : List (Correlation × List ℕ)) (b c : Bool) →
+  pub steps_more : (Present Step All : List (Correlation × List ℕ) → Type 0) (old mid new : List (Correlation × List ℕ)) (was between again : List Correlation) →
       ((older newer : List (Correlation × List ℕ)) → Grows s older newer → Present older → Present newer) →
       ((older newer : List (Correlation × List ℕ)) → Grows s older newer → Step older → Step newer) →
-      ((entries : List (Correlation × List ℕ)) → More entries → Present entries × Step entries) →
-      ((entries : List (Correlation × List ℕ)) → Present entries → Step entries → More entries) →
-      (Done new → Now new → All new) →
-      Works s Present Done old mid b → Works s Step Now mid new c → Works s More All old new (b || c)
-  works_more Present Step More Done Now All old mid new b c stays step_stays parts both done first second = record {
+      ((entries : List (Correlation × List ℕ)) → All entries → Present entries × Step entries) →
+      (Present new → Step new → All new) →
+      Steps s Present old mid was between → Steps s Step mid new between again → Steps s All old new was again
+  steps_more Present Step All old mid new was between again stays step_stays parts both first second = record {
     grows = grows_more old mid new first.grows second.grows;
-    long = λ present. let apart = parts old present in second.long (step_stays old mid first.grows apart.1) ∙ first.long apart.0;
-    falls = λ changed present.
+    kept = λ item set at. ⊎_elim (λ same. second.kept item set same) (λ there. inr (second.more item there)) (first.kept item set at);
+    more = λ item there. second.more item (first.more item there);
+    there = λ all. second.there (first.there all);
+    same = λ present item there.
         let apart = parts old present in
-        let later = step_stays old mid first.grows apart.1 in
-        elim (or_cases b c changed) [
-          | inl before ↦ omega (arith, first.falls before apart.0, not_heavier Step Now mid new c second later)
-          | inr now ↦ omega (arith, second.falls now later, not_heavier Present Done old mid b first apart.0)
-        ];
-    same = λ none. let apart = or_parts b c none in second.same apart.1 ∙ first.same apart.0;
-    present = both new (stays mid new second.grows first.present) second.present;
-    done = λ none. let apart = or_parts b c none in done (subst Done (sym (second.same apart.1)) (first.done apart.0)) (second.done apart.1);
+        first.same apart.0 item (second.same (step_stays old mid first.grows apart.1) item there);
+    falls = λ present.
+        let apart = parts old present in
+        omega (arith, first.falls apart.0, second.falls (step_stays old mid first.grows apart.1));
+    present = both (stays mid new second.grows first.present) second.present;
   }
 
-  -- a step, said in other words
-  pub works_as : (Present Other Done Now : List (Correlation × List ℕ) → Type 0) (old new : List (Correlation × List ℕ)) (changed : Bool) →
-      (Other old → Present old) → (Present new → Other new) → (changed ≡ false → Done new → Now new) → Works s Present Done old new changed → Works s Other Now old new changed
-  works_as Present Other Done Now old new changed back there done step = record {
-    grows = step.grows;
-    long = λ present. step.long (back present);
-    falls = λ yes present. step.falls yes (back present);
-    same = step.same;
-    present = there step.present;
-    done = λ none. done none (step.done none);
+  -- steps, said in other words
+  pub steps_as : (Present Other : List (Correlation × List ℕ) → Type 0) (old new : List (Correlation × List ℕ)) (was again : List Correlation) →
+      (Other old → Present old) → (Present new → Other new) → Steps s Present old new was again → Steps s Other old new was again
+  steps_as Present Other old new was again back there steps = record {
+    grows = steps.grows;
+    kept = steps.kept;
+    more = steps.more;
+    there = steps.there;
+    same = λ present. steps.same (back present);
+    falls = λ present. steps.falls (back present);
+    present = there steps.present;
   }
 
   -- one number more
-  pub works_below : (Step Now : ℕ → List (Correlation × List ℕ) → Type 0) (i : ℕ) (old mid new : List (Correlation × List ℕ)) (b c : Bool) →
+  pub steps_below : (Step : ℕ → List (Correlation × List ℕ) → Type 0) (i : ℕ) (old mid new : List (Correlation × List ℕ)) (was between again : List Correlation) →
       ((k : ℕ) (older newer : List (Correlation × List ℕ)) → Grows s older newer → Step k older → Step k newer) →
-      Works s (λ entries. (k : ℕ) → k < i → Step k entries) (λ entries. (k : ℕ) → k < i → Now k entries) old mid b → Works s (Step i) (Now i) mid new c →
-      Works s (λ entries. (k : ℕ) → k < i + 1 → Step k entries) (λ entries. (k : ℕ) → k < i + 1 → Now k entries) old new (b || c)
-  works_below Step Now i old mid new b c stays first second =
-      works_more (λ entries. (k : ℕ) → k < i → Step k entries) (Step i) (λ entries. (k : ℕ) → k < i + 1 → Step k entries)
-      (λ entries. (k : ℕ) → k < i → Now k entries) (Now i) (λ entries. (k : ℕ) → k < i + 1 → Now k entries) old mid new b c
+      Steps s (λ entries. (k : ℕ) → k < i → Step k entries) old mid was between → Steps s (Step i) mid new between again → Steps s (λ entries. (k : ℕ) → k < i + 1 → Step k entries) old new was again
+  steps_below Step i old mid new was between again stays =
+      steps_more (λ entries. (k : ℕ) → k < i → Step k entries) (Step i) (λ entries. (k : ℕ) → k < i + 1 → Step k entries) old mid new was between again
       (λ older newer grows present k below. stays k older newer grows (present k below))
       (λ older newer grows present. stays i older newer grows present)
       (λ entries all. (λ k below. all k (omega arith), all i (omega arith)))
-      (λ entries before here. below_more (λ k. Step k entries) i before here)
-      (λ before here. below_more (λ k. Now k new) i before here)
-      first second
+      (λ before here. below_more (λ k. Step k new) i before here)
+
+  pub works_below : (Step Now : ℕ → List (Correlation × List ℕ) → Type 0) (i : ℕ) (old mid new : List (Correlation × List ℕ)) (was between again : List Correlation) →
+      ((k : ℕ) (older newer : List (Correlation × List ℕ)) → Grows s older newer → Step k older → Step k newer) →
+      ((k : ℕ) (older newer : List (Correlation × List ℕ)) → Grows s older newer → Step k older → Now k older → Now k newer) →
+      Works s (λ entries. (k : ℕ) → k < i → Step k entries) (λ entries. (k : ℕ) → k < i → Now k entries) old mid was between → Works s (Step i) (Now i) mid new between again →
+      Works s (λ entries. (k : ℕ) → k < i + 1 → Step k entries) (λ entries. (k : ℕ) → k < i + 1 → Now k entries) old new was again
+  works_below Step Now i old mid new was between again stays now_stays first second = record {
+    steps = steps_below Step i old mid new was between again stays first.steps second.steps;
+    done = below_more (λ k. Now k new) i (λ k below. now_stays k mid new second.steps.grows (first.steps.present k below) (first.done k below)) second.done;
+  }
 
   -- a table in which what is left was put
   module _ (old new : List (Correlation × List ℕ)) (item : Correlation) (set : List ℕ) (puts : Puts old new item set) where
@@ -165,31 +168,88 @@ module _ (s : Setting) where
             let same : weight new ≡ weight (insert_entry is_same old item puts.left) = ap weight puts.is in
             omega (arith, sums, same, puts.is_left.lighter had is)
 
-  -- an offer is a step
-  pub offered_works : (old new : List (Correlation × List ℕ)) (item : Correlation) (set : List ℕ) (changed : Bool) → Fits s item set → Offered old new item set changed →
-      Works s (λ entries. has_item entries item ≡ true) (λ entries. (y : ℕ) → has_lock entries item y ≡ true → has_id set y ≡ true) old new changed
-  offered_works old new item set true fits offered =
-      let puts = offered.puts refl in
-      record {
-        grows = put_grows old new item set puts fits;
-        long = λ present. ap length puts.is ∙ length-insert item puts.left old present;
-        falls = λ _ present. put_lighter old new item set puts present;
-        same = offered.same;
-        present = ap is_some (puts.found item ∙ ap (λ b. cond b (Some puts.left) (set_of old item)) (same_itself item));
-        done = λ none. absurd (both_ways true none refl);
-      }
-  offered_works old new item set false fits offered =
-      let within = offered.within refl in
-      subst (λ entries. Works s (λ e. has_item e item ≡ true) (λ e. (y : ℕ) → has_lock e item y ≡ true → has_id set y ≡ true) old entries false) (sym (offered.same refl))
-      (works_not (λ e. has_item e item ≡ true) (λ e. (y : ℕ) → has_lock e item y ≡ true → has_id set y ≡ true) old (ap is_some within.there)
-      (λ y has. within.within y (sym (ap (λ o. option_map_or (λ had. has_id had y) o false) within.there) ∙ has)))
-
-  -- once it is offered the item has only locks of the set
-  pub offered_within : (old new : List (Correlation × List ℕ)) (item : Correlation) (set : List ℕ) (changed : Bool) → Offered old new item set changed → (y : ℕ) → has_lock new item y ≡ true → has_id set y ≡ true
-  offered_within old new item set true offered y has =
-      let puts = offered.puts refl in
+  -- once what is left was put the item has only locks of the set
+  put_within : (old new : List (Correlation × List ℕ)) (item : Correlation) (set : List ℕ) → Puts old new item set → HasWithin item set new
+  put_within old new item set puts y has =
       let here : set_of new item ≡ Some puts.left = puts.found item ∙ ap (λ b. cond b (Some puts.left) (set_of old item)) (same_itself item) in
       (left_among old new item set puts y (sym (ap (λ o. option_map_or (λ had. has_id had y) o false) here) ∙ has)).0
-  offered_within old new item set false offered y has =
-      let within = offered.within refl in
-      within.within y (sym (ap (λ o. option_map_or (λ had. has_id had y) o false) (ap (λ e. set_of e item) (offered.same refl) ∙ within.there)) ∙ has)
+
+  put_there : (old new : List (Correlation × List ℕ)) (item : Correlation) (set : List ℕ) → Puts old new item set → has_item new item ≡ true
+  put_there old new item set puts = ap is_some (puts.found item ∙ ap (λ b. cond b (Some puts.left) (set_of old item)) (same_itself item))
+
+  -- an item that was not there was put, which is none that is to rise again
+  put_new : (old new : List (Correlation × List ℕ)) (was : List Correlation) (item : Correlation) (set : List ℕ) → Fits s item set → Puts old new item set → has_item old item ≡ false →
+      Works s (λ entries. has_item entries item ≡ true) (HasWithin item set) old new was was
+  put_new old new was item set fits puts none =
+      let grows = put_grows old new item set puts fits in
+      record {
+        steps = record {
+          grows = grows;
+          kept = λ other its.
+              by_item old new item set puts other (λ o. set_of old other ≡ Some its → (o ≡ Some its) ⊎ Contains was other)
+              (λ same at. absurd (both_ways (has_item old item) none (subst (λ z. has_item old z ≡ true) (sym same) (ap is_some at))))
+              (λ at. inl at);
+          more = λ other there. there;
+          there = λ all other there. grows.kept other (all other there);
+          same = λ present. absurd (both_ways (has_item old item) none present);
+          falls = λ present. absurd (both_ways (has_item old item) none present);
+          present = put_there old new item set puts;
+        };
+        done = put_within old new item set puts;
+      }
+
+  -- one that was there has fewer locks, and is to rise again
+  put_fewer_again : (old new : List (Correlation × List ℕ)) (was : List Correlation) (item : Correlation) (set : List ℕ) → Fits s item set → Puts old new item set → has_item old item ≡ true →
+      Works s (λ entries. has_item entries item ≡ true) (HasWithin item set) old new was (was ++ item ∷ [])
+  put_fewer_again old new was item set fits puts was_there =
+      let grows = put_grows old new item set puts fits in
+      record {
+        steps = record {
+          grows = grows;
+          kept = λ other its.
+              by_item old new item set puts other (λ o. set_of old other ≡ Some its → (o ≡ Some its) ⊎ Contains (was ++ item ∷ []) other)
+              (λ same at. inr (subst (λ z. Contains (was ++ item ∷ []) z) same (Contains-push was item)))
+              (λ at. inl at);
+          more = λ other there. Contains-append_left was (item ∷ []) other there;
+          there = λ all other there.
+              ⊎_elim (λ before. grows.kept other (all other before)) (λ same. subst (λ z. has_item new z ≡ true) same (put_there old new item set puts)) (Contains-push_cases was item other there);
+          same = λ _ other.
+              by_item old new item set puts other (λ o. is_some o ≡ true → has_item old other ≡ true)
+              (λ same _. subst (λ z. has_item old z ≡ true) same was_there)
+              (λ there. there);
+          falls = λ _.
+              let long : length (was ++ item ∷ []) ≡ length was + 1 = length-append was (item ∷ []) in
+              omega (arith, put_lighter old new item set puts was_there, long);
+          present = put_there old new item set puts;
+        };
+        done = put_within old new item set puts;
+      }
+
+  -- an offer is a step
+  pub offered_none : (old new : List (Correlation × List ℕ)) (was : List Correlation) (item : Correlation) (set : List ℕ) → Fits s item set → Offered old new item set false →
+      Works s (λ entries. has_item entries item ≡ true) (HasWithin item set) old new was was
+  offered_none old new was item set fits offered =
+      ⊎_elim
+      (λ stays.
+      let within = stays.0 in
+      subst (λ entries. Works s (λ e. has_item e item ≡ true) (HasWithin item set) old entries was was) (sym stays.1)
+      (record {
+        steps = steps_not (λ e. has_item e item ≡ true) old was (ap is_some within.there);
+        done = λ y has. within.within y (sym (ap (λ o. option_map_or (λ had. has_id had y) o false) within.there) ∙ has);
+      }))
+      (λ put. put_new old new was item set fits put.0 (sym put.1))
+      offered
+
+  pub offered_fewer : (old new : List (Correlation × List ℕ)) (was : List Correlation) (item : Correlation) (set : List ℕ) → Fits s item set → Offered old new item set true →
+      Works s (λ entries. has_item entries item ≡ true) (HasWithin item set) old new was (was ++ item ∷ [])
+  offered_fewer old new was item set fits offered =
+      ⊎_elim
+      (λ stays. absurd (false≢true (sym stays.2)))
+      (λ put. put_fewer_again old new was item set fits put.0 (sym put.1))
+      offered
+
+  -- whatever it changes, the item is there with only locks of the set
+  pub offered_grows : (old new : List (Correlation × List ℕ)) (item : Correlation) (set : List ℕ) (fewer : Bool) → Fits s item set → Offered old new item set fewer →
+      Grows s old new × (has_item new item ≡ true) × HasWithin item set new
+  offered_grows old new item set true fits offered = let works = offered_fewer old new [] item set fits offered in (works.steps.grows, works.steps.present, works.done)
+  offered_grows old new item set false fits offered = let works = offered_none old new [] item set fits offered in (works.steps.grows, works.steps.present, works.done)

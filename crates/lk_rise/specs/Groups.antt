@@ -1,5 +1,5 @@
 -- The places of a list by what stands there.
-use Rattle.std.specs.Prelude.{◌≡◌, ◌<◌, ◌↔◌, ℕ, List, [], map, Contains, Some, length, slice_get, slice_index_or, Vec}
+use Rattle.std.specs.Prelude.{◌≡◌, ◌<◌, ◌↔◌, ℕ, List, [], map, Contains, Some, slice_get, slice_index_or, Vec}
 use Rattle.std.specs.declared.alloc.Global.{Global}
 
 -- the numbers of lists

@@ -1,5 +1,5 @@
 -- The items of points, with their locks, as they are offered.
-use Rattle.std.specs.Prelude.{◌≡◌, ◌<◌, ◌+◌, ◌||◌, ℕ, false, List, [], length, map}
+use Rattle.std.specs.Prelude.{◌≡◌, ◌<◌, ◌+◌, ◌||◌, ℕ, true, false, List, [], length, map}
 use Rattle.std.specs.List.{flat_map}
 use Rattle.std.specs.Option.{option_map_or}
 use Rattle.lk_facts.specs.Basis.{Basis}
@@ -14,7 +14,7 @@ use Rattle.lk_facts.specs.declared.way.Way.{Way}
 use Rattle.lk_links.specs.Links.{AreLinks}
 use Rattle.lk_links.specs.Only.{over_list}
 use Rattle.lk_links.specs.declared.link.Link.{Link}
-use Rattle.lk_rise.specs.Correlations.{AreInRange}
+use Rattle.lk_rise.specs.Correlations.{AreInRange, has_item}
 use Rattle.lk_rise.specs.Groups.{AreGroups, group_at}
 use Rattle.lk_rise.specs.Tables.{item_at}
 use Rattle.lk_rise.specs.declared.correlations.Correlation.{Correlation}
@@ -51,6 +51,15 @@ pub record AreBelow (facts : FactTable) (entries : List (Correlation × List ℕ
   pub in_range : AreInRange facts (length facts.labels.entries) entries
   pub groups : AreGroups (functions_of entries) numbers
   pub count : length numbers ≡ length facts.program.functions
+
+-- no item of the function is of a started thread
+abbrev pub HasNoChild : List (Correlation × List ℕ) → ℕ → Type 0
+HasNoChild entries f = (item : Correlation) → has_item entries item ≡ true → item.function ≡ f → item.child ≡ false
+
+-- the link starts no thread, and so does nothing in the function that it goes into
+pub record StartsNothing (entries : List (Correlation × List ℕ)) (link : Link) : Type 0 where
+  pub runs : link.starts ≡ false
+  pub below : HasNoChild entries link.below
 
 -- The parts of what offers the items of points: lock sets, links and items are those of the program; the points of each
 -- function are given, and the numbers of its items.

@@ -1,5 +1,5 @@
 -- How a table of items grows and how its locks become fewer. Only the private calls of this crate speak of it.
-use Rattle.std.specs.Prelude.{◌≡◌, ℕ, ◌<◌, ◌&&◌, ◌||◌, Bool, true, false, if◌then◌else◌, List, Option, Some, Contains, length, slice_get, sum_by}
+use Rattle.std.specs.Prelude.{◌≡◌, ℕ, ◌<◌, ◌≤◌, ◌+◌, ◌⊎◌, ◌&&◌, ◌||◌, Bool, true, false, if◌then◌else◌, List, Option, Some, Contains, length, slice_get, sum_by}
 use Rattle.std.specs.List.Sorted.{IsStrictlyIncreasing}
 use Rattle.std.specs.Map.{values_of}
 use Rattle.std.specs.Option.{option_map, option_map_or}
@@ -40,10 +40,14 @@ pub record Puts (old new : List (Correlation × List ℕ)) (item : Correlation) 
   pub is : new ≡ insert_entry is_same old item left
   pub found : (other : Correlation) → set_of new other ≡ (if is_same item other then Some left else set_of old other)
 
-pub record Offered (old new : List (Correlation × List ℕ)) (item : Correlation) (set : List ℕ) (changed : Bool) : Type 0 where
-  pub same : changed ≡ false → new ≡ old
-  pub within : changed ≡ false → IsWithin old item set
-  pub puts : changed ≡ true → Puts old new item set
+-- the item is there with locks of the set alone, or what is left of its locks is put; whether it was there and has fewer is told
+abbrev pub Offered : (old new : List (Correlation × List ℕ)) → Correlation → List ℕ → (fewer : Bool) → Type 0
+Offered old new item set fewer =
+    (IsWithin old item set × (new ≡ old) × (fewer ≡ false)) ⊎ (Puts old new item set × (fewer ≡ has_item old item))
+
+-- the item has only locks of the set
+abbrev pub HasWithin : Correlation → List ℕ → List (Correlation × List ℕ) → Type 0
+HasWithin item set entries = (y : ℕ) → has_lock entries item y ≡ true → has_id set y ≡ true
 
 -- how many locks all items have together
 unfoldable pub weight : List (Correlation × List ℕ) → ℕ
@@ -102,15 +106,21 @@ module _ (s : Setting) where
     pub fewer : (item : Correlation) (y : ℕ) → has_item old item ≡ true → has_lock new item y ≡ true → has_lock old item y ≡ true
     pub sound : IsSound old → IsSound new
 
-  -- A step of the work on a table. Its items are there then; where they all were, what has changed is that there are fewer
-  -- locks; and where nothing has changed its locks are done.
-  pub record Works (Present Done : List (Correlation × List ℕ) → Type 0) (old new : List (Correlation × List ℕ)) (changed : Bool) : Type 0 where
+  -- Steps of the work on a table. Items whose locks become fewer are put to those that are to rise again. Where those that
+  -- it offers were all there, no item is new, and there is less to do by as much as is put to those.
+  pub record Steps (Present : List (Correlation × List ℕ) → Type 0) (old new : List (Correlation × List ℕ)) (was again : List Correlation) : Type 0 where
     pub grows : Grows old new
-    pub long : Present old → length new ≡ length old
-    pub falls : changed ≡ true → Present old → weight new < weight old
-    pub same : changed ≡ false → new ≡ old
+    pub kept : (item : Correlation) (set : List ℕ) → set_of old item ≡ Some set → (set_of new item ≡ Some set) ⊎ Contains again item
+    pub more : (item : Correlation) → Contains was item → Contains again item
+    pub there : ((item : Correlation) → Contains was item → has_item old item ≡ true) → (item : Correlation) → Contains again item → has_item new item ≡ true
+    pub same : Present old → (item : Correlation) → has_item new item ≡ true → has_item old item ≡ true
+    pub falls : Present old → weight new + length again ≤ weight old + length was
     pub present : Present new
-    pub done : changed ≡ false → Done new
+
+  -- steps after which something is done
+  pub record Works (Present Done : List (Correlation × List ℕ) → Type 0) (old new : List (Correlation × List ℕ)) (was again : List Correlation) : Type 0 where
+    pub steps : Steps Present old new was again
+    pub done : Done new
 
   -- an item that has risen, with locks among which are those of each table that the rules allow
   pub record Fits (item : Correlation) (set : List ℕ) : Type 0 where
@@ -145,22 +155,17 @@ module _ (s : Setting) where
   AreMet link item locks entries =
       (x y : ℕ) → IsCarried link item x → has_lock entries (above_of link item x) y ≡ true → HasLockAbove link item.child locks y
 
-  -- the item at the place has risen by the link
-  abbrev pub HasPassed : Link → ℕ → List (Correlation × List ℕ) → Type 0
-  HasPassed link k entries = (item : Correlation) × (item_at entries k ≡ Some item) × (item.function ≡ link.below → AreAbove link item entries)
+  -- the item has risen by each link into its function, these given by the functions that they go into
+  abbrev pub HasPassed : List (List Link) → Correlation → List (Correlation × List ℕ) → Type 0
+  HasPassed into item entries = (link : Link) → Contains (links_into into item.function) link → AreAbove link item entries
 
-  -- and the items above have only the locks with which it rises
-  abbrev pub HasMet : Link → ℕ → List (Correlation × List ℕ) → Type 0
-  HasMet link k entries =
-      (item : Correlation) (set : List ℕ) → slice_get entries k ≡ Some (item, set) → item.function ≡ link.below →
-      (x y : ℕ) → IsCarried link item x → has_lock entries (above_of link item x) y ≡ true → HasLockAbove link item.child set y
+  -- and the items above have only the locks with which it rises, where it has these
+  abbrev pub HasMet : List (List Link) → Correlation → List ℕ → List (Correlation × List ℕ) → Type 0
+  HasMet into item set entries = (link : Link) → Contains (links_into into item.function) link → AreMet link item set entries
 
-  -- the same for each link, these given by the functions that they go into
-  abbrev pub HasPassedAll : List (List Link) → ℕ → List (Correlation × List ℕ) → Type 0
-  HasPassedAll into k entries = (g : ℕ) (link : Link) → Contains (links_into into g) link → HasPassed link k entries
-
-  abbrev pub HasMetAll : List (List Link) → ℕ → List (Correlation × List ℕ) → Type 0
-  HasMetAll into k entries = (g : ℕ) (link : Link) → Contains (links_into into g) link → HasMet link k entries
+  -- so it is with the locks that it has, or it is to rise again
+  abbrev pub IsSettled : List (List Link) → (again : List Correlation) → Correlation → List (Correlation × List ℕ) → Type 0
+  IsSettled into again item entries = ((set : List ℕ) → set_of entries item ≡ Some set → HasMet into item set entries) ⊎ Contains again item
 
   -- the based item at the place of the base is there, with locks of its set alone
   abbrev pub HasBased : ℕ → List (Correlation × List ℕ) → Type 0

@@ -86,12 +86,11 @@ impl Correlations {
         self.entry(i).1.ids()
     }
 
-    /// The set of the locks that are held at the item with this number.
-    pub(crate) fn set(&self, i: usize) -> &IdSet
-        requires { i < length self.now }
-        ensures { option_map (λ entry. entry.1) (slice_get self.now i) ≡ Some result.now }
+    /// The set of the locks that are held at an item, or nothing where it isn't there.
+    pub(crate) fn set(&self, item: Correlation) -> Option<&IdSet>
+        ensures { option_copied result ≡ set_of self.now item }
     {
-        self.entry(i).1
+        self.entries.get(&item)
     }
 
     /// The locks that are held at an item, in ascending order, or nothing where it isn't there.
@@ -126,7 +125,7 @@ impl Correlations {
     }
 
     /// Puts an item with the locks of a set, or takes those away from its locks that aren't in the set where the item
-    /// is there already, and answers whether something changed.
+    /// is there already, and answers whether it was there and has fewer locks now.
     pub(crate) fn offer(
         &mut self,
         alloc: Global,
@@ -138,8 +137,9 @@ impl Correlations {
         match self.left(alloc, item, set)? {
             None => Ok(false),
             Some(left) => {
+                let fewer = self.entries.contains_key(&item);
                 self.entries.insert(item, left)?;
-                Ok(true)
+                Ok(fewer)
             }
         }
     }

@@ -1,18 +1,18 @@
 //! How items rise.
-ghost use Rattle.std.specs.Prelude.{◌≡◌, ◌<◌, ◌||◌, ◌↔◌, ℕ, true, length, slice_get, Some, All, Contains, IfOk, OnOk, IsTrue};
+ghost use Rattle.std.specs.Prelude.{◌≡◌, ◌<◌, ◌||◌, ◌↔◌, ℕ, true, [], length, slice_get, Some, All, Contains, IfOk, OnOk, IsTrue};
 ghost use Rattle.lk_facts.specs.Facts.{basis_of};
 ghost use Rattle.lk_facts.specs.Lists.{Lists};
 ghost use Rattle.lk_facts.specs.Origins.{flow_of};
 ghost use Rattle.lk_facts.specs.declared.way.Way.{Way};
 ghost use Rattle.lk_links.specs.Links.{IsLink};
 ghost use Rattle.lk_links.specs.declared.link.Link.{Link};
-ghost use Rattle.lk_rise.specs.Correlations.{AreInRange};
+ghost use Rattle.lk_rise.specs.Correlations.{AreInRange, has_item, set_of};
 ghost use Rattle.lk_rise.specs.Links.{AreLinksInto};
 ghost use Rattle.lk_rise.specs.Passing.{IsPassage, IsUpBy};
 ghost use Rattle.lk_rise.specs.Rising.{Carries, subjects_below};
-ghost use Rattle.lk_rise.specs.Tables.{Fits, IsSound, Works, Grows, HasBased, above_of, item_at, setting};
-ghost use Rattle.lk_rise.specs.Tables.{AreAbove, AreAboveWithin, IsOffer, AreMet};
-ghost use Rattle.lk_rise.specs.Tables.{HasPassed, HasMet, HasPassedAll, HasMetAll};
+ghost use Rattle.lk_rise.specs.Tables.{Fits, IsSound, Steps, Works, Grows, HasBased, HasWithin, above_of, setting};
+ghost use Rattle.lk_rise.specs.Tables.{AreAbove, AreAboveWithin, IsOffer, AreMet, HasPassed, IsSettled};
+ghost use Rattle.lk_rise.specs.declared.correlations.Correlation.{Correlation};
 
 use crate::above::with_kept;
 use crate::correlations::{Correlation, Correlations};
@@ -123,27 +123,48 @@ impl Rising<'_> {
         Ok(())
     }
 
-    /// What the item with this number is above by a way into its function.
+    /// What an item of the table is above by a way into its function.
     fn passage_of(
         &self,
         alloc: Global,
-        k: usize,
+        item: Correlation,
         way: Way,
         table: &Correlations,
     ) -> Result<Passage, NoMemory>
-        requires k { k < length table.now }
+        requires there { has_item table.now item ≡ true }
         requires sound { IsSound (setting self.now) table.now }
-        ensures { IfOk result (λ passage. (slice_get table.now k ≡ Some (passage.item, passage.locks))
-            × IsUpBy (setting self.now) passage.item passage.locks way passage) }
+        ensures { IfOk result (λ passage. (set_of table.now item ≡ Some passage.locks)
+            × IsUpBy (setting self.now) item passage.locks way passage) }
     {
-        prove!(k < table.count());
-        let item = table.item(k);
-        let locks = table.set(k).copy()?;
+        let Some(set) = table.set(item) else {
+            unreachable!()
+        };
+        let locks = set.copy()?;
         let passage = self.passage(alloc, item, locks, way)?;
         Ok(passage)
     }
 
-    /// Offers the set to the items above an item, and answers whether something changed.
+    /// Offers the set to an item. It is to rise again where it was there and has fewer locks now.
+    fn offer(
+        &self,
+        alloc: Global,
+        item: Correlation,
+        set: &IdSet,
+        table: &mut Correlations,
+        again: &mut Vec<Correlation>,
+    ) -> Result<(), NoMemory>
+        requires { Fits (setting self.now) item set.now }
+        ensures { OnOk result (Works (setting self.now)
+            (λ entries. has_item entries item ≡ true) (HasWithin item set.now)
+            table.old table.new again.old.items again.new.items) }
+    {
+        if table.offer(alloc, item, set)? {
+            again.push(item)?;
+        }
+        Ok(())
+    }
+
+    /// Offers the set to the items above an item. Those of them are to rise again that have fewer locks now.
     fn offer_above(
         &self,
         alloc: Global,
@@ -151,167 +172,154 @@ impl Rising<'_> {
         passage: &Passage,
         set: &IdSet,
         table: &mut Correlations,
-    ) -> Result<bool, NoMemory>
+        again: &mut Vec<Correlation>,
+    ) -> Result<(), NoMemory>
         requires passage { IsPassage (setting self.now) passage.now }
         requires way { passage.now.way ≡ link.now.way }
         requires offer { IsOffer (setting self.now) link.now passage.now.item set.now }
-        ensures { IfOk result (Works (setting self.now)
+        ensures { OnOk result (Works (setting self.now)
             (AreAbove (setting self.now) link.now passage.now.item)
             (AreAboveWithin (setting self.now) link.now passage.now.item set.now)
-            table.old table.new) }
+            table.old table.new again.old.items again.new.items) }
     {
-        let mut changed = false;
         for subject in passage.subjects.ids() {
-            changed |= table.offer(alloc, above(*link, passage.item, *subject), set)?;
+            let item = above(*link, passage.item, *subject);
+            self.offer(alloc, item, set, table, again)?;
         }
-        Ok(changed)
+        Ok(())
     }
 
-    /// Lets an item rise by a link, and answers whether something changed.
+    /// Lets an item rise by a link. Those above it are to rise again that have fewer locks now.
     fn pass_link(
         &self,
         alloc: Global,
         link: &Link,
         passage: &Passage,
         table: &mut Correlations,
-    ) -> Result<bool, NoMemory>
+        again: &mut Vec<Correlation>,
+    ) -> Result<(), NoMemory>
         requires link { IsLink (basis_of self.now.facts.now) link.now.point link.now }
         requires below { passage.now.item.function ≡ link.now.below }
         requires way { passage.now.way ≡ link.now.way }
         requires passage { IsPassage (setting self.now) passage.now }
-        ensures { IfOk result (Works (setting self.now)
+        ensures { OnOk result (Works (setting self.now)
             (AreAbove (setting self.now) link.now passage.now.item)
             (AreMet (setting self.now) link.now passage.now.item passage.now.locks)
-            table.old table.new) }
+            table.old table.new again.old.items again.new.items) }
     {
         let child = is_child_above(*link, passage.item);
         let set = with_kept(self.held, link.point, child, &passage.risen)?;
-        let changed = self.offer_above(alloc, link, passage, &set, table)?;
-        Ok(changed)
+        self.offer_above(alloc, link, passage, &set, table, again)?;
+        Ok(())
     }
 
-    /// Lets an item rise by each of the links, and answers whether something changed.
+    /// Lets an item rise by each of the links. Those above it are to rise again that have fewer locks now.
     fn pass_each_link(
         &self,
         alloc: Global,
         links: &[Link],
         mut passage: Passage,
         table: &mut Correlations,
-    ) -> Result<bool, NoMemory>
+        again: &mut Vec<Correlation>,
+    ) -> Result<(), NoMemory>
         requires links { (link : Link) → Contains links.now link →
             IsLink (basis_of self.now.facts.now) link.point link }
         requires below { (link : Link) → Contains links.now link → passage.item.function ≡ link.below }
         requires passage { IsPassage (setting self.now) passage }
-        ensures { IfOk result (Works (setting self.now)
+        ensures { OnOk result (Works (setting self.now)
             (λ entries. (j : ℕ) → j < length links.now → (link : Link) → slice_get links.now j ≡ Some link →
             AreAbove (setting self.now) link passage.item entries)
             (λ entries. (j : ℕ) → j < length links.now → (link : Link) → slice_get links.now j ≡ Some link →
             AreMet (setting self.now) link passage.item passage.locks entries)
-            table.old table.new) }
+            table.old table.new again.old.items again.new.items) }
     {
-        let mut changed = false;
         for link in links {
             self.turn(alloc, &mut passage, link.way)?;
-            changed |= self.pass_link(alloc, link, &passage, table)?;
+            self.pass_link(alloc, link, &passage, table, again)?;
         }
-        Ok(changed)
+        Ok(())
     }
 
-    /// Lets the item with this number rise by each of the links, and answers whether something changed.
-    fn pass_links(
-        &self,
-        alloc: Global,
-        links: &[Link],
-        k: usize,
-        table: &mut Correlations,
-    ) -> Result<bool, NoMemory>
-        requires links { (link : Link) → Contains links.now link →
-            IsLink (basis_of self.now.facts.now) link.point link }
-        requires below { (link : Link) → Contains links.now link → (item : Correlation) →
-            item_at table.old k ≡ Some item → item.function ≡ link.below }
-        requires k { k < length table.old }
-        requires sound { IsSound (setting self.now) table.old }
-        ensures { IfOk result (Works (setting self.now)
-            (λ entries. (j : ℕ) → j < length links.now → (link : Link) → slice_get links.now j ≡ Some link →
-            HasPassed (setting self.now) link k entries)
-            (λ entries. (j : ℕ) → j < length links.now → (link : Link) → slice_get links.now j ≡ Some link →
-            HasMet (setting self.now) link k entries)
-            table.old table.new) }
-    {
-        let Some(first) = links.first() else {
-            return Ok(false);
-        };
-        let passage = self.passage_of(alloc, k, first.way, table)?;
-        let changed = self.pass_each_link(alloc, links, passage, table)?;
-        Ok(changed)
-    }
-
-    /// Lets the item with this number rise by all links into its function, and answers whether something changed.
+    /// Lets an item of the table rise by all links into its function. Those above it are to rise again that have fewer
+    /// locks now.
     fn pass_item(
         &self,
         alloc: Global,
         into: &[Seq<Link>],
-        k: usize,
+        item: Correlation,
         table: &mut Correlations,
-    ) -> Result<bool, NoMemory>
-        requires functions { length into.now ≡ length self.now.facts.now.program.functions }
-        requires into { AreLinksInto (basis_of self.now.facts.now) into.now }
-        requires k { k < length table.old }
-        requires sound { IsSound (setting self.now) table.old }
-        ensures { IfOk result (Works (setting self.now)
-            (HasPassedAll (setting self.now) into.now k)
-            (HasMetAll (setting self.now) into.now k)
-            table.old table.new) }
-    {
-        let item = table.item(k);
-        let links = into[item.function as usize].list();
-        let changed = self.pass_links(alloc, links, k, table)?;
-        Ok(changed)
-    }
-
-    /// Lets all items rise once, and answers whether something changed.
-    pub(crate) fn pass_each(
-        &self,
-        alloc: Global,
-        into: &[Seq<Link>],
-        table: &mut Correlations,
-    ) -> Result<bool, NoMemory>
-        requires functions { length into.now ≡ length self.now.facts.now.program.functions }
-        requires into { AreLinksInto (basis_of self.now.facts.now) into.now }
-        requires sound { IsSound (setting self.now) table.old }
-        ensures { IfOk result (Works (setting self.now)
-            (λ entries. (k : ℕ) → k < length table.old → HasPassedAll (setting self.now) into.now k entries)
-            (λ entries. (k : ℕ) → k < length table.old → HasMetAll (setting self.now) into.now k entries)
-            table.old table.new) }
-    {
-        let mut changed = false;
-        for k in 0..table.count() {
-            changed |= self.pass_item(alloc, into, k, table)?;
-        }
-        Ok(changed)
-    }
-
-    /// Lets each item rise once, those too that are found on the way.
-    pub(crate) fn grow(
-        &self,
-        alloc: Global,
-        into: &[Seq<Link>],
-        table: &mut Correlations,
+        again: &mut Vec<Correlation>,
     ) -> Result<(), NoMemory>
+        requires functions { length into.now ≡ length self.now.facts.now.program.functions }
+        requires into { AreLinksInto (basis_of self.now.facts.now) into.now }
+        requires there { has_item table.old item ≡ true }
+        requires sound { IsSound (setting self.now) table.old }
+        ensures steps { OnOk result (Steps (setting self.now) (HasPassed (setting self.now) into.now item)
+            table.old table.new again.old.items again.new.items) }
+        ensures settled { OnOk result
+            (IsSettled (setting self.now) into.now again.new.items item table.new) }
+    {
+        let links = into[item.function as usize].list();
+        let Some(first) = links.first() else {
+            return Ok(());
+        };
+        let passage = self.passage_of(alloc, item, first.way, table)?;
+        self.pass_each_link(alloc, links, passage, table, again)?;
+        Ok(())
+    }
+
+    /// Lets each item rise, those too that are found on the way, and answers those that are to rise again.
+    pub(crate) fn pass_all(
+        &self,
+        alloc: Global,
+        into: &[Seq<Link>],
+        table: &mut Correlations,
+    ) -> Result<Vec<Correlation>, NoMemory>
         requires functions { length into.now ≡ length self.now.facts.now.program.functions }
         requires into { AreLinksInto (basis_of self.now.facts.now) into.now }
         requires sound { IsSound (setting self.now) table.old }
         ensures grows { OnOk result (Grows (setting self.now) table.old table.new) }
-        ensures passed { OnOk result ((k : ℕ) → k < length table.new →
-            HasPassedAll (setting self.now) into.now k table.new) }
+        ensures there { IfOk result (λ again.
+            (item : Correlation) → Contains again.items item → has_item table.new item ≡ true) }
+        ensures passed { OnOk result ((item : Correlation) → has_item table.new item ≡ true →
+            HasPassed (setting self.now) into.now item table.new) }
+        ensures settled { IfOk result (λ again. (item : Correlation) → has_item table.new item ≡ true →
+            IsSettled (setting self.now) into.now again.items item table.new) }
     {
+        let mut again = Vec::new(alloc);
         for k in 0..usize::MAX {
             if k >= table.count() {
-                return Ok(());
+                return Ok(again);
             }
-            self.pass_item(alloc, into, k, table)?;
+            let item = table.item(k);
+            self.pass_item(alloc, into, item, table, &mut again)?;
         }
         unreachable!()
+    }
+
+    /// Lets each of the items rise once more, and answers those that are to rise again.
+    pub(crate) fn pass_again(
+        &self,
+        alloc: Global,
+        into: &[Seq<Link>],
+        items: &[Correlation],
+        table: &mut Correlations,
+    ) -> Result<Vec<Correlation>, NoMemory>
+        requires functions { length into.now ≡ length self.now.facts.now.program.functions }
+        requires into { AreLinksInto (basis_of self.now.facts.now) into.now }
+        requires there { (item : Correlation) → Contains items.now item → has_item table.old item ≡ true }
+        requires sound { IsSound (setting self.now) table.old }
+        ensures steps { IfOk result (λ again. Steps (setting self.now) (λ entries. (item : Correlation) →
+            Contains items.now item → HasPassed (setting self.now) into.now item entries)
+            table.old table.new [] again.items) }
+        ensures settled { IfOk result (λ again. (item : Correlation) → Contains items.now item →
+            IsSettled (setting self.now) into.now again.items item table.new) }
+    {
+        let mut again = Vec::new(alloc);
+        for item in items {
+            self.pass_item(alloc, into, *item, table, &mut again)?;
+        }
+        Ok(again)
     }
 
     /// Offers the given items to the table.

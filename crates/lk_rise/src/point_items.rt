@@ -10,7 +10,7 @@ ghost use Rattle.lk_facts.specs.Origins.{flow_of, IsSetBelow};
 ghost use Rattle.lk_facts.specs.Program.{function_at};
 ghost use Rattle.lk_links.specs.Links.{AreLinks};
 ghost use Rattle.lk_rise.specs.Correlations.{AreInRange, has_lock, has_of, locks_of};
-ghost use Rattle.lk_rise.specs.PointItems.{AreBelow, IsItemInRange, IsItemOf, functions_of, items_by, items_from, items_through};
+ghost use Rattle.lk_rise.specs.PointItems.{AreBelow, HasNoChild, IsItemInRange, IsItemOf, StartsNothing, functions_of, items_by, items_from, items_through};
 ghost use Rattle.lk_rise.specs.PointItems.{own_access_of, point_functions, point_table, risen_by, source_of};
 ghost use Rattle.lk_rise.specs.declared.point_items.ItemAt.{ItemAt};
 ghost use Rattle.lk_sets.specs.Ids.{has_id};
@@ -211,6 +211,34 @@ impl Below<'_> {
         Ok(found)
     }
 
+    /// Whether an item of a function is of a thread that was started in it or below.
+    fn has_child(&self, function: u32) -> bool
+        requires below { AreBelow self.now.facts.now self.now.items.now self.now.numbers }
+        requires function { function < length self.now.facts.now.program.functions }
+        ensures { result ≡ false → HasNoChild self.now.items.now function }
+    {
+        for number in self.numbers.at(function) {
+            if self.items.item(*number).child {
+                return true;
+            }
+        }
+        false
+    }
+
+    /// Whether one of the links starts a thread, or goes into a function with an item that is of a started one.
+    fn may_start(&self, links: &[Link]) -> bool
+        requires below { AreBelow self.now.facts.now self.now.items.now self.now.numbers }
+        requires links { All (λ link. link.below < length self.now.facts.now.program.functions) links.now }
+        ensures { result ≡ false → All (StartsNothing self.now.items.now) links.now }
+    {
+        for link in links {
+            if link.starts || self.has_child(link.below) {
+                return true;
+            }
+        }
+        false
+    }
+
     /// The locks that are held at an item of a function, and none where it has no such item.
     fn locks(&self, item: Correlation) -> &[u32]
         requires { AreBelow self.now.facts.now self.now.items.now self.now.numbers }
@@ -262,6 +290,30 @@ impl<'a> PointItems<'a> {
         ensures { result.now ≡ self.now.facts }
     {
         self.below.facts
+    }
+
+    /// Whether an item of a point may be of a thread that was started there or below.
+    fn may_start_at(&self, point: u32) -> bool
+        requires { point < length self.now.facts.program.points }
+        ensures { result ≡ false → (f : ℕ) → (i : ItemAt) → i.point ≡ point →
+            IsItemOf (basis_of self.now.facts) (has_of self.now.entries) f i → i.child ≡ false }
+    {
+        self.below.may_start(self.links.at(point))
+    }
+
+    /// Whether an item of a point of a function may be of a thread that was started there or below.
+    pub fn may_start(&self, function: u32) -> bool
+        requires { function < length self.now.facts.program.functions }
+        ensures { result ≡ false → (i : ItemAt) →
+            IsItemOf (basis_of self.now.facts) (has_of self.now.entries) function i → i.child ≡ false }
+    {
+        prove!(self.below.facts.points().count() <= MOST_POINTS);
+        for point in self.points.at(function) {
+            if self.may_start_at(*point as u32) {
+                return true;
+            }
+        }
+        false
     }
 
     /// The items of a point.

@@ -116,7 +116,9 @@ pub fn rise(
     };
     let mut table = Correlations::new(alloc);
     rising.put_base(alloc, &mut table)?;
-    rising.grow(alloc, &into, &mut table)?;
-    while rising.pass_each(alloc, &into, &mut table)? {}
+    let mut again = rising.pass_all(alloc, &into, &mut table)?;
+    while !again.is_empty() {
+        again = rising.pass_again(alloc, &into, &again, &mut table)?;
+    }
     Ok(table)
 }

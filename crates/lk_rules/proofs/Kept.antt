@@ -47,7 +47,7 @@ in_one x (y ∷ xs) ys (inr h) = more (in_one x xs ys h)
 abbrev Least : (Fault → Type 0) → Option Fault → Type 0
 Least Among o = MatchOption o ((f : Fault) → Among f → ⊥) (λ f. IsLeast Among f)
 
-abbrev Same : (Fault → Type 0) → (Fault → Type 0) → Type 0
+abbrev pub Same : (Fault → Type 0) → (Fault → Type 0) → Type 0
 Same P Q = (f : Fault) → (P f ↔ Q f)
 
 least_same : (P Q : Fault → Type 0) (o : Option Fault) → Same P Q → Least P o → Least Q o
@@ -105,7 +105,7 @@ among_same (Some o) A B same f = (to, back)
 
 -- ---- what is kept, of any faults
 
-keeps_same : (old new : Kept) (A B : Fault → Type 0) (X Y : Type 0) → Same A B → (X ↔ Y) → Keeps old A X new → Keeps old B Y new
+pub keeps_same : (old new : Kept) (A B : Fault → Type 0) (X Y : Type 0) → Same A B → (X ↔ Y) → Keeps old A X new → Keeps old B Y new
 keeps_same old new A B X Y same alike kept =
     record {
       least = least_same (IsAmong old.least A) (IsAmong old.least B) new.least (among_same old.least A B same) kept.least;
@@ -120,7 +120,7 @@ keeps_same old new A B X Y same alike kept =
     back (inl e) = inl e
     back (inr y) = inr (alike.1 y)
 
-keeps_then : (old middle new : Kept) (A B : Fault → Type 0) (X Y : Type 0) → Keeps old A X middle → Keeps middle B Y new → Keeps old (λ f. A f ⊎ B f) (X ⊎ Y) new
+pub keeps_then : (old middle new : Kept) (A B : Fault → Type 0) (X Y : Type 0) → Keeps old A X middle → Keeps middle B Y new → Keeps old (λ f. A f ⊎ B f) (X ⊎ Y) new
 keeps_then old middle new A B X Y first second =
     record {
       least =
@@ -142,7 +142,7 @@ keeps_then old middle new A B X Y first second =
     back (inr (inl x)) = inl (first.broken.1 (inr x))
     back (inr (inr y)) = inr y
 
-keeps_none : (kept : Kept) (A : Fault → Type 0) (X : Type 0) → ((f : Fault) → A f → ⊥) → (X → ⊥) → Keeps kept A X kept
+pub keeps_none : (kept : Kept) (A : Fault → Type 0) (X : Type 0) → ((f : Fault) → A f → ⊥) → (X → ⊥) → Keeps kept A X kept
 keeps_none kept A X none never = record { least = least kept.least; broken = (inl, back) }
   where
     least : (o : Option Fault) → KeepsLeast o A o
@@ -159,10 +159,10 @@ keeps_none kept A X none never = record { least = least kept.least; broken = (in
 
 -- ---- codes at one node
 
-no_fault : (mark : Mark) (f : Fault) → FaultAt mark [] f → ⊥
+pub no_fault : (mark : Mark) (f : Fault) → FaultAt mark [] f → ⊥
 no_fault mark f found = found.among
 
-no_breach : HasBreach [] → ⊥
+pub no_breach : HasBreach [] → ⊥
 no_breach found = found.among
 
 codes_same : (mark : Mark) (bs cs : List Breach) → ((b : Breach) → (IsIn b bs ↔ IsIn b cs)) → Same (FaultAt mark bs) (FaultAt mark cs)
@@ -171,13 +171,13 @@ codes_same mark bs cs same f = (
   (λ found. record { breach = found.breach; among = (same found.breach).1 found.among; is = found.is }),
 )
 
-breach_same : (bs cs : List Breach) → ((b : Breach) → (IsIn b bs ↔ IsIn b cs)) → (HasBreach bs ↔ HasBreach cs)
+pub breach_same : (bs cs : List Breach) → ((b : Breach) → (IsIn b bs ↔ IsIn b cs)) → (HasBreach bs ↔ HasBreach cs)
 breach_same bs cs same = (
   (λ found. record { breach = found.breach; among = (same found.breach).0 found.among }),
   (λ found. record { breach = found.breach; among = (same found.breach).1 found.among }),
 )
 
-codes_both : (mark : Mark) (bs cs : List Breach) → Same (λ f. FaultAt mark bs f ⊎ FaultAt mark cs f) (FaultAt mark (bs ++ cs))
+pub codes_both : (mark : Mark) (bs cs : List Breach) → Same (λ f. FaultAt mark bs f ⊎ FaultAt mark cs f) (FaultAt mark (bs ++ cs))
 codes_both mark bs cs f = (to, back)
   where
     to : FaultAt mark bs f ⊎ FaultAt mark cs f → FaultAt mark (bs ++ cs) f
@@ -191,7 +191,7 @@ codes_both mark bs cs f = (to, back)
         by_place (inl i) = inl (record { breach = found.breach; among = i; is = found.is })
         by_place (inr i) = inr (record { breach = found.breach; among = i; is = found.is })
 
-breach_both : (bs cs : List Breach) → ((HasBreach bs ⊎ HasBreach cs) ↔ HasBreach (bs ++ cs))
+pub breach_both : (bs cs : List Breach) → ((HasBreach bs ⊎ HasBreach cs) ↔ HasBreach (bs ++ cs))
 breach_both bs cs = (to, back)
   where
     to : HasBreach bs ⊎ HasBreach cs → HasBreach (bs ++ cs)
@@ -308,7 +308,7 @@ the_lesser_is_kept old mark (Some b) =
 -- ---- nodes
 
 module _ (at_end : Env) where
-  abbrev Fault_in : Placed → Fault → Type 0
+  abbrev pub Fault_in : Placed → Fault → Type 0
   Fault_in p f = IsFault (parts at_end) (breaches at_end) (hiding at_end) mark_of p.env p.node f
 
   one_more : (p : Placed) (ps qs : List Placed) (f : Fault) → ((FaultIn at_end ps f ⊎ FaultIn at_end qs f) ↔ FaultIn at_end (ps ++ qs) f) →
@@ -328,7 +328,7 @@ module _ (at_end : Env) where
       back (inl h) = inl (inl h)
       back (inr h) = more (inner.1 h)
 
-  nodes_both : (ps qs : List Placed) → Same (λ f. FaultIn at_end ps f ⊎ FaultIn at_end qs f) (FaultIn at_end (ps ++ qs))
+  pub nodes_both : (ps qs : List Placed) → Same (λ f. FaultIn at_end ps f ⊎ FaultIn at_end qs f) (FaultIn at_end (ps ++ qs))
   nodes_both [] qs f = (to, inr)
     where
       to : ⊥ ⊎ FaultIn at_end qs f → FaultIn at_end qs f
@@ -341,13 +341,13 @@ module _ (at_end : Env) where
   among_nodes (p ∷ ps) part f (inl e) h = inl (subst (λ q. Fault_in q f) e h)
   among_nodes (p ∷ ps) part f (inr i) h = inr (among_nodes ps part f i h)
 
-  broken_in : (ps qs : List Placed) → ((p : Placed) → IsIn p ps → IsIn p qs) → IsBroken at_end ps → IsBroken at_end qs
+  pub broken_in : (ps qs : List Placed) → ((p : Placed) → IsIn p ps → IsIn p qs) → IsBroken at_end ps → IsBroken at_end qs
   broken_in ps qs all found = record { breach = found.breach; breaks = further found.breaks }
     where
       further : {b : Breach} → Breaks (parts at_end) (breaches at_end) (hiding at_end) mark_of ps b → Breaks (parts at_end) (breaches at_end) (hiding at_end) mark_of qs b
       further (breaks part is stands holds) = breaks part (all part is) stands holds
 
-  broken_both : (ps qs : List Placed) → ((IsBroken at_end ps ⊎ IsBroken at_end qs) ↔ IsBroken at_end (ps ++ qs))
+  pub broken_both : (ps qs : List Placed) → ((IsBroken at_end ps ⊎ IsBroken at_end qs) ↔ IsBroken at_end (ps ++ qs))
   broken_both ps qs = (to, back)
     where
       to : IsBroken at_end ps ⊎ IsBroken at_end qs → IsBroken at_end (ps ++ qs)
@@ -364,7 +364,7 @@ module _ (at_end : Env) where
       back : IsBroken at_end (ps ++ qs) → IsBroken at_end ps ⊎ IsBroken at_end qs
       back found = by_breaks found.breaks
 
-  none_broken : IsBroken at_end [] → ⊥
+  pub none_broken : IsBroken at_end [] → ⊥
   none_broken found = never found.breaks
     where
       never : {b : Breach} → Breaks (parts at_end) (breaches at_end) (hiding at_end) mark_of [] b → ⊥
@@ -486,13 +486,13 @@ codes_are_kept_before_parts at_end old middle new mark bs ps first second =
 -- ---- a node whose parts are walked
 
 module _ (at_end env : Env) (node : Node) where
-  abbrev Own : List Breach → Fault → Type 0
+  abbrev pub Own : List Breach → Fault → Type 0
   Own bs f = FaultAt (mark_of node) bs f
 
-  abbrev HoldsHere : Breach → Type 0
+  abbrev pub HoldsHere : Breach → Type 0
   HoldsHere b = Holds (parts at_end) (breaches at_end) (hiding at_end) mark_of env node b
 
-  abbrev FaultHere : Fault → Type 0
+  abbrev pub FaultHere : Fault → Type 0
   FaultHere f = IsFault (parts at_end) (breaches at_end) (hiding at_end) mark_of env node f
 
   further : (part : Placed) (f : Fault) → IsIn part (parts at_end env node) → Fault_in at_end part f → FaultHere f
@@ -504,7 +504,7 @@ module _ (at_end env : Env) (node : Node) where
   of_parts (p ∷ ps) f all (inr h) = of_parts ps f (λ q i. all q (inr i)) h
 
   -- the codes that hold at the node, where they are these
-  node_faults : (bs : List Breach) → ((b : Breach) → (IsIn b bs ↔ HoldsHere b)) → Same (λ f. FaultIn at_end (parts at_end env node) f ⊎ Own bs f) (FaultIn at_end (at env node ∷ []))
+  pub node_faults : (bs : List Breach) → ((b : Breach) → (IsIn b bs ↔ HoldsHere b)) → Same (λ f. FaultIn at_end (parts at_end env node) f ⊎ Own bs f) (FaultIn at_end (at env node ∷ []))
   node_faults bs same f = (to, back)
     where
       to : FaultIn at_end (parts at_end env node) f ⊎ Own bs f → FaultHere f ⊎ ⊥
@@ -520,7 +520,7 @@ module _ (at_end env : Env) (node : Node) where
       back (inr never) = absurd never
 
   -- a code holds in the node: in one of its parts, or at itself
-  node_broken : (IsBroken at_end (parts at_end env node) ⊎ HasBreach (breaches at_end env node)) ↔ IsBroken at_end (at env node ∷ [])
+  pub node_broken : (IsBroken at_end (parts at_end env node) ⊎ HasBreach (breaches at_end env node)) ↔ IsBroken at_end (at env node ∷ [])
   node_broken = (to, back)
     where
       deeper : {b : Breach} → Breaks (parts at_end) (breaches at_end) (hiding at_end) mark_of (parts at_end env node) b → IsBroken at_end (at env node ∷ [])
@@ -544,10 +544,10 @@ module _ (at_end env : Env) (node : Node) where
       back : IsBroken at_end (at env node ∷ []) → IsBroken at_end (parts at_end env node) ⊎ HasBreach (breaches at_end env node)
       back found = by_breaks found.breaks
 
-abbrev NeverHidden : Env → Env → Node → Type 0
+abbrev pub NeverHidden : Env → Env → Node → Type 0
 NeverHidden at_end env node = (x : Breach) → Breaks (parts at_end) (breaches at_end) (hiding at_end) mark_of (hiding at_end env node) x → ⊥
 
-none_hidden : (at_end env : Env) (node : Node) → hiding at_end env node ≡ [] → NeverHidden at_end env node
+pub none_hidden : (at_end env : Env) (node : Node) → hiding at_end env node ≡ [] → NeverHidden at_end env node
 none_hidden at_end env node none x hidden =
     none_broken at_end (record { breach = x; breaks = subst (λ ps. Breaks (parts at_end) (breaches at_end) (hiding at_end) mark_of ps x) none hidden })
 
@@ -601,7 +601,7 @@ are_left_over : (ps : List Placed) (part : Placed) → IsIn part (those_without_
 are_left_over [] part is = is
 are_left_over (p ∷ ps) part is = left_over (has_type p.env p.node) p part ps (are_left_over ps part) is
 
-hiding_is_part : (at_end env : Env) (node : Node) (part : Placed) → IsIn part (hiding at_end env node) → IsIn part (parts at_end env node)
+pub hiding_is_part : (at_end env : Env) (node : Node) (part : Placed) → IsIn part (hiding at_end env node) → IsIn part (parts at_end env node)
 hiding_is_part at_end env node part = by_kind (is_declaration node)
   where
     by_kind : (b : Bool) → IsIn part (if b then those_without_type (parts at_end env node) else []) → IsIn part (parts at_end env node)

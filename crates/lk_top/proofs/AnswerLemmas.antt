@@ -1,5 +1,5 @@
 -- What the parts of an answer say of the whole.
-use Rattle.std.proofs.Common.{Vec, Global, ℕ, ◌≡◌, ◌<◌, ◌≤◌, List, [], ◌∷◌, Option, Some, None, length, drop, refl, sym, subst, arith}
+use Rattle.std.proofs.Common.{inl, inr, Vec, Global, ℕ, ◌≡◌, ◌<◌, ◌≤◌, List, [], ◌∷◌, Option, Some, None, length, drop, refl, sym, subst, arith}
 use Rattle.std.proofs.lemmas.List.Elements.{All-drop}
 use Rattle.std.specs.List.{All}
 use Rattle.std.specs.Option.{ForSome}
@@ -13,13 +13,14 @@ use Rattle.lk_lex.specs.declared.token.Token.{Token}
 use Rattle.lk_parse_expr.specs.Input.{spot_of}
 use Rattle.lk_parse_unit.specs.Parsing as parsing
 use Rattle.lk_tree.specs.declared.statement.Unit as tree
+use Rattle.lk_check_unit.specs.Sources.{TellsFirst}
 use Rattle.lk_form.specs.declared.tree.Program.{Program}
 use Rattle.lk_form.specs.Form.{IsOfForm}
 use Rattle.lk_top.specs.declared.answer.Answer.{Answer}
 use Rattle.lk_top.specs.declared.answer.Answer.TheVariants.{Report, Refusal, Unread}
-use Rattle.lk_top.specs.Outcome.{Refused, Judged, IsTreeOf, HasNoTree, no_tree, IsTreeFault, without_tree, tree_alone, too_long, not_of_form, of_form, refusal_of}
+use Rattle.lk_top.specs.Outcome.{Refused, Judged, IsTreeOf, HasNoTree, no_tree, IsTreeFault, IsFirst, without_tree, faulty, faultless, too_long, not_of_form, of_form, refusal_of}
 use Rattle.lk_top.specs.Run.{Shelved, IsAsBefore}
-use Rattle.lk_top.specs.Answer.{IsLineIn, Reported, Refuses, Unforms, Judges, Answers}
+use Rattle.lk_top.specs.Answer.{Checks, HasFaultsIn, IsLineIn, Reported, Refuses, Unforms, Judges, Answers}
 
 pub judged_program : (name source : List ℕ) (program : Program) (answer : Answer) → length source ≤ 1048576 → IsOfForm 0 source program → Reported name program answer → Judges name source answer
 judged_program name source program (Report text status) short form (verdicts, are, text_is, status_is) =
@@ -32,10 +33,29 @@ judged_form name source (Report text status) short none refuses = absurd refuses
 judged_form name source (Refusal line) short none (file, refusal, is, line_is) = (file, refusal, not_of_form file refusal short none is, line_is)
 judged_form name source (Unread line) short none refuses = absurd refuses
 
-pub form_refused : (name source : List ℕ) (answer : Answer) (unit : tree.Unit) (last : List (List ℕ)) → IsTreeOf (name ∷ []) source last unit → Refuses name Form answer → Unforms name source answer
-form_refused name source (Report text status) unit last is refuses = absurd refuses
-form_refused name source (Refusal line) unit last is refuses = (name, refusal_of Form, tree_alone unit last is refl refl, refuses)
-form_refused name source (Unread line) unit last is refuses = absurd refuses
+-- a source with a tree, with the line of its refusal
+pub tree_checked : (name source : List ℕ) (last : List (List ℕ)) (unit : tree.Unit) (answer : Answer) → IsTreeOf (name ∷ []) source last unit → Checks name last unit answer →
+    Unforms name source answer
+tree_checked name source last unit (Report text status) is checks = absurd checks
+tree_checked name source last unit (Refusal line) is (inl (refusal, first, (file, at, line_is))) = (file, refusal, faulty unit last is first at, line_is)
+tree_checked name source last unit (Refusal line) is (inr (none, line_is)) = (name, refusal_of Form, faultless unit last is none refl refl, line_is)
+tree_checked name source last unit (Unread line) is checks = absurd checks
+
+-- the place of the first fault stands in one of the files
+pub first_in_files : (files : ℕ) (unit : tree.Unit) (refusal : BaseRefusal) → HasFaultsIn files unit → TellsFirst [] unit (Some refusal) → refusal.spot.file < files
+first_in_files files unit refusal filed (fault, first, told) = subst (λ r. r.spot.file < files) (sym told) (filed fault first.holds)
+
+pub first_told : (unit : tree.Unit) (refusal : BaseRefusal) → TellsFirst [] unit (Some refusal) → IsFirst unit refusal
+first_told unit refusal (fault, first, told) = record { fault = fault; first = first; told = told }
+
+pub checked_faulty : (name : List ℕ) (files : List (List ℕ)) (unit : tree.Unit) (refusal : BaseRefusal) (line : Vec ℕ Global) → TellsFirst [] unit (Some refusal) → IsLineIn files refusal line.items →
+    Checks name files unit (Refusal line)
+checked_faulty name files unit refusal line tells is = inl (refusal, first_told unit refusal tells, is)
+
+pub checked_faultless : (name : List ℕ) (files : List (List ℕ)) (unit : tree.Unit) (answer : Answer) → TellsFirst [] unit None → Refuses name Form answer → Checks name files unit answer
+checked_faultless name files unit (Report text status) none refuses = absurd refuses
+checked_faultless name files unit (Refusal line) none refuses = inr (none, refuses)
+checked_faultless name files unit (Unread line) none refuses = absurd refuses
 
 longer : (name : List ℕ) (file : Option (List ℕ)) → IsLonger file 1048576 → (source : List ℕ) × (file ≡ Some source) × Judged name source (Refused name (refusal_of TooLong))
 longer name None long = absurd long

@@ -1,14 +1,17 @@
 -- What an answer says of the words, the shelf's files and its count of faults.
-use Rattle.std.specs.Prelude.{ℕ, ◌≡◌, true, List, Some, slice_get}
+use Rattle.std.specs.Prelude.{ℕ, ◌≡◌, ◌<◌, ◌⊎◌, true, List, Some, slice_get}
 use Rattle.std.specs.Option.{ForSome}
 use Rattle.lk_base.specs.declared.code.Code.{Code}
+use Rattle.lk_base.specs.declared.code.Code.TheVariants.{Form}
 use Rattle.lk_base.specs.declared.refusal.Refusal.{Refusal}
+use Rattle.lk_tree.specs.declared.statement.Unit.{Unit}
+use Rattle.lk_typed.specs.Faults.{Fault as TypeFault}
 use Rattle.lk_form.specs.declared.tree.Program.{Program}
 use Rattle.lk_facts.specs.declared.verdict.Verdict.{Verdict}
 use Rattle.lk_top.specs.declared.answer.Answer.{Answer}
 use Rattle.lk_top.specs.declared.answer.Answer.TheVariants.{Report, Refusal as Refuse, Unread}
 use Rattle.lk_top.specs.Texts.{refused_line, unread_line}
-use Rattle.lk_top.specs.Outcome.{Refused, Verdicts, Judged, IsUnformed, AreVerdictsOf, refusal_of, report_of}
+use Rattle.lk_top.specs.Outcome.{Refused, Verdicts, Judged, HasNoFault, IsFault, IsFirst, IsUnformed, AreVerdictsOf, refusal_of, report_of}
 use Rattle.lk_top.specs.Run.{Shelved, HasRisen, IsAsBefore, status_of, is_report}
 
 -- the report of the program's verdicts
@@ -27,6 +30,17 @@ Refuses name code (Unread line) = ⊥
 -- the line of a refusal, with the name of the file in which its place stands
 abbrev pub IsLineIn : List (List ℕ) → Refusal → List ℕ → Type 0
 IsLineIn files refusal line = (file : List ℕ) × (slice_get files refusal.spot.file ≡ Some file) × (line ≡ refused_line file refusal)
+
+-- each fault of a tree stands in one of so many files
+abbrev pub HasFaultsIn : ℕ → Unit → Type 0
+HasFaultsIn files unit = (fault : TypeFault) → IsFault unit fault → fault.spot.file < files
+
+-- the line of the refusal of a tree: for the first of its faults, in the file of its place, or, where it has none, for its form
+abbrev pub Checks : List ℕ → List (List ℕ) → Unit → Answer → Type 0
+Checks name files unit (Report text status) = ⊥
+Checks name files unit (Refuse line) =
+    ((refusal : Refusal) × IsFirst unit refusal × IsLineIn files refusal line.items) ⊎ (HasNoFault unit × (line.items ≡ refused_line name (refusal_of Form)))
+Checks name files unit (Unread line) = ⊥
 
 -- the line of the refusal of a source that is not of the form
 abbrev pub Unforms : List ℕ → List ℕ → Answer → Type 0

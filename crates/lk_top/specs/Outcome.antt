@@ -11,6 +11,9 @@ use Rattle.lk_lex.specs.declared.token.Token.{Token}
 use Rattle.lk_parse_unit.specs.Parsing.{IsRefusal}
 use Rattle.lk_parse_unit.specs.Tree.{IsTree}
 use Rattle.lk_tree.specs.declared.statement.Unit as tree
+use Rattle.lk_typed.specs.Faults.{Fault as TypeFault}
+use Rattle.lk_typed.specs.Units.{IsFaultOf, IsFirstFault}
+use Rattle.lk_check_walk.specs.Walks.{refusal_of as refused_for}
 use Rattle.lk_form.specs.declared.tree.Program.{Program}
 use Rattle.lk_form.specs.Form.{IsOfForm}
 use Rattle.lk_facts.specs.declared.verdict.Verdict.{Verdict}
@@ -58,10 +61,28 @@ abbrev pub IsTreeFault : List (List ℕ) → List ℕ → List (List ℕ) → Fa
 IsTreeFault names source last fault.NoMemory = Unit {0}
 IsTreeFault names source last (fault.Refused refusal) = HasNoTree names source last refusal × (refusal.spot.file < length last)
 
--- Why a source that is not of the form is refused, and the name of the file in which the place of that stands: it has no tree; where it has one, the form itself.
+-- ---- the faults of a tree, where no name is listed by --externs
+
+-- a fault of types or declarations (C99 6.2 to 6.9)
+abbrev pub IsFault : tree.Unit → TypeFault → Type 0
+IsFault unit fault = IsFaultOf [] unit fault
+
+-- the refusal by the least of them
+pub record IsFirst (unit : tree.Unit) (refusal : Refusal) : Type 0 where
+  pub fault : TypeFault
+  pub first : IsFirstFault [] unit fault
+  pub told : refusal ≡ refused_for fault
+
+abbrev pub HasNoFault : tree.Unit → Type 0
+HasNoFault unit = (fault : TypeFault) → IsFault unit fault → ⊥
+
+-- Why a source that is not of the form is refused, and the name of the file in which the place of that stands: it has no tree; its tree has a fault, and the first is told; where it has none, the
+-- form itself.
 pub data IsUnformed (name source file : List ℕ) (refusal : Refusal) : Type 0 where
   without_tree : (last : List (List ℕ)) → HasNoTree (name ∷ []) source last refusal → slice_get last refusal.spot.file ≡ Some file → IsUnformed name source file refusal
-  tree_alone : (unit : tree.Unit) (last : List (List ℕ)) → IsTreeOf (name ∷ []) source last unit → file ≡ name → refusal ≡ refusal_of Form → IsUnformed name source file refusal
+  faulty : (unit : tree.Unit) (last : List (List ℕ)) → IsTreeOf (name ∷ []) source last unit → IsFirst unit refusal → slice_get last refusal.spot.file ≡ Some file →
+      IsUnformed name source file refusal
+  faultless : (unit : tree.Unit) (last : List (List ℕ)) → IsTreeOf (name ∷ []) source last unit → HasNoFault unit → file ≡ name → refusal ≡ refusal_of Form → IsUnformed name source file refusal
 
 -- what a source comes to
 pub data Judged (name source : List ℕ) : Outcome → Type 0 where

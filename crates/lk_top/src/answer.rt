@@ -4,11 +4,12 @@ ghost use Rattle.lk_io.specs.Shelf.{IsFileName};
 ghost use Rattle.lk_form.specs.Form.{AreResolved};
 ghost use Rattle.lk_top.specs.Outcome.{refusal_of, IsTreeOf, IsTreeFault};
 ghost use Rattle.lk_top.specs.Run.{shelved, status_of};
-ghost use Rattle.lk_top.specs.Answer.{IsLineIn, Reported, Refuses, Unforms, Judges, Answers};
+ghost use Rattle.lk_top.specs.Answer.{Checks, HasFaultsIn, IsLineIn, Reported, Refuses, Unforms, Judges, Answers};
 
 use crate::report::{has_suspect, report};
 use crate::texts::{FIRST_BYTE, refused_line, unread_line};
 use lk_base::{Code, Fault, Files, LONGEST_SOURCES, Name, NameFault, NoMemory, Refusal, Status};
+use lk_check_unit::check_faults;
 use lk_facts::{Facts, Verdict};
 use lk_form::{Program, read_program};
 use lk_io::{ReadFault, Shelf, read_whole};
@@ -16,6 +17,7 @@ use lk_lex::tokens;
 use lk_lower::lower;
 use lk_parse_unit::parse_unit;
 use lk_solve::solve;
+use lk_spots::faults_stand_in_files;
 use lk_tree::Unit;
 use std::alloc::Global;
 
@@ -115,11 +117,30 @@ fn tree_of(alloc: Global, source: &[u8], files: &mut Files) -> Result<Unit, Faul
     requires few { length source.now ≤ 1048576 }
     requires own { length files.old ≡ 1 }
     ensures tree { IfOk result (IsTreeOf files.old source.now files.new) }
+    ensures filed { IfOk result (HasFaultsIn (length files.new)) }
     ensures err { IfErr result (IsTreeFault files.old source.now files.new) }
 {
     let list = tokens(alloc, source, FIRST_BYTE.file, files)?;
     let unit = parse_unit(alloc, source, &list)?;
+    faults_stand_in_files();
     Ok(unit)
+}
+
+/// What a source comes to whose tree this is: it is refused for the first of its faults, or for its form.
+fn checked(alloc: Global, name: &[u8], files: &Files, unit: &Unit) -> Result<Answer, NoMemory>
+    requires { HasFaultsIn (length files.now) unit.now }
+    ensures { IfOk result (λ answer. Checks name.now files.now unit.now answer) }
+{
+    let externs: [Name; 0] = [];
+    match check_faults(alloc, unit, &externs)? {
+        Some(refusal) => Ok(Answer::Refusal {
+            line: line_in(alloc, files, &refusal)?,
+        }),
+        None => {
+            let answer = refuse(alloc, name, Code::Form)?;
+            Ok(answer)
+        }
+    }
 }
 
 /// What a source comes to that is not of the form: it is refused.
@@ -129,8 +150,8 @@ fn unformed(alloc: Global, name: &[u8], source: &[u8]) -> Result<Answer, NoMemor
 {
     let mut files = files_of(alloc, name)?;
     match tree_of(alloc, source, &mut files) {
-        Ok(_) => {
-            let answer = refuse(alloc, name, Code::Form)?;
+        Ok(unit) => {
+            let answer = checked(alloc, name, &files, &unit)?;
             Ok(answer)
         }
         Err(Fault::Refused(refusal)) => Ok(Answer::Refusal {
@@ -140,6 +161,7 @@ fn unformed(alloc: Global, name: &[u8], source: &[u8]) -> Result<Answer, NoMemor
     }
 }
 
+/// The line of a refusal with this code at the first byte of the source.
 fn refuse(alloc: Global, name: &[u8], code: Code) -> Result<Answer, NoMemory>
     ensures { IfOk result (λ answer. Refuses name.now code answer) }
 {

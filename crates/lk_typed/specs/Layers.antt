@@ -174,10 +174,10 @@ abbrev pub has_name : Option Named → Bool
 has_name None = false
 has_name (Some named) = true
 
--- a parameter's type, adjusted, unless a rule is broken; void with a name is 25 there
-abbrev pub parameter_type : Option Named → Option Ty → Option Ty
-parameter_type named None = None
-parameter_type named (Some t) = if is_void t then None else unless_broken (parameter_rules (has_name named) (Some t)) (Some (adjusted t))
+-- a parameter's type, adjusted, unless a rule is broken or it is over a bound; void with a name is 25 there
+abbrev pub parameter_type : Env → Option Named → Option Ty → Option Ty
+parameter_type env named None = None
+parameter_type env named (Some t) = if is_void t then None else unless_broken (parameter_rules (has_name named) (Some t)) (within_bounds env (Some (adjusted t)))
 
 abbrev pub is_void_type : Option Ty → Bool
 is_void_type None = false
@@ -187,7 +187,7 @@ abbrev pub parameter_told : List SpecifierTeller → Option DeclaratorLayer → 
 parameter_told ss inner env =
     let told = specifiers ss env false in
     let whole = with_declarator env true told inner in
-    let t = parameter_type whole.name whole.type in
+    let t = parameter_type (extend env whole.additions) whole.name whole.type in
     record {
       additions = both whole.additions (parameter_name whole.name t);
       type = t;

@@ -29,11 +29,10 @@ use Rattle.lk_typed.specs.Initialisers.{parts_of_init}
 use Rattle.lk_typed.specs.Labels.{labels}
 use Rattle.lk_typed.specs.Layers.{type_made}
 use Rattle.lk_typed.specs.Nodes.{Node, AnExternal, ADeclaration, ADefinition, AMember, AnItem, AParameter, ATypeName, ADeclarator, AnInitialiser, AStatement, AnExpression, Placed, at, Left, NameUse, Declares, IsMember, IsParameter, Unnamed}
-use Rattle.lk_typed.specs.Parts.{declarator_parts, items_in_turn, perhaps, specifiers_parts, statement_parts}
+use Rattle.lk_typed.specs.Parts.{declarator_parts, items_add, items_in_turn, perhaps, specifiers_parts, statement_parts}
 use Rattle.lk_typed.specs.StatementRules.{in_function}
 use Rattle.lk_typed.specs.Told.{SpecifierTold}
 use Rattle.lk_typed.specs.Ty.{Ty, Signature, function_of}
-use Rattle.lk_typed.specs.Statements.{stmt_adds}
 use Rattle.lk_typed.specs.Expressions.{declarator_found, expr_parts, member_declarator_found, specifiers_found}
 
 -- ---- declarations
@@ -207,7 +206,7 @@ parts at_end env (AnExpression e) = expr_parts e env
 
 -- what the body leaves behind: the structs, so that no number stands for two
 abbrev pub past_body : SpecifierTold → Env → Function → Additions
-past_body told env node = past_scope (stmt_adds node.body (in_body told env node))
+past_body told env node = past_scope (items_add (in_body told env node) (body_items (out-StmtForm node.body.form)))
 
 abbrev pub external_adds : Env → Decl → Additions
 external_adds env (decl.Function node) =

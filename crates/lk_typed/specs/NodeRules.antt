@@ -27,7 +27,7 @@ use Rattle.lk_tree.specs.declared.statement.StmtForm.{StmtForm, out-StmtForm}
 use Rattle.lk_base.specs.declared.code.Code.TheVariants.{Incomplete, LargeType}
 use Rattle.lk_typed.specs.DeclarationRules.{Holder, InDefinition, InType, definition_rules, named_rules, type_in}
 use Rattle.lk_typed.specs.Declarations.{declared_as}
-use Rattle.lk_typed.specs.DeclaratorRules.{array_rules, function_rules, of_type, parameter_rules, pointer_rules, unless}
+use Rattle.lk_typed.specs.DeclaratorRules.{adjusted, array_rules, function_rules, of_type, parameter_rules, pointer_rules, unless}
 use Rattle.lk_typed.specs.Env.{Env, Name, Declared, Meaning, AnObject, AnEnumerator, AFaultyName, enter, extend}
 use Rattle.lk_typed.specs.declared.entity.Linkage.TheVariants as linkage
 use Rattle.lk_typed.specs.declared.entity.Defines.TheVariants as defines
@@ -36,14 +36,14 @@ use Rattle.lk_typed.specs.Faults.{Breach, breach}
 use Rattle.lk_typed.specs.HolderRules.{all_specifier_rules, declaration_rules, item_rules, member_node_rules}
 use Rattle.lk_typed.specs.InitialiserRules.{Object, given_rules}
 use Rattle.lk_typed.specs.Initialisers.{as_initialiser, initialiser_rules}
-use Rattle.lk_typed.specs.MemberRules.{large_struct_rules, member_rules}
+use Rattle.lk_typed.specs.MemberRules.{is_over, large_struct_rules, member_rules}
 use Rattle.lk_typed.specs.NodeParts.{parts}
 use Rattle.lk_typed.specs.Nodes.{Node, AnExternal, ADeclaration, ADefinition, AMember, AnItem, AParameter, ATypeName, ADeclarator, AnInitialiser, AStatement, AnExpression, Placed, Left, NameUse, Declares, IsMember, IsParameter, Unnamed}
 use Rattle.lk_typed.specs.Parts.{added_by, behind_inner, first_adds, inner_adds, size_in, span_at}
 use Rattle.lk_typed.specs.Redeclared.{name_rules}
 use Rattle.lk_typed.specs.Stands.{Mark}
 use Rattle.lk_typed.specs.StatementRules.{Around, Returned, Nothing, Converted, break_rules, case_rules, condition_rules, continue_rules, default_rules, dropped_rules, goto_rules, label_rules, return_rules, switch_rules}
-use Rattle.lk_typed.specs.Told.{DeclaratorTold, Span, with_optional}
+use Rattle.lk_typed.specs.Told.{DeclaratorTold, Span, some_type, with_optional}
 use Rattle.lk_typed.specs.Ty.{Ty, is_void}
 use Rattle.lk_typed.specs.Expressions.{declarator_found, expr_breaches, expr_constant, expr_conversion, expr_type, expr_word, has_expr_type, item_found, parameter_found, specifiers_found, type_found}
 
@@ -149,6 +149,15 @@ abbrev pub parameter_node_rules : Bool → Bool → Option Ty → List Breach
 parameter_node_rules named true t = []
 parameter_node_rules named false t = parameter_rules named t
 
+-- the environment behind specifiers and a declarator
+abbrev pub env_behind : Env → List Specifier → Option Declarator → Env
+env_behind env ss None = extend env (specifiers_found ss env false).additions
+env_behind env ss (Some d) = let after = extend env (specifiers_found ss env false).additions in extend after ((declarator_found d).additions after)
+
+-- 32 of a parameter: its type is adjusted, and may be over a bound by that
+abbrev pub adjusted_rules : Env → Option Ty → List Breach
+adjusted_rules env t = unless (not (is_over env (some_type adjusted t))) LargeType
+
 -- an enumerator as a name, whatever its value
 abbrev pub item_meaning : Option ℤ → Meaning
 item_meaning value = AnEnumerator (with_optional (pos 0) (λ z. z) value)
@@ -165,7 +174,8 @@ rules_of env (AnItem before i) =
     name_rules (extend env (added_by (out-Item i).value env)) (plain_name (out-Item i).name (item_meaning (item_found i env before).value))
 rules_of env (AParameter lone p) =
     all_specifier_rules InType false env (out-Parameter p).specifiers ++
-    parameter_node_rules (is_named (out-Parameter p).declarator) (lone && (parameter_found p env).is_bare_void) (type_behind env InType true (out-Parameter p).specifiers (out-Parameter p).declarator)
+    parameter_node_rules (is_named (out-Parameter p).declarator) (lone && (parameter_found p env).is_bare_void) (type_behind env InType true (out-Parameter p).specifiers (out-Parameter p).declarator) ++
+    adjusted_rules (env_behind env (out-Parameter p).specifiers (out-Parameter p).declarator) (type_behind env InType true (out-Parameter p).specifiers (out-Parameter p).declarator)
 rules_of env (ATypeName n) = all_specifier_rules InType false env (out-TypeName n).specifiers
 rules_of env (ADeclarator left d) = form_rules env left (out-DeclaratorForm d.form) ++ whole_rules env left d
 rules_of env (AnInitialiser object init) = initialiser_rules object env init

@@ -22,7 +22,7 @@ use Rattle.lk_typed.specs.Declarations.{declaration_adds}
 use Rattle.lk_typed.specs.DeclaratorRules.{Size}
 use Rattle.lk_typed.specs.Layers.{ParameterTeller, array_by, function_by, parameters_of, pointer_made}
 use Rattle.lk_typed.specs.MemberRules.{within_bounds}
-use Rattle.lk_typed.specs.Env.{Env, Additions, Field, nothing, past_scope, extend, enter, converted_to}
+use Rattle.lk_typed.specs.Env.{Env, Additions, Field, nothing, both, past_scope, extend, enter, converted_to}
 use Rattle.lk_typed.specs.Nodes.{Node, ADeclaration, AMember, AnItem, AParameter, ADeclarator, AStatement, AnExpression, Placed, at, Left}
 use Rattle.lk_typed.specs.StatementRules.{Around, behind_cases, in_body_of_loop, in_body_of_switch}
 use Rattle.lk_typed.specs.Told.{Span, before_first, struct_begins}
@@ -45,6 +45,11 @@ added_by (Some e) env = expr_adds e env
 abbrev pub item_adds : BlockItem-F BlockItem StmtForm Stmt → Env → Additions
 item_adds (BlockItem-F.Declare node) env = declaration_adds InBlock env node
 item_adds (BlockItem-F.Stmt inner) env = stmt_adds inner env
+
+-- what the items of a block add, each behind those before it
+abbrev pub items_add : Env → List BlockItem → Additions
+items_add env [] = nothing
+items_add env (i ∷ is) = let a = item_adds (out-BlockItem i) env in both a (items_add (extend env a) is)
 
 abbrev pub item_part : Around → Env → BlockItem-F BlockItem StmtForm Stmt → Placed
 item_part around env (BlockItem-F.Declare node) = at env (ADeclaration InBlock node)

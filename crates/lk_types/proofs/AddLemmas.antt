@@ -237,7 +237,7 @@ module _ (types : List (CType × TypeFacts)) (classes : List (CType × ℕ)) (st
   new_branches = branches_by old new good added_longer c of_known (own c)
 
   new_is_type : IsType new (length types)
-  new_is_type = type_from old new good added_longer (length types) c new_type new_made new_branches new_parts small
+  new_is_type = type_from old new good added_longer (length types) c new_type new_made ok new_branches new_parts small
 
   types_are : (t : ℕ) → IsKnown new t → IsType new t
   types_are t known = elim (known_or t known) [

@@ -7,7 +7,7 @@ use Rattle.std.proofs.lemmas.Bool.{false≢true}
 use Rattle.std.proofs.lemmas.List.{length-map, length-set}
 use Rattle.std.proofs.lemmas.List.Elements.{All-weaker, All-map}
 use Rattle.std.proofs.lemmas.Option.{none-some, same_Some, slice_get-map}
-use Rattle.lk_types.specs.Building.{IsTable, IsType, IsLonger, IsClosed, IsMadeOf, CanComplete, IsPartOfObjects, types_of}
+use Rattle.lk_types.specs.Building.{IsTable, IsType, IsLonger, IsClosed, IsForm, IsMadeOf, CanComplete, IsPartOfObjects, types_of}
 use Rattle.lk_types.specs.Kept.{table_of, AreKept, kept_size, size_by, IsSized}
 use Rattle.lk_types.specs.Sizes.{size_at, form_size, fields_size, is_too_large}
 use Rattle.lk_types.specs.Table.{Table, type_at, members_of, is_open, struct_of, IsKnown}
@@ -118,11 +118,12 @@ module _ (types : List (CType × TypeFacts)) (classes : List (CType × ℕ)) (st
 
   struct_type : (t : ℕ) → type_at new t ≡ Struct s → IsType new t
   struct_type t is =
-      subst (λ f. IsMadeOf new t f → OfParts (IsClosed new) (branches new f) → is_too_large (form_size new f) ≡ false → IsType new t) is
-      (λ made closed small. record { made_of = made; closed = closed; small = small }) (
+      subst (λ f. IsMadeOf new t f → IsForm new f → OfParts (IsClosed new) (branches new f) → is_too_large (form_size new f) ≡ false → IsType new t) is
+      (λ made ok closed small. record { made_of = made; form = ok; closed = closed; small = small }) (
         omega (arith, within, same_count, length-map structs' (λ entry. entry.members)),
         subst (λ ms. All (IsKnown new) (types_of ms)) (sym members_here) (All-weaker (λ u. IsKnown old u × IsClosed old u) (IsKnown new) (λ u h. h.0) (types_of members) member_parts),
       )
+      (omega (arith, within, same_count, length-map structs' (λ entry. entry.members)))
       (subst (λ ms. OfParts (IsClosed new) (fields 0 (types_of ms))) (sym members_here) (of_fields (IsClosed new) (types_of members) 0 members_closed))
       (ap is_too_large struct_size ∙ ok.small)
 

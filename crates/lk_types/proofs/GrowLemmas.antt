@@ -1,12 +1,13 @@
 -- What stays as it is while a table grows.
-use Rattle.std.proofs.Common.{◌≡◌, ◌∙◌, ◌<◌, ℕ, zero, suc, Bool, false, List, [], ◌∷◌, ◌++◌, length, refl, sym, ap, subst, arith, length-append, All}
+use Rattle.std.proofs.Common.{◌≡◌, ◌∙◌, ◌<◌, ℕ, zero, suc, Bool, true, false, List, [], ◌∷◌, ◌++◌, length, refl, sym, ap, subst, arith, length-append, All}
 use Rattle.std.specs.List.{flat_map, slice_get}
-use Rattle.std.specs.Prelude.{unwrap_or, ◌||◌}
+use Rattle.std.specs.Prelude.{not, unwrap_or, ◌||◌}
+use Rattle.std.proofs.lemmas.Bool.{false≢true}
 use Rattle.std.proofs.lemmas.List.Elements.{All-weaker}
-use Rattle.lk_types.specs.Building.{IsTable, IsType, IsLonger, IsMadeOf, IsClosed, IsClosedForm, types_of}
+use Rattle.lk_types.specs.Building.{IsTable, IsType, IsLonger, IsMadeOf, IsClosed, IsClosedForm, IsForm, IsPartOfObjects, IsPassed, types_of}
 use Rattle.lk_types.specs.Sizes.{size_at, form_size, size_of_parts, is_too_large}
 use Rattle.lk_types.specs.Laws.{OlderWalksStay}
-use Rattle.lk_types.specs.Table.{Table, type_at, least_of, members_of, IsKnown, is_empty}
+use Rattle.lk_types.specs.Table.{Table, type_at, least_of, members_of, is_complete_form, IsKnown, is_empty}
 use Rattle.lk_types.specs.Walks.{Branch, target, branches, fields, has_tag, holds, holds_within, holds_struct, is_void, walk, nodes, most_steps, start, below_start, at_branch}
 use Rattle.lk_types.specs.declared.c_type.CType.{CType}
 use Rattle.lk_types.specs.declared.c_type.CType.TheVariants.{Void, Int, ThreadId, Mutex, Cond, Pointer, Array, Struct, Function, Opaque}
@@ -126,6 +127,40 @@ module _ (old new : Table) (good : IsTable old) (longer : IsLonger old new) wher
   pub closed_same : (t : ℕ) → IsKnown old t → IsClosed old t → IsClosed new t
   closed_same t known closed = subst (IsClosedForm new) (sym (type_same t known)) (closed_grown (type_at old t) closed)
 
+  -- what is complete stays so
+  complete_grown : (form : CType) → is_complete_form old form ≡ true → is_complete_form new form ≡ true
+  complete_grown Void is = is
+  complete_grown (Int kind) is = is
+  complete_grown ThreadId is = is
+  complete_grown Mutex is = is
+  complete_grown Cond is = is
+  complete_grown (Pointer u) is = is
+  complete_grown (Array u n) is = is
+  complete_grown (Struct s) is = ap (λ members. not (is_empty members)) (longer.members s (shut (is_empty (members_of old s)) is)) ∙ is
+    where
+      shut : (b : Bool) → not b ≡ true → b ≡ false
+      shut true is = absurd (false≢true is)
+      shut false is = refl
+  complete_grown (Function result params dots) is = is
+  complete_grown (Opaque n) is = is
+
+  complete_same : (u : ℕ) → IsKnown old u → is_complete_form old (type_at old u) ≡ true → is_complete_form new (type_at new u) ≡ true
+  complete_same u known is = ap (is_complete_form new) (type_same u known) ∙ complete_grown (type_at old u) is
+
+  -- a form that could be put still could
+  pub form_grown : (form : CType) → IsForm old form → IsForm new form
+  form_grown Void ok = tt
+  form_grown (Int kind) ok = tt
+  form_grown ThreadId ok = tt
+  form_grown Mutex ok = tt
+  form_grown Cond ok = tt
+  form_grown (Pointer u) ok = known_same u ok
+  form_grown (Array u n) ok = record { known = known_same u ok.known; complete = complete_same u ok.known ok.complete }
+  form_grown (Struct s) ok = omega (arith, ok, longer.structs)
+  form_grown (Function result params dots) ok =
+      All-weaker (IsPassed old) (IsPassed new) (λ u p. record { known = known_same u p.known; no_struct = holds_struct_same u p.known ∙ p.no_struct }) (result ∷ params) ok
+  form_grown (Opaque n) ok = tt
+
   -- what was made of known types is so in the later table
   pub made_grown : (t : ℕ) (form : CType) → IsOwn form → IsMadeOf old t form → IsMadeOf new t form
   made_grown t Void own made = tt
@@ -147,17 +182,17 @@ module _ (old new : Table) (good : IsTable old) (longer : IsLonger old new) wher
   closed_parts form same all = subst (OfParts (IsClosed new)) (sym same) (λ k b within plain. let part = all k b within plain in closed_same _ part.0 part.1)
 
   -- a form whose parts are known and closed makes a type of the later table
-  pub type_from : (t : ℕ) (form : CType) → type_at new t ≡ form → IsMadeOf new t form → branches new form ≡ branches old form → OfParts (λ u. IsKnown old u × IsClosed old u) (branches old form) →
+  pub type_from : (t : ℕ) (form : CType) → type_at new t ≡ form → IsMadeOf new t form → IsForm old form → branches new form ≡ branches old form → OfParts (λ u. IsKnown old u × IsClosed old u) (branches old form) →
       is_too_large (form_size old form) ≡ false → IsType new t
-  type_from t form is made same all small =
-      subst (λ f. IsMadeOf new t f → OfParts (IsClosed new) (branches new f) → is_too_large (form_size new f) ≡ false → IsType new t) is
-      (λ made closed small. record { made_of = made; closed = closed; small = small })
-      made (closed_parts form same all) (ap is_too_large (form_size_by form same all) ∙ small)
+  type_from t form is made ok same all small =
+      subst (λ f. IsMadeOf new t f → IsForm new f → OfParts (IsClosed new) (branches new f) → is_too_large (form_size new f) ≡ false → IsType new t) is
+      (λ made ok closed small. record { made_of = made; form = ok; closed = closed; small = small })
+      made (form_grown form ok) (closed_parts form same all) (ap is_too_large (form_size_by form same all) ∙ small)
 
   pub type_grown : (t : ℕ) → IsKnown old t → IsOwn (type_at old t) → IsType new t
   type_grown t known own =
       let type = good.types t known in
-      type_from t (type_at old t) (type_same t known) (made_grown t (type_at old t) own type.made_of) (branches_same t known own) (parts_of_table old good t known) type.small
+      type_from t (type_at old t) (type_same t known) (made_grown t (type_at old t) own type.made_of) type.form (branches_same t known own) (parts_of_table old good t known) type.small
 
 pub older_walks_stay : OlderWalksStay
 older_walks_stay old new good longer t known closed = nodes_same old new good longer t known (own_closed old new good longer (type_at old t) closed)

@@ -5,7 +5,7 @@ use Rattle.std.specs.Option.{option_map}
 use Rattle.std.specs.Prelude.{unwrap_or}
 use Rattle.std.proofs.lemmas.List.Elements.{All-nil, All-cons, All-head, All-tail}
 use Rattle.std.proofs.lemmas.Option.{none-some, same_Some, slice_get-map, slice_get_within, slice_get-get_or}
-use Rattle.lk_types.specs.Building.{IsTable, IsMadeOf, IsLeast}
+use Rattle.lk_types.specs.Building.{IsTable, IsForm, IsMadeOf, IsLeast}
 use Rattle.lk_types.specs.Equal.{IsAlike}
 use Rattle.lk_types.specs.Kept.{table_of, AreKept, size_by}
 use Rattle.lk_types.specs.Sizes.{HasLowerParts, steps_of, size_at, is_too_large}
@@ -70,6 +70,9 @@ module _ (types : List (CType × TypeFacts)) (structs : List StructEntry) (parts
 pub made_of_got : (table : Table) → IsTable table → (t : ℕ) (form : CType) → slice_get table.types t ≡ Some form → IsMadeOf table t form
 made_of_got table good t form at =
     subst (IsMadeOf table t) (ap (λ o. unwrap_or o Void) at) (good.types t (slice_get_within table.types t form at)).made_of
+
+pub could_put_got : (table : Table) → IsTable table → (t : ℕ) (form : CType) → slice_get table.types t ≡ Some form → IsForm table form
+could_put_got table good t form at = subst (IsForm table) (ap (λ o. unwrap_or o Void) at) (good.types t (slice_get_within table.types t form at)).form
 
 pub lower_got : (table : Table) → IsTable table → (t : ℕ) (form : CType) → slice_get table.types t ≡ Some form → HasLowerParts table t form
 lower_got table good t form at =

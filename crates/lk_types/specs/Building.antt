@@ -99,9 +99,10 @@ IsMadeOf table t (Struct s) = (s < length table.members) × All (IsKnown table) 
 IsMadeOf table t (Function result params dots) = All (λ u. u < t) (result ∷ params)
 IsMadeOf table t (Opaque n) = ⊤
 
--- a type of the table: what it is made of is there, what it holds by value is no incomplete struct, and it is within the bounds
+-- a type of the table: what it is made of is there, its form could be put, what it holds by value is no incomplete struct, and it is within the bounds
 pub record IsType (table : Table) (t : ℕ) : Type 0 where
   pub made_of : IsMadeOf table t (type_at table t)
+  pub form : IsForm table (type_at table t)
   pub closed : All (IsClosedPart table) (branches table (type_at table t))
   pub small : is_too_large (form_size table (type_at table t)) ≡ false
 

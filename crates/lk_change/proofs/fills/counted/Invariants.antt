@@ -1,6 +1,6 @@
 use Rattle.std.proofs.Common.{◌≡◌, drop, take, ◌++◌, ◌∷◌, ◌+◌}
 use Rattle.std.specs.Prelude.{map}
-use Rattle.lk_change.specs.Changes.{first_index}
+use Rattle.lk_change.specs.Fills.{first_index}
 use Rattle.lk_change.proofs.fills.counted.Given as goal
 
 abbrev pub invariant-loop-step : goal.invariant-loop-step

@@ -1,5 +1,5 @@
 use Rattle.std.proofs.Common.{◌≡◌, drop}
-use Rattle.lk_change.specs.Changes.{is_named}
+use Rattle.lk_change.specs.Fills.{is_named}
 use Rattle.lk_change.proofs.fills.is_named.Given as goal
 
 abbrev pub invariant-loop-steps : goal.invariant-loop-steps

@@ -1,7 +1,7 @@
 use Rattle.std.proofs.Common.{◌≡◌, ◌<◌, drop, take, length}
 use Rattle.std.specs.Prelude.{IfSome}
-use Rattle.lk_change.specs.Changes.{next_path, path_counted}
-use Rattle.lk_change.proofs.FillLemmas.{joined}
+use Rattle.lk_change.specs.Fills.{next_path, path_counted}
+use Rattle.lk_cells.proofs.PartLemmas.{joined}
 use Rattle.lk_change.proofs.fills.last_turn.Given as goal
 
 abbrev pub invariant-loop-place : goal.invariant-loop-place

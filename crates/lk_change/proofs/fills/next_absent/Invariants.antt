@@ -1,5 +1,5 @@
 use Rattle.std.proofs.Common.{◌≡◌, drop}
-use Rattle.lk_change.specs.Changes.{next_absent}
+use Rattle.lk_change.specs.Fills.{next_absent}
 use Rattle.lk_change.proofs.fills.next_absent.Given as goal
 
 abbrev pub invariant-loop-one : goal.invariant-loop-one

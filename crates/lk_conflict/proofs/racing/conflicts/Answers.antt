@@ -1,4 +1,4 @@
-use Rattle.std.proofs.Common.{◌<◌, ℕ, List, [], Contains, All, length, sym, subst, ⊎_elim}
+use Rattle.std.proofs.Common.{ℕ, List, [], Contains, All, sym, subst, ⊎_elim}
 use Rattle.std.proofs.lemmas.List.Elements.{All-contains_itself, All-weaker}
 use Rattle.lk_facts.specs.Racing.{Setting}
 use Rattle.lk_facts.specs.Facts.{basis_of}

@@ -17,7 +17,7 @@ returns c =
     let facts = c.args.facts.now in
     let p = c.args.point in
     let f = c.function.result in
-    let program = c.points.ensures.value in
+    let program = c.points-points.ensures.value in
     subst (λ x. IsAccess facts p (record { function = f; child = false; subject = x; access = p })) (sym c.subject.view_is)
     (access_is facts p f c.in_ok-subject.subject (subst (λ (q : Program). function_at q p ≡ Some f) program c.function.ensures.value)
     (subst (λ (q : Program). live_at q p ≡ true → f < length q.functions) program c.function.ensures.live_in_range)

@@ -1,4 +1,4 @@
-use Rattle.std.proofs.Common.{◌∙◌, sym, subst}
+use Rattle.std.proofs.Common.{sym, subst}
 use Rattle.lk_link.specs.Sites.{AreExternals}
 use Rattle.lk_link.proofs.absent.not_defined.Goals as goal
 

@@ -1,8 +1,6 @@
-use Rattle.std.proofs.Common.{◌≡◌, ◌∙◌, Option, Some, None, arith, get_or, refl, sym, subst}
-use Rattle.std.specs.Prelude.{MatchOption}
+use Rattle.std.proofs.Common.{arith, get_or, sym, subst}
 use Rattle.std.proofs.lemmas.Option.{slice_get-get_or}
-use Rattle.lk_typed.specs.declared.entity.Use.{Use}
-use Rattle.lk_link.specs.Absent.{AreLeast, IsNoted}
+use Rattle.lk_link.specs.Absent.{AreLeast}
 use Rattle.lk_link.specs.declared.sites.EntityOf.{EntityOf}
 use Rattle.lk_link.proofs.Lacking.{IsUsedBelow, users_none, users_turn, users_all}
 use Rattle.lk_link.proofs.Naming.{known_external}

@@ -3,7 +3,6 @@ use Rattle.std.specs.List.{slice_get}
 use Rattle.lk_types.proofs.KeptLemmas.{read_got}
 use Rattle.lk_typed.specs.declared.entity.Entity.{Entity}
 use Rattle.lk_link.specs.Sites.{IsExternalAt}
-use Rattle.lk_link.specs.declared.sites.EntityOf.{EntityOf}
 use Rattle.lk_link.proofs.Growing.{grows_more, grows_at_number, grows_all}
 use Rattle.lk_link.proofs.sites.push_externals.Goals as goal
 

@@ -1,4 +1,4 @@
-use Rattle.std.proofs.Common.{[], ◌∙◌, arith, length, get_or, sym, subst}
+use Rattle.std.proofs.Common.{[], arith, get_or, subst}
 use Rattle.std.proofs.lemmas.Option.{slice_get-get_or}
 use Rattle.lk_link.specs.Sites.{Grows, IsOfAt, IsOfSome, IsSiteAt}
 use Rattle.lk_link.specs.declared.sites.EntityOf.{EntityOf}

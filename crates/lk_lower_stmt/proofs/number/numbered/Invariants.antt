@@ -6,7 +6,7 @@ use Rattle.lk_lower_stmt.proofs.number.numbered.Given as goal
 
 abbrev pub invariant-loop-deed : goal.invariant-loop-deed
 invariant-loop-deed l =
-    let at = at_of l.names l.local.ordinal in
+    let at = at_of l.source.names.now l.local.ordinal in
     numbered at l.local.spot 0 l.initial.left.items l.on ≡ numbered at l.local.spot 0 l.left.items l.next ++ reverse l.steps.items
 
 abbrev pub decreases-loop-deed : goal.decreases-loop-deed

@@ -1,4 +1,4 @@
-use Rattle.std.proofs.Common.{◌≡◌, ◌∙◌, ◌++◌, ◌∷◌, [], ap, length, subst, sym}
+use Rattle.std.proofs.Common.{◌∙◌, ◌++◌, ◌∷◌, [], ap}
 use Rattle.lk_rise.proofs.GroupLemmas.{group_here, group_other, group_read}
 use Rattle.lk_rise.proofs.groups.push_place.Goals as goal
 

@@ -1,4 +1,4 @@
-use Rattle.std.proofs.Common.{◌≡◌, ◌∙◌, ◌++◌, ◌∷◌, [], length, map, sym, ap, arith}
+use Rattle.std.proofs.Common.{◌∙◌, ◌++◌, ◌∷◌, [], length, map, sym, ap, arith}
 use Rattle.std.proofs.lemmas.List.{take_all}
 use Rattle.lk_rise.specs.Items.{item_in, item_with}
 use Rattle.lk_rise.proofs.NamingLemmas.{named_more, subject_within}

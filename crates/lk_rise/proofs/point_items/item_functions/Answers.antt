@@ -1,4 +1,4 @@
-use Rattle.std.proofs.Common.{◌≡◌, ◌∙◌, ◌++◌, ◌∷◌, [], sym, ap, arith}
+use Rattle.std.proofs.Common.{◌∙◌, ◌++◌, ◌∷◌, [], sym, ap, arith}
 use Rattle.std.proofs.lemmas.List.{take_all}
 use Rattle.lk_rise.specs.PointItems.{functions_of}
 use Rattle.lk_rise.specs.declared.correlations.Correlation.{Correlation}

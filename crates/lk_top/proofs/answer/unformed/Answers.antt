@@ -1,11 +1,11 @@
 use Rattle.std.proofs.Common.{subst}
 use Rattle.lk_top.specs.Outcome.{IsTreeOf, HasNoTree}
-use Rattle.lk_top.proofs.AnswerLemmas.{form_refused, tree_refused}
+use Rattle.lk_top.proofs.AnswerLemmas.{tree_checked, tree_refused}
 use Rattle.lk_top.proofs.answer.unformed.Goals as goal
 
 pub returns-in-Ok : goal.returns-in-Ok
 returns-in-Ok c =
-    form_refused _ _ _ c.in-Ok.field-0 _ (subst (λ names. IsTreeOf names c.args.source.now c.tree_of.new.files c.in-Ok.field-0) c.in_ok-files.ensures c.in-Ok.ensures.tree)
+    tree_checked _ _ _ _ _ (subst (λ names. IsTreeOf names c.args.source.now c.tree_of.new.files c.in-Ok.unit) c.in_ok-files.ensures c.in-Ok.ensures.tree)
     c.in_ok-answer-in-Ok.ensures
 
 pub returns-in-Err-Refused : goal.returns-in-Err-Refused

@@ -2,7 +2,6 @@ use Rattle.std.proofs.Common.{◌≡◌, ◌↔◌, ◌⊎◌, ◌∙◌, Contai
 use Rattle.std.proofs.lemmas.List.{take_all}
 use Rattle.indexmap.specs.IndexSet.{insert_key}
 use Rattle.lk_conflict.specs.Kinds.{HasKind, is_kind, kind_of}
-use Rattle.lk_conflict.specs.declared.pairs.Kind.{Kind}
 use Rattle.lk_conflict.proofs.KindLemmas.{has_kind_more, kind_put}
 use Rattle.lk_conflict.proofs.grounds.Grounds.kinds.Goals as goal
 use Rattle.lk_rise.proofs.ListLemmas.{none_there}

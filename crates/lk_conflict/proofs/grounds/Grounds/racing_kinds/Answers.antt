@@ -1,4 +1,4 @@
-use Rattle.std.proofs.Common.{◌≡◌, ◌∙◌, List, All, sym, subst}
+use Rattle.std.proofs.Common.{◌∙◌, List, All, sym, subst}
 use Rattle.std.proofs.lemmas.List.{take_all}
 use Rattle.lk_sets.specs.Rows.{has}
 use Rattle.lk_conflict.specs.Kinds.{IsKindInRange}

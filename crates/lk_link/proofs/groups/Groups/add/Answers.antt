@@ -1,4 +1,4 @@
-use Rattle.std.proofs.Common.{◌∙◌, sym, subst}
+use Rattle.std.proofs.Common.{subst}
 use Rattle.std.specs.List.{Any}
 use Rattle.lk_link.specs.Sites.{StandsFor}
 use Rattle.lk_link.proofs.Naming.{pushed_added, covered_added}

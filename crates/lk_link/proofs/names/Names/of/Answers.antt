@@ -1,5 +1,5 @@
-use Rattle.std.proofs.Common.{◌≡◌, ◌∙◌, sym, subst}
-use Rattle.lk_link.specs.Sites.{AreNames, AreExternals, AreSites, AreGroups, NameIndex}
+use Rattle.std.proofs.Common.{sym, subst}
+use Rattle.lk_link.specs.Sites.{AreExternals, AreSites}
 use Rattle.lk_link.proofs.names.Names.of.Goals as goal
 
 pub sites-requires : goal.sites-requires

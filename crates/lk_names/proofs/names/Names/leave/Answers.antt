@@ -6,14 +6,14 @@ use Rattle.lk_names.proofs.names.Names.leave.Goals as goal
 pub returns-clause-leaves : goal.returns-clause-leaves
 returns-clause-leaves c =
     let old : InScope = record {
-      declared = c.self.inside.declared.0;
-      base = c.self.inside.declared.1;
-      tags = c.self.inside.tags.0;
-      tag_base = c.self.inside.tags.1;
+      declared = c.self.inside.declared;
+      base = c.self.inside.base;
+      tags = c.self.inside.tags;
+      tag_base = c.self.inside.tag_base;
       structs = c.self.inside.structs;
     } in
-    rw (c.leave.ensures, c.leave-2.ensures, ← c.self.view_is) (scope_goes c.args.mark old)
+    rw (c.truncate.ensures, c.truncate-2.ensures, ← c.self.view_is) (scope_goes c.args.mark old)
 
 pub returns-clause-known : goal.returns-clause-known
 returns-clause-known c table known =
-    rw (c.leave.ensures, c.leave-2.ensures) (rw (← c.self.view_is) at (left_known table c.args.self.now known c.args.mark))
+    rw (c.truncate.ensures, c.truncate-2.ensures) (rw (← c.self.view_is) at (left_known table c.args.self.now known c.args.mark))

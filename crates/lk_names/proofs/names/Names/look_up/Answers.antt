@@ -8,9 +8,9 @@ use Rattle.lk_names.proofs.names.Names.look_up.Goals as goal
 
 pub returns-clause-env : goal.returns-clause-env
 returns-clause-env c table rest =
-    looked_up table rest c.args.self.now c.args.name.now (option_copied c.look_up.result) (c.look_up.ensures ∙ ap (λ s. latest (λ d. is_name d.name c.args.name.now) s.declared) c.self.view_is)
+    looked_up table rest c.args.self.now c.args.name.now (option_copied c.latest_of.result) (c.latest_of.ensures ∙ ap (λ s. latest (λ d. is_name d.name c.args.name.now) s.declared) c.self.view_is)
 
 pub returns-clause-known : goal.returns-clause-known
 returns-clause-known c table known =
-    found_known (IsKnownName table) (λ d. is_name d.name c.args.name.now) c.args.self.now.declared known.names (option_copied c.look_up.result)
-    (c.look_up.ensures ∙ ap (λ s. latest (λ d. is_name d.name c.args.name.now) s.declared) c.self.view_is)
+    found_known (IsKnownName table) (λ d. is_name d.name c.args.name.now) c.args.self.now.declared known.names (option_copied c.latest_of.result)
+    (c.latest_of.ensures ∙ ap (λ s. latest (λ d. is_name d.name c.args.name.now) s.declared) c.self.view_is)

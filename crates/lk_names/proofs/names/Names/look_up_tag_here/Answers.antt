@@ -8,9 +8,9 @@ use Rattle.lk_names.proofs.names.Names.look_up_tag_here.Goals as goal
 
 pub returns-clause-env : goal.returns-clause-env
 returns-clause-env c table rest =
-    tag_looked_up_here table rest c.args.self.now c.args.name.now (option_copied c.look_up_here.result) (c.look_up_here.ensures ∙ ap (λ s. latest (λ tag. is_name tag.name c.args.name.now) (drop s.tag_base s.tags)) c.self.view_is)
+    tag_looked_up_here table rest c.args.self.now c.args.name.now (option_copied c.latest_behind.result) (c.latest_behind.ensures ∙ ap (λ s. latest (λ tag. is_name tag.name c.args.name.now) (drop s.tag_base s.tags)) c.self.view_is)
 
 pub returns-clause-known : goal.returns-clause-known
 returns-clause-known c table known =
-    found_known_here (λ tag. HasStruct (length c.args.self.now.structs) tag.meaning) (λ tag. is_name tag.name c.args.name.now) c.args.self.now.tags known.tags c.args.self.now.tag_base (option_copied c.look_up_here.result)
-    (c.look_up_here.ensures ∙ ap (λ s. latest (λ tag. is_name tag.name c.args.name.now) (drop s.tag_base s.tags)) c.self.view_is)
+    found_known_here (λ tag. HasStruct (length c.args.self.now.structs) tag.meaning) (λ tag. is_name tag.name c.args.name.now) c.args.self.now.tags known.tags c.args.self.now.tag_base (option_copied c.latest_behind.result)
+    (c.latest_behind.ensures ∙ ap (λ s. latest (λ tag. is_name tag.name c.args.name.now) (drop s.tag_base s.tags)) c.self.view_is)

@@ -6,10 +6,10 @@ use Rattle.lk_names.proofs.names.Names.set_members.Goals as goal
 pub returns-clause-adds : goal.returns-clause-adds
 returns-clause-adds c table rest =
     let old : InScope = record {
-      declared = c.self.inside.declared.0;
-      base = c.self.inside.declared.1;
-      tags = c.self.inside.tags.0;
-      tag_base = c.self.inside.tags.1;
+      declared = c.self.inside.declared;
+      base = c.self.inside.base;
+      tags = c.self.inside.tags;
+      tag_base = c.self.inside.tag_base;
       structs = c.self.inside.structs;
     } in
     rw (c.set.ensures, ← c.self.view_is) (members_come table rest old c.args.s c.args.members)

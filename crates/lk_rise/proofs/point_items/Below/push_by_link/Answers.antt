@@ -1,7 +1,6 @@
 use Rattle.std.proofs.Common.{get_or, subst}
 use Rattle.std.proofs.lemmas.List.Elements.{Contains-get_or}
-use Rattle.lk_rise.specs.Groups.{group_at}
-use Rattle.std.proofs.Common.{Contains, sym}
+use Rattle.std.proofs.Common.{Contains}
 use Rattle.lk_rise.proofs.PointLemmas.{number_within}
 use Rattle.lk_rise.proofs.point_items.Below.push_by_link.Goals as goal
 

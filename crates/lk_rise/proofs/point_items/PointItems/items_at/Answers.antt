@@ -1,4 +1,4 @@
-use Rattle.std.proofs.Common.{◌≡◌, ◌<◌, ◌↔◌, ◌∙◌, ◌∷◌, [], Some, Contains, length, sym, ap, subst, All}
+use Rattle.std.proofs.Common.{◌≡◌, ◌<◌, ◌↔◌, ◌∙◌, ◌∷◌, [], Some, Contains, length, sym, ap, subst}
 use Rattle.std.proofs.lemmas.List.Elements.{All-weaker}
 use Rattle.lk_facts.specs.Facts.{basis_of}
 use Rattle.lk_facts.specs.Program.{function_at}
@@ -6,7 +6,6 @@ use Rattle.lk_links.specs.Links.{AreLinksAt, IsLink}
 use Rattle.lk_links.specs.declared.link.Link.{Link}
 use Rattle.lk_rise.specs.Correlations.{has_of}
 use Rattle.lk_rise.specs.PointItems.{IsItemOf, PointTable, own_access_of}
-use Rattle.lk_rise.specs.declared.point_items.ItemAt.{ItemAt}
 use Rattle.lk_rise.proofs.PointLemmas.{linked_items, own_items}
 use Rattle.lk_rise.proofs.point_items.PointItems.items_at.Goals as goal
 

@@ -1,8 +1,7 @@
-use Rattle.std.proofs.Common.{◌≡◌, ◌<◌, ◌↔◌, ◌∙◌, ◌⊎◌, ℕ, true, false, length, All, sym, subst}
+use Rattle.std.proofs.Common.{◌≡◌, ◌<◌, ◌↔◌, ◌⊎◌, ℕ, true, false, length, All, sym, subst}
 use Rattle.lk_facts.specs.Flow.{RisesAs}
 use Rattle.lk_facts.specs.LockSets.{keep_of}
 use Rattle.lk_facts.specs.Origins.{IsSetBelow, flow_of}
-use Rattle.lk_rise.specs.Above.{HasRisenLock}
 use Rattle.lk_rise.specs.Correlations.{has_lock}
 use Rattle.lk_rise.specs.PointItems.{PointTable}
 use Rattle.lk_rise.proofs.AboveLemmas.{above_locks, locks_as}

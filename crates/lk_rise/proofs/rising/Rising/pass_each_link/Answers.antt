@@ -1,4 +1,4 @@
-use Rattle.std.proofs.Common.{◌≡◌, ◌∙◌, List, ℕ, length, arith, refl, ap, sym, subst}
+use Rattle.std.proofs.Common.{◌≡◌, ◌∙◌, List, ℕ, length, arith, refl, ap, subst}
 use Rattle.std.proofs.lemmas.Option.{slice_get_read}
 use Rattle.lk_links.proofs.ListLemmas.{contained}
 use Rattle.lk_rise.specs.Tables.{setting, AreAbove, AreMet, Works}
@@ -11,7 +11,7 @@ loop-link-init c = record {
   item = refl;
   locks = refl;
   is = c.requires.passage;
-  works = rises_none (setting c.args.self.now) c.args.links.now c.args.passage.item c.args.passage.locks c.args.table.now;
+  works = rises_none (setting c.args.self.now) c.args.links.now c.args.passage.item c.args.passage.locks c.args.table.now c.args.again.now.items;
 }
 
 pub pass_link-requires-clause-link : goal.pass_link-requires-clause-link
@@ -30,17 +30,17 @@ loop-link-preserved c =
     let item = c.in_ok-turn.ensures.item ∙ c.loop-link.invariant.item in
     let locks = c.in_ok-turn.ensures.locks ∙ c.loop-link.invariant.locks in
     let works =
-    subst (λ (i : Correlation). Works s (AreAbove s link i) (AreMet s link i c.args.passage.locks) c.loop-link.table c.pass_link.new.table c.in_ok-changed.field-0) item
-    (subst (λ (ids : List ℕ). Works s (AreAbove s link c.turn.new.passage.item) (AreMet s link c.turn.new.passage.item ids) c.loop-link.table c.pass_link.new.table c.in_ok-changed.field-0) locks c.in_ok-changed.ensures) in
+    subst (λ (i : Correlation). Works s (AreAbove s link i) (AreMet s link i c.args.passage.locks) c.loop-link.table c.pass_link.new.table c.loop-link.again.items c.pass_link.new.again.items) item
+    (subst (λ (ids : List ℕ). Works s (AreAbove s link c.turn.new.passage.item) (AreMet s link c.turn.new.passage.item ids) c.loop-link.table c.pass_link.new.table c.loop-link.again.items c.pass_link.new.again.items) locks c.in_ok-pass_link.ensures) in
     record {
       item = item;
       locks = locks;
       is = c.in_ok-turn.ensures.is;
-      works = rises_more s c.args.links.now c.args.passage.item c.args.passage.locks c.loop-link.link-index link c.args.table.now c.loop-link.table c.pass_link.new.table c.loop-link.changed c.in_ok-changed.field-0
+      works = rises_more s c.args.links.now c.args.passage.item c.args.passage.locks c.loop-link.link-index link c.args.table.now c.loop-link.table c.pass_link.new.table c.args.again.now.items c.loop-link.again.items c.pass_link.new.again.items
           (slice_get_read c.args.links.now _ c.loop-link.link-index link refl c.loop-link-test.true c.link-item.is) c.loop-link.invariant.works works;
     }
 
 pub returns : goal.returns
 returns c =
     let end : c.loop-link.link-index ≡ length c.args.links.now = omega (arith, c.loop-link.auto.link-index-end, c.loop-link-test.false) in
-    subst (λ n. RisesBelow (setting c.args.self.now) c.args.links.now c.args.passage.item c.args.passage.locks n c.args.table.now c.loop-link.table c.loop-link.changed) end c.loop-link.invariant.works
+    subst (λ n. RisesBelow (setting c.args.self.now) c.args.links.now c.args.passage.item c.args.passage.locks n c.args.table.now c.loop-link.table c.args.again.now.items c.loop-link.again.items) end c.loop-link.invariant.works

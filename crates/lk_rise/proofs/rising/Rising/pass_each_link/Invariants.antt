@@ -9,5 +9,5 @@ invariant-loop-link l = record {
   item : l.passage.item ≡ l.initial.passage.item;
   locks : l.passage.locks ≡ l.initial.passage.locks;
   is : IsPassage (setting l.self) l.passage;
-  works : RisesBelow (setting l.self) l.links l.initial.passage.item l.initial.passage.locks l.link-index l.initial.table l.table l.changed;
+  works : RisesBelow (setting l.self) l.links l.initial.passage.item l.initial.passage.locks l.link-index l.initial.table l.table l.initial.again.items l.again.items;
 }

@@ -1,11 +1,10 @@
-use Rattle.std.proofs.Common.{◌≡◌, ◌<◌, ◌&&◌, ◌||◌, ◌↔◌, ℕ, true, false, not, length, sym, subst}
-use Rattle.std.proofs.lemmas.Result.{IfOk-weaker}
+use Rattle.std.proofs.Common.{◌≡◌, ◌<◌, ◌&&◌, ◌||◌, ◌↔◌, ℕ, true, false, not, sym, subst}
 use Rattle.lk_facts.specs.Facts.{basis_of}
 use Rattle.lk_facts.specs.LockSets.{keep_of}
 use Rattle.lk_facts.specs.Origins.{IsSetBelow, flow_of}
 use Rattle.lk_facts.specs.declared.way.Way.{Way}
 use Rattle.lk_links.specs.Only.{HaveRisen}
-use Rattle.lk_rise.specs.Tables.{setting, HasLockAbove}
+use Rattle.lk_rise.specs.Tables.{setting}
 use Rattle.lk_rise.proofs.AboveLemmas.{above_locks}
 use Rattle.lk_rise.proofs.LinkLemmas.{rises_within}
 use Rattle.lk_rise.proofs.PassLemmas.{met_up, offer_fits}
@@ -42,4 +41,4 @@ returns c =
     let child : c.is_child_above-child.result ≡ (passage.item.child || link.starts) = c.is_child_above-child.ensures in
     let members = above_locks (flow_of s.facts.origins) (keep_of s.held link.point) link.way (passage.item.child || link.starts) passage.locks passage.risen c.in_ok-set.set rise
     (subst (λ b. (y : ℕ) → has_id c.in_ok-set.set y ≡ (has_id passage.risen y || (not b && has_id (keep_of s.held link.point) y))) child c.in_ok-set.ensures.members) in
-    met_up s link passage.item passage.locks c.in_ok-set.set c.args.table.now c.offer_above.new.table c.in_ok-changed.changed members c.in_ok-changed.ensures
+    met_up s link passage.item passage.locks c.in_ok-set.set c.args.table.now c.offer_above.new.table c.args.again.now.items c.offer_above.new.again.items members c.in_ok-offer_above.ensures

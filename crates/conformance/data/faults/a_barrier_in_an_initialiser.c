@@ -1,0 +1,1 @@
+int n = pthread_barrier_wait;

@@ -1,0 +1,4 @@
+struct flags {
+  int n;
+  unsigned ready : 1;
+};

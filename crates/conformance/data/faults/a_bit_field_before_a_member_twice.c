@@ -1,0 +1,3 @@
+struct flags {
+  int a, a : 2;
+};

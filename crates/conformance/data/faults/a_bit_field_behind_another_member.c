@@ -1,0 +1,3 @@
+struct flags {
+  int a, b : 2, c : 3;
+};

@@ -1,0 +1,5 @@
+struct flags {
+  int n;
+  int : 4;
+  int k;
+};

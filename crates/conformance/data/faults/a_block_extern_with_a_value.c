@@ -1,0 +1,3 @@
+void work(void) {
+  extern int n = 5;
+}

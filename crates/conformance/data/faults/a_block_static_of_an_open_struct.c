@@ -1,0 +1,3 @@
+void work(void) {
+  static struct node *p, n;
+}

@@ -1,0 +1,4 @@
+int work(int n) {
+  static int first = n;
+  return first;
+}

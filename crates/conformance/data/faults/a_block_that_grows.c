@@ -1,0 +1,3 @@
+void *work(void *p) {
+  return realloc(p, 9);
+}

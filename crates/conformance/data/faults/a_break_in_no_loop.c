@@ -1,0 +1,6 @@
+void work(int n) {
+  while (n)
+    n = 0;
+  if (n)
+    break;
+}

@@ -1,0 +1,4 @@
+int get(void);
+int work(void) {
+  return get()();
+}

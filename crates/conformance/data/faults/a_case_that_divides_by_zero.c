@@ -1,0 +1,5 @@
+void work(int n) {
+  switch (n)
+  case 1 % 0:
+    ;
+}

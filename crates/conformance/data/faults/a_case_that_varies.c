@@ -1,0 +1,7 @@
+int work(int n) {
+  switch (1) {
+  case n:
+    ;
+  }
+  return n;
+}

@@ -1,0 +1,3 @@
+void work(int (*way)(int)) {
+  (int (*)(int, ...))way;
+}

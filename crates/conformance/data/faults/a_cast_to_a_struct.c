@@ -1,0 +1,4 @@
+struct pair { int a; };
+void work(int n) {
+  (struct pair)n;
+}

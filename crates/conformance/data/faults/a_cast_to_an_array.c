@@ -1,0 +1,3 @@
+void work(int *p) {
+  (int[2])p;
+}

@@ -1,0 +1,3 @@
+void work(int c, int a, int b) {
+  c ? a : b = 0;
+}

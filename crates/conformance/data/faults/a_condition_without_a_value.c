@@ -1,0 +1,5 @@
+void stop(void);
+void work(void) {
+  while (stop())
+    ;
+}

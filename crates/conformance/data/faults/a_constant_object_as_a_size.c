@@ -1,0 +1,2 @@
+const int size = 3;
+int row[size];

@@ -1,0 +1,6 @@
+void work(int n) {
+  switch (n) {
+  case 1:
+    continue;
+  }
+}

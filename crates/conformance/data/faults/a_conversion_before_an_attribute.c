@@ -1,0 +1,3 @@
+void work(void) {
+  pthread_mutex_init(1, 1);
+}

@@ -1,0 +1,5 @@
+int main(void) {
+  for (int k = 0; k < 3; k++)
+    ;
+  return k;
+}

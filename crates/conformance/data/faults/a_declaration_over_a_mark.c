@@ -1,0 +1,4 @@
+int a;
+ unsigned
+# 2 "types.h"
+char short b;

@@ -1,0 +1,13 @@
+void work(int n) {
+  switch (n) {
+  default:
+    switch (n) {
+    default:
+      ;
+    }
+    {
+    default:
+      ;
+    }
+  }
+}

@@ -1,0 +1,6 @@
+void work(int n) {
+  while (n) {
+  default:
+    n = 0;
+  }
+}

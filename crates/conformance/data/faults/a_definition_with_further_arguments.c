@@ -1,0 +1,4 @@
+int none;
+static int sum(int n, ...) {
+  return n;
+}

@@ -1,0 +1,3 @@
+long between(int (*p)[2], int *q) {
+  return p - q;
+}

@@ -1,0 +1,2 @@
+int row[3];
+long n = &row[3] - &row[0];

@@ -1,0 +1,2 @@
+int *p = &missing;
+struct node head;

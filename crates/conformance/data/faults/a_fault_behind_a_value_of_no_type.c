@@ -1,0 +1,4 @@
+int main(void) {
+  int int n = n;
+  return n;
+}

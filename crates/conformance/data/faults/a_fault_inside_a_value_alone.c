@@ -1,0 +1,4 @@
+int main(void) {
+  int int n = *(int *)5;
+  return n;
+}

@@ -1,0 +1,3 @@
+void work(char *format) {
+  printf(format, 1);
+}

@@ -1,0 +1,4 @@
+typedef int step(int);
+struct pair {
+  step *way, own;
+};

@@ -1,0 +1,2 @@
+void stop(void);
+void *p = stop;

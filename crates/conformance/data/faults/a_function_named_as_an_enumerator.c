@@ -1,0 +1,3 @@
+enum kind { get, put } get(enum kind k) {
+  return put;
+}

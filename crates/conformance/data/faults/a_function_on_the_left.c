@@ -1,0 +1,4 @@
+int get(void);
+void work(void) {
+  get = get;
+}

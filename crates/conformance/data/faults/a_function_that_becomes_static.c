@@ -1,0 +1,4 @@
+int get(void);
+static int get(void) {
+  return 1;
+}

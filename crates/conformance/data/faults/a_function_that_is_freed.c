@@ -1,0 +1,3 @@
+void work(void) {
+  free(work);
+}

@@ -1,0 +1,2 @@
+typedef int row[3];
+row work(void);

@@ -1,0 +1,5 @@
+void work(int n) {
+  if (n)
+    goto done;
+  n = 1;
+}

@@ -1,0 +1,3 @@
+void work(pthread_t *t) {
+  pthread_join(t, 0);
+}

@@ -1,0 +1,5 @@
+void longjmp(void *, int);
+void work(void *place) {
+  if (place)
+    longjmp(place, 1);
+}

@@ -1,0 +1,3 @@
+int work(void *place) {
+  return setjmp(place);
+}

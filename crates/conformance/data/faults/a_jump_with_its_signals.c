@@ -1,0 +1,3 @@
+int work(void) {
+  return sizeof sigsetjmp;
+}

@@ -1,0 +1,4 @@
+int work(void) {
+again:
+  return again;
+}

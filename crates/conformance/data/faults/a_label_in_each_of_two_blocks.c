@@ -1,0 +1,10 @@
+void work(void) {
+  {
+  here:
+    ;
+  }
+  {
+  here:
+    ;
+  }
+}

@@ -1,0 +1,9 @@
+void first(int n) {
+  if (n) {
+    goto end;
+  }
+}
+void second(void) {
+end:
+  ;
+}

@@ -1,0 +1,7 @@
+void first(void) {
+end:
+  ;
+}
+void second(void) {
+  goto end;
+}

@@ -1,0 +1,7 @@
+void work(int n) {
+again:
+  if (n--) {
+  again:
+    goto again;
+  }
+}

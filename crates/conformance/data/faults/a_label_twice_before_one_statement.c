@@ -1,0 +1,6 @@
+void work(void) {
+here:
+there:
+here:
+  ;
+}

@@ -1,0 +1,1 @@
+static int n = 1 << 31L;

@@ -1,0 +1,4 @@
+void work(void) {
+  void (*give)(void *) = free;
+  give(0);
+}

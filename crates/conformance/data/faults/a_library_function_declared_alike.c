@@ -1,0 +1,5 @@
+void free(void *memory);
+int main(void) {
+  free(0);
+  return 0;
+}

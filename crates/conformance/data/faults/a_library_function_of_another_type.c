@@ -1,0 +1,1 @@
+long rand(void);

@@ -1,0 +1,5 @@
+void work(void) {
+  int n;
+  { int n; }
+  int n;
+}

@@ -1,0 +1,4 @@
+int main(void) {
+  int free = 1;
+  return free - 1;
+}

@@ -1,0 +1,4 @@
+int work(int n) {
+  char n;
+  return n;
+}

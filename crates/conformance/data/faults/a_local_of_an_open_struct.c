@@ -1,0 +1,4 @@
+struct node;
+void work(void) {
+  struct node n;
+}

@@ -1,0 +1,3 @@
+void work(void) {
+  pthread_mutex_lock();
+}

@@ -1,0 +1,2 @@
+# 5 ""
+int n = missing;

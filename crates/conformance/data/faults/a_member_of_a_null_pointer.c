@@ -1,0 +1,2 @@
+struct pair { int a, b; };
+int *p = &((struct pair *)0)->b;

@@ -1,0 +1,5 @@
+struct node { int outer; };
+int work(void) {
+  struct node { int inner; } n = {1};
+  return n.outer;
+}

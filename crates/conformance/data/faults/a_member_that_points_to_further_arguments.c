@@ -1,0 +1,4 @@
+typedef int sum(int, ...);
+struct calls {
+  sum *way;
+};

@@ -1,0 +1,5 @@
+struct node head;
+int main(void) {
+  return head.v;
+}
+struct node { int v; };

@@ -1,0 +1,4 @@
+struct list {
+  int n;
+  int rest[];
+};

@@ -1,0 +1,6 @@
+struct pair {
+  int left, right;
+} both;
+int sum(void) {
+  return both.left + right;
+}

@@ -1,0 +1,6 @@
+void work(void) {
+  goto done;
+end:
+end:
+  ;
+}

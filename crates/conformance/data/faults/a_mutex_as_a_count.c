@@ -1,0 +1,4 @@
+pthread_mutex_t m;
+int work(int n) {
+  return n << m;
+}

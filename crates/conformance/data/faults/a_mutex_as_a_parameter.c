@@ -1,0 +1,1 @@
+void lock_all(int n, pthread_mutex_t m);

@@ -1,0 +1,2 @@
+typedef pthread_mutex_t lock;
+lock make(void);

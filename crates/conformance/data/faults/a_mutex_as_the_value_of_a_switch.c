@@ -1,0 +1,5 @@
+pthread_mutex_t m;
+void work(void) {
+  switch (m)
+    ;
+}

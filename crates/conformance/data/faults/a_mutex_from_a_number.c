@@ -1,0 +1,1 @@
+pthread_mutex_t m = 0;

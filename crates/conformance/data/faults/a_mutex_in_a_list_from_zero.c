@@ -1,0 +1,1 @@
+struct queue { pthread_mutex_t lock; int n; } q = {0};

@@ -1,0 +1,4 @@
+pthread_mutex_t a;
+void work(pthread_mutex_t *b) {
+  a = *b;
+}

@@ -1,0 +1,4 @@
+pthread_mutex_t all[2];
+void work(void) {
+  all[1];
+}

@@ -1,0 +1,4 @@
+pthread_mutex_t m;
+pthread_mutex_t *work(void) {
+  return m;
+}

@@ -1,0 +1,4 @@
+pthread_mutex_t m;
+void work(void) {
+  m++;
+}

@@ -1,0 +1,2 @@
+int *early = &late;
+int late;

@@ -1,0 +1,7 @@
+int main(void) {
+  {
+    int inner = 1;
+    inner = 2;
+  }
+  return inner;
+}

@@ -1,0 +1,4 @@
+int main(void) {
+  int self = sizeof self;
+  return self != sizeof(int);
+}

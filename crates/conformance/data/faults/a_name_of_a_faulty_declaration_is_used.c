@@ -1,0 +1,5 @@
+int n;
+struct pair { int a; } n;
+int main(void) {
+  return n.a + n + missing;
+}

@@ -1,0 +1,4 @@
+int char n;
+int main(void) {
+  return *n + n();
+}

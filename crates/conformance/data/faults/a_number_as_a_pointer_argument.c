@@ -1,0 +1,4 @@
+void give(int *p);
+void work(void) {
+  give(1);
+}

@@ -1,0 +1,3 @@
+int *find(int n) {
+  return n;
+}

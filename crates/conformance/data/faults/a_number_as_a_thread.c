@@ -1,0 +1,4 @@
+pthread_t t;
+void work(void) {
+  t = 0;
+}

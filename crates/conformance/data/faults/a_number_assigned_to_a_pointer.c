@@ -1,0 +1,3 @@
+void work(char *p) {
+  p = 5;
+}

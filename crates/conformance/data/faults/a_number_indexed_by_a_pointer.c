@@ -1,0 +1,3 @@
+int first(int *p) {
+  return 0[p];
+}

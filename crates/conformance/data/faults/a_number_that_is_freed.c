@@ -1,0 +1,3 @@
+void work(int n) {
+  free(n);
+}

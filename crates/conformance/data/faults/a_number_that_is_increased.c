@@ -1,0 +1,3 @@
+void work(void) {
+  5 += 5;
+}

@@ -1,0 +1,2 @@
+int scale(int factor, int limit);
+int twice = 2 * factor;

@@ -1,0 +1,1 @@
+void work(enum { low, high } way, int low);

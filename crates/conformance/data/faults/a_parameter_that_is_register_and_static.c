@@ -1,0 +1,1 @@
+int get(register static int a);

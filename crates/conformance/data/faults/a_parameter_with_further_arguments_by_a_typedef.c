@@ -1,0 +1,2 @@
+typedef int sum(int, ...);
+void work(sum way);

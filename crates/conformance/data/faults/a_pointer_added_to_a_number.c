@@ -1,0 +1,3 @@
+void work(int n, int *p) {
+  n = p + 1;
+}

@@ -1,0 +1,2 @@
+char c;
+int n = &c;

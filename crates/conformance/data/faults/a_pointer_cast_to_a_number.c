@@ -1,0 +1,3 @@
+unsigned long work(void *p) {
+  return (unsigned long)p;
+}

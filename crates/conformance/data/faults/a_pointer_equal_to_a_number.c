@@ -1,0 +1,3 @@
+int is_fifth(int *p) {
+  return p == 5;
+}

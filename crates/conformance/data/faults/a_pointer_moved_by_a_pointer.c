@@ -1,0 +1,3 @@
+void work(int *p, int *q) {
+  p += q;
+}

@@ -1,0 +1,1 @@
+char (*work)(void)[2];

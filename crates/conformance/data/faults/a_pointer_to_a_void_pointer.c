@@ -1,0 +1,2 @@
+int *p;
+void **all = &p;

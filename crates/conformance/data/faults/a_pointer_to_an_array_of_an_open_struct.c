@@ -1,0 +1,3 @@
+struct node {
+  struct node *all[2], (*rows)[2];
+};

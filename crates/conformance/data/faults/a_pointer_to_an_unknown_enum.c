@@ -1,0 +1,1 @@
+void work(int a, enum shade *s);

@@ -1,0 +1,2 @@
+char (*rows)[2];
+char (*rows)[3];

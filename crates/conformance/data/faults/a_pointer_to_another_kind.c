@@ -1,0 +1,3 @@
+void work(int *p, char *c) {
+  c = p;
+}

@@ -1,0 +1,3 @@
+unsigned *work(int *p) {
+  return p;
+}

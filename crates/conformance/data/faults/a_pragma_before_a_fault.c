@@ -1,0 +1,4 @@
+#pragma once "
+int work(int n) {
+  return *n;
+}

@@ -1,0 +1,4 @@
+void stop(void);
+void work(void) {
+  printf("%d", stop());
+}

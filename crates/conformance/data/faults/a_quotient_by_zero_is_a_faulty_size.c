@@ -1,0 +1,1 @@
+char quotient[7 / 0 ? 1 : 1];

@@ -1,0 +1,3 @@
+int work(int *p) {
+  return 3 + p % 2;
+}

@@ -1,0 +1,2 @@
+int (*find(void))[3];
+int (*find(void))[2];

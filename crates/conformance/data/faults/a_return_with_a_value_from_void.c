@@ -1,0 +1,4 @@
+void work(int n) {
+  if (n)
+    return n;
+}

@@ -1,0 +1,5 @@
+int work(int n) {
+  if (n)
+    return;
+  return n;
+}

@@ -1,0 +1,3 @@
+void work(void *s) {
+  sem_wait(s);
+}

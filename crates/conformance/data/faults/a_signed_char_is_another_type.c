@@ -1,0 +1,2 @@
+extern char byte;
+extern char signed byte;

@@ -1,0 +1,2 @@
+int n;
+int row[n], *p = 5;

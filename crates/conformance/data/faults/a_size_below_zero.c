@@ -1,0 +1,1 @@
+int row[sizeof(int) == 8 ? 1 : -1];

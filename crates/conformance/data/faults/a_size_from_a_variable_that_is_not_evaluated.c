@@ -1,0 +1,2 @@
+int n;
+int row[1 ? 3 : n];

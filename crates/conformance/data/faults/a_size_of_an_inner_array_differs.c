@@ -1,0 +1,2 @@
+extern int rows[][3];
+extern int rows[][2];

@@ -1,0 +1,2 @@
+enum { none };
+int row[none];

@@ -1,0 +1,4 @@
+int work(int n) {
+  char buffer[n];
+  return n;
+}

@@ -1,0 +1,1 @@
+int sum(int n, int row[n]);

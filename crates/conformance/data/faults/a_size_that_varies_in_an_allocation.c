@@ -1,0 +1,3 @@
+int (*work(int n))[2] {
+  return malloc(sizeof(int [n]));
+}

@@ -1,0 +1,1 @@
+void work(int (*way)(typedef int n));

@@ -1,0 +1,1 @@
+unsigned n = 1u << 32;

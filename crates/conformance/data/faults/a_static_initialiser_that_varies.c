@@ -1,0 +1,2 @@
+const int base = 3;
+int twice = 2 * base;

@@ -1,0 +1,5 @@
+int n;
+void work(void) {
+  static int n;
+  static int n;
+}

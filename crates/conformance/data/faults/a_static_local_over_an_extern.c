@@ -1,0 +1,5 @@
+int n;
+void work(void) {
+  extern int n;
+  static int n;
+}

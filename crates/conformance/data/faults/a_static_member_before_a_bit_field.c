@@ -1,0 +1,3 @@
+struct flags {
+  static int a : 3;
+};

@@ -1,0 +1,5 @@
+static int n;
+extern int n;
+int main(void) {
+  return n;
+}

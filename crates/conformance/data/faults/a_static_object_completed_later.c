@@ -1,0 +1,2 @@
+static struct node head;
+struct node { int v; };

@@ -1,0 +1,4 @@
+struct node;
+struct node *next(struct node *p) {
+  return p + 1;
+}

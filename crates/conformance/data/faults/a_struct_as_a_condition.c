@@ -1,0 +1,5 @@
+struct pair { int a; } p;
+void work(void) {
+  for (; p;)
+    ;
+}

@@ -1,0 +1,4 @@
+struct pair { int a, b; } p;
+void work(void) {
+  printf("%d", p);
+}

@@ -1,0 +1,2 @@
+struct pair { int a, b; };
+int sum(int n, struct pair p);

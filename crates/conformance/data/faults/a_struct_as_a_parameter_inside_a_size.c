@@ -1,0 +1,2 @@
+struct pair { int a; };
+int n = sizeof(int (*)(struct pair));

@@ -1,0 +1,2 @@
+struct pair { int a; };
+void work(int (*way)(int, struct pair));

@@ -1,0 +1,2 @@
+struct pair;
+int (*way)(struct pair);

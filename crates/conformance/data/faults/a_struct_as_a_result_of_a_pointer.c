@@ -1,0 +1,2 @@
+struct pair { int a; };
+struct pair (*make)(void);

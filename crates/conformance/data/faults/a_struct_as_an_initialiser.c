@@ -1,0 +1,5 @@
+struct pair { int a, b; } p;
+int main(void) {
+  struct pair q = p;
+  return q.a;
+}

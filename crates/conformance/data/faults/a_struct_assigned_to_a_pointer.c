@@ -1,0 +1,4 @@
+struct pair { int a; } p, *q;
+void work(void) {
+  q = p;
+}

@@ -1,0 +1,4 @@
+struct pair { int a; } p;
+void work(pthread_mutex_t *m) {
+  pthread_mutex_init(m, p);
+}

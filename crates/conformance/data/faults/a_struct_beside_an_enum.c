@@ -1,0 +1,3 @@
+struct pair { int a; };
+enum kind { get };
+struct pair enum kind n;

@@ -1,0 +1,4 @@
+struct outer {
+  int a;
+  struct outer { int x; } inner;
+};

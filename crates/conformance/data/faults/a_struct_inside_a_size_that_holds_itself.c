@@ -1,0 +1,1 @@
+int n = sizeof(struct node { struct node next; } *);

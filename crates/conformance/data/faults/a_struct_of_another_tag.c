@@ -1,0 +1,2 @@
+struct left { int n; } l;
+struct right { int n; } *r = &l;

@@ -1,0 +1,2 @@
+struct shape { int x; };
+void work(int n, enum shape *s);

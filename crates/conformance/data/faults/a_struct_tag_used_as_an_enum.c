@@ -1,0 +1,2 @@
+struct shape { int x; };
+enum shape s;

@@ -1,0 +1,3 @@
+struct node {
+  struct node *next, all[2];
+};

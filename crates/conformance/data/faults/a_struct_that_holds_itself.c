@@ -1,0 +1,4 @@
+struct node {
+  int v;
+  struct node next;
+};

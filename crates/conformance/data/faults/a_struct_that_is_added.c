@@ -1,0 +1,4 @@
+struct pair { int a; } p;
+void work(int n) {
+  n += p;
+}

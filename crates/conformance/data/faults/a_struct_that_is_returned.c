@@ -1,0 +1,4 @@
+struct pair { int a, b; } p;
+int work(void) {
+  return p;
+}

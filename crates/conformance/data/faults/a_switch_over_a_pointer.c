@@ -1,0 +1,6 @@
+void work(char *p) {
+  switch (p) {
+  default:
+    ;
+  }
+}

@@ -1,0 +1,4 @@
+struct pair { int left; };
+void work(void) {
+  pair.left = 1;
+}

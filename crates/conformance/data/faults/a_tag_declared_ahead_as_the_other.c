@@ -1,0 +1,2 @@
+struct shade;
+enum shade { dark };

@@ -1,0 +1,2 @@
+int row[];
+int row[3];

@@ -1,0 +1,1 @@
+struct word { char bytes[4]; } w = "abc";

@@ -1,0 +1,1 @@
+char word[3] = "abcd";

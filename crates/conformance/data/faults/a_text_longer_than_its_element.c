@@ -1,0 +1,1 @@
+char words[2][3] = {"abc", {"abcd"}};

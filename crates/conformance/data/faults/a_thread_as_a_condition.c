@@ -1,0 +1,5 @@
+void work(pthread_t t) {
+  do
+    ;
+  while (t);
+}

@@ -1,0 +1,4 @@
+pthread_t t;
+long work(void) {
+  return (long)t;
+}

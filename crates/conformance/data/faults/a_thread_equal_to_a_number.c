@@ -1,0 +1,3 @@
+int work(pthread_t t) {
+  return pthread_equal(t, 0);
+}

@@ -1,0 +1,1 @@
+struct job { int n; pthread_t t; } j = {1, 0};

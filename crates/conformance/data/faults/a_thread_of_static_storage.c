@@ -1,0 +1,1 @@
+pthread_t t = pthread_self();

@@ -1,0 +1,3 @@
+int work(pthread_t t) {
+  return !t;
+}

@@ -1,0 +1,4 @@
+pthread_mutex_t m;
+int work(void *until) {
+  return pthread_mutex_timedlock(&m, until);
+}

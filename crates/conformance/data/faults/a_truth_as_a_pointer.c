@@ -1,0 +1,3 @@
+char *work(_Bool b) {
+  return b;
+}

@@ -1,0 +1,2 @@
+int n;
+_Bool known = 1 && &n;

@@ -1,0 +1,4 @@
+typedef int count;
+int work(int n) {
+  return n + count;
+}

@@ -1,0 +1,4 @@
+void work(void) {
+  typedef int t;
+  extern int t;
+}

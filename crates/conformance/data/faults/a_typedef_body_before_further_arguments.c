@@ -1,0 +1,3 @@
+typedef int work(int n, ...) {
+  return 0;
+}

@@ -1,0 +1,2 @@
+typedef int sum(int, ...);
+sum known, *pointer;

@@ -1,0 +1,3 @@
+typedef auto int work(void) {
+  return 0;
+}

@@ -1,0 +1,2 @@
+typedef int count;
+typedef int count;

@@ -1,0 +1,3 @@
+typedef int work(void) {
+  return 0;
+}

@@ -1,0 +1,2 @@
+typedef int row[];
+row r = {1, 2};

@@ -1,0 +1,2 @@
+int n;
+enum { some = 1 || n };

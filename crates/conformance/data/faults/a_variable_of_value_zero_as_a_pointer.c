@@ -1,0 +1,4 @@
+void work(void) {
+  int zero = 0;
+  int *p = zero;
+}

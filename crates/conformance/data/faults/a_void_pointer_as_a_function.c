@@ -1,0 +1,4 @@
+void work(void *p) {
+  void (*way)(void);
+  way = p;
+}

@@ -1,0 +1,4 @@
+void stop(void);
+void work(int n) {
+  n = stop();
+}

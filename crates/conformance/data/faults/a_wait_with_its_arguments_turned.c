@@ -1,0 +1,5 @@
+pthread_mutex_t m;
+pthread_cond_t c;
+void work(void) {
+  pthread_cond_wait(&m, &c);
+}

@@ -1,0 +1,2 @@
+struct pair { int a; };
+int struct pair *p;

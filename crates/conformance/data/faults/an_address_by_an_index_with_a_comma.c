@@ -1,0 +1,2 @@
+int row[3];
+int *p = &row[(0, 1)];

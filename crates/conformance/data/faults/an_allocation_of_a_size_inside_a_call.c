@@ -1,0 +1,4 @@
+int round(int n);
+char *work(void) {
+  return malloc(round(sizeof(int)));
+}

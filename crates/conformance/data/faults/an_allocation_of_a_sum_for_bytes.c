@@ -1,0 +1,3 @@
+char *work(void) {
+  return malloc(sizeof(int) + 1);
+}

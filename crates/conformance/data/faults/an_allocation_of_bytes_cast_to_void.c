@@ -1,0 +1,3 @@
+char *work(void) {
+  return (void *)malloc(5);
+}

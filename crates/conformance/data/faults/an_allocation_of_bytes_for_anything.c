@@ -1,0 +1,4 @@
+void *work(int n) {
+  void *p = malloc(n);
+  return p;
+}

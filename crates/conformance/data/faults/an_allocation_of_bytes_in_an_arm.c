@@ -1,0 +1,3 @@
+char *work(int c) {
+  return c ? malloc(5) : 0;
+}

@@ -1,0 +1,3 @@
+char *work(int n) {
+  return (malloc(n));
+}

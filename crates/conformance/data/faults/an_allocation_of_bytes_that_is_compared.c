@@ -1,0 +1,3 @@
+int work(char *p) {
+  return p == malloc(5);
+}

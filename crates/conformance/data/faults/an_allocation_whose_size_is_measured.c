@@ -1,0 +1,1 @@
+int n = sizeof malloc(3);

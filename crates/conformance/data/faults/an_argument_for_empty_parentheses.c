@@ -1,0 +1,4 @@
+int get();
+int work(void) {
+  return get(1);
+}

@@ -1,0 +1,1 @@
+int steps[3](void);

@@ -1,0 +1,2 @@
+typedef int step(int);
+step *ways[2], all[2];

@@ -1,0 +1,2 @@
+extern struct node all[3];
+struct node { int v; };

@@ -1,0 +1,2 @@
+struct node;
+void work(struct node *p, struct node all[]);

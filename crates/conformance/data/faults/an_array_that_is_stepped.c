@@ -1,0 +1,4 @@
+int row[2];
+void work(void) {
+  row++;
+}

@@ -1,0 +1,3 @@
+void work(int a, int b) {
+  (a = b) += 1;
+}

@@ -1,0 +1,4 @@
+int n;
+int work(void) {
+  return atomic_load(&n);
+}

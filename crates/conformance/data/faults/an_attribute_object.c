@@ -1,0 +1,2 @@
+pthread_mutexattr_t *known;
+pthread_mutexattr_t unknown;

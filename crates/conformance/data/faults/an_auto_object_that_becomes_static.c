@@ -1,0 +1,2 @@
+auto int n;
+static int n;

@@ -1,0 +1,2 @@
+enum shade s;
+enum shade { dark };

@@ -1,0 +1,3 @@
+struct x {
+  enum x *n;
+};

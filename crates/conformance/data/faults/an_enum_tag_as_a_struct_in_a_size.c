@@ -1,0 +1,2 @@
+enum shade { dark };
+int n = sizeof(struct shade);

@@ -1,0 +1,2 @@
+enum shade { dark };
+struct shade *p;

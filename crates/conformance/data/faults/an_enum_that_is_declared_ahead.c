@@ -1,0 +1,2 @@
+enum shade;
+enum shade { dark };

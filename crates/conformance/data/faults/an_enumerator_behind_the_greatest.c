@@ -1,0 +1,4 @@
+enum {
+  greatest = 2147483647,
+  beyond
+};

@@ -1,0 +1,2 @@
+char c;
+enum { some = &c == 0 };

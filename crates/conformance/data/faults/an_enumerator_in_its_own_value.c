@@ -1,0 +1,1 @@
+enum { first, second = second + 1 };

@@ -1,0 +1,4 @@
+int work(int n) {
+  enum { n };
+  return n;
+}

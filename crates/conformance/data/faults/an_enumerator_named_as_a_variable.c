@@ -1,0 +1,2 @@
+int red;
+enum { green, red };

@@ -1,0 +1,1 @@
+enum { least = -1, most = -1u };

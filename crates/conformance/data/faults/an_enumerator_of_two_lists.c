@@ -1,0 +1,2 @@
+enum { up, down };
+enum { left, up };

@@ -1,0 +1,4 @@
+enum { limit = 3 };
+void work(void) {
+  limit = 4;
+}

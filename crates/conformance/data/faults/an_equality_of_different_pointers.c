@@ -1,0 +1,3 @@
+int same(int *p, char *q) {
+  return p != q;
+}

@@ -1,0 +1,2 @@
+extern int n;
+extern long n;

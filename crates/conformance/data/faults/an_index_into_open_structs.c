@@ -1,0 +1,4 @@
+struct node;
+struct node *second(struct node *p) {
+  return &p[1];
+}

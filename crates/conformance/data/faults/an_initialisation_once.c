@@ -1,0 +1,4 @@
+void first(void);
+void work(void *once) {
+  pthread_once(once, first);
+}

@@ -1,0 +1,2 @@
+extern int row[2];
+int row[] = {1, 2, 3};

@@ -1,0 +1,4 @@
+int main(void) {
+  int row[] = missing;
+  return 0;
+}

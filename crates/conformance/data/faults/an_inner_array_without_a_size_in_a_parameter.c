@@ -1,0 +1,1 @@
+int first(int rows[3][]);

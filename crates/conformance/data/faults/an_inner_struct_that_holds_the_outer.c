@@ -1,0 +1,6 @@
+struct outer {
+  int a;
+  struct inner {
+    struct outer *p, o;
+  } i;
+};

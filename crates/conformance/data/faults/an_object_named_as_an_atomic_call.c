@@ -1,0 +1,4 @@
+int atomic_count;
+void work(void) {
+  atomic_count = 1;
+}

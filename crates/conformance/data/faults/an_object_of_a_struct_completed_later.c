@@ -1,0 +1,5 @@
+struct node head;
+struct node { int v; };
+int main(void) {
+  return head.v;
+}

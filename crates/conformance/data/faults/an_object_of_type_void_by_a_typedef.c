@@ -1,0 +1,2 @@
+typedef void nothing;
+nothing *p, n;

@@ -1,0 +1,2 @@
+int n;
+static int n;

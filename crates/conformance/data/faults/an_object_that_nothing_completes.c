@@ -1,0 +1,4 @@
+struct node head;
+int main(void) {
+  return 0;
+}

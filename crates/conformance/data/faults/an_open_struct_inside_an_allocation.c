@@ -1,0 +1,3 @@
+void *work(void) {
+  return malloc(2 + sizeof(struct node));
+}

@@ -1,0 +1,1 @@
+int n = 1 ? 2 : sizeof(struct node);

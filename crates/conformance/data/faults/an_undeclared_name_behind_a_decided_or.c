@@ -1,0 +1,1 @@
+enum { some = 1 || missing };

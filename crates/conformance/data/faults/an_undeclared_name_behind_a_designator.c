@@ -1,0 +1,1 @@
+int row[2] = {[0] = missing};

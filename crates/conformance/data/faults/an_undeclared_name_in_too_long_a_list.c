@@ -1,0 +1,1 @@
+int row[1] = {1, missing};

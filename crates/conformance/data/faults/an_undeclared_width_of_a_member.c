@@ -1,0 +1,3 @@
+struct flags {
+  int ready : width;
+};

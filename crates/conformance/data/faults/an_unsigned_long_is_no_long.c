@@ -1,0 +1,2 @@
+extern long all;
+extern int unsigned long all;

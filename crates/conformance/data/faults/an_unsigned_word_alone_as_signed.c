@@ -1,0 +1,11 @@
+extern unsigned long all;
+extern int unsigned long all;
+extern long long far;
+extern long int long far;
+extern signed char byte;
+extern char signed byte;
+extern unsigned count;
+extern unsigned int count;
+extern int signed short few;
+extern short few;
+char alone[(unsigned)0 - 1 < 0 ? 1 : -1];

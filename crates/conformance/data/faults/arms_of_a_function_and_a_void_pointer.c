@@ -1,0 +1,4 @@
+int get(void);
+void work(int c, void *p) {
+  c ? get : p;
+}

@@ -1,0 +1,3 @@
+int *pick(int c, int *p) {
+  return c ? p : 5;
+}

@@ -1,0 +1,1 @@
+pthread_mutex_t m = {PTHREAD_MUTEX_INITIALIZER};

@@ -1,0 +1,4 @@
+void *memcpy(void *, const void *, unsigned long);
+void work(char *to, char *from) {
+  memcpy(to, from, 3);
+}

@@ -1,0 +1,3 @@
+void *work(unsigned key) {
+  return pthread_getspecific(key);
+}

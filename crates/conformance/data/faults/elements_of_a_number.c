@@ -1,0 +1,3 @@
+char *work(int n) {
+  return calloc(n, 1);
+}

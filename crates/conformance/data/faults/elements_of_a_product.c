@@ -1,0 +1,3 @@
+int *work(int n) {
+  return calloc(1, n * sizeof(int));
+}

@@ -1,0 +1,1 @@
+int *p = (int *)5; int main(void) { return 0; }

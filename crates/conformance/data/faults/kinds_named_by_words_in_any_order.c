@@ -1,0 +1,16 @@
+extern unsigned long all;
+extern int unsigned long all;
+extern long long far;
+extern long int long far;
+extern signed char byte;
+extern char signed byte;
+extern unsigned count;
+extern unsigned int count;
+extern int signed short few;
+extern short few;
+char words[sizeof(int unsigned long) == 8 && (int unsigned long)0 - 1 > 0 ? 1 : -1];
+char twice[sizeof(long int long) == 8 && (long int long)0 - 1 < 0 ? 1 : -1];
+char small[sizeof(char signed) == 1 && (char signed)255 == -1 && sizeof(char unsigned) == 1 && (char unsigned)-1 == 255 ? 1 : -1];
+char alone[sizeof(unsigned) == 4 && (unsigned)0 - 1 > 0 && sizeof(signed) == 4 && (signed)0 - 1 < 0 ? 1 : -1];
+char truth[sizeof(_Bool) == 1 && (_Bool)2 == 1 ? 1 : -1];
+char short_words[sizeof(int short) == 2 && (int short unsigned)-1 == 65535 && sizeof(long unsigned long) == 8 ? 1 : -1];

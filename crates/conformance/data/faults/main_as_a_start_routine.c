@@ -1,0 +1,4 @@
+int main(void) {
+  pthread_t t;
+  return pthread_create(&t, 0, main, 0);
+}

@@ -1,0 +1,3 @@
+int main(const int count, char *words[]) {
+  return count && words[0] == 0;
+}

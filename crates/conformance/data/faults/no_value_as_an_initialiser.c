@@ -1,0 +1,4 @@
+int work(void) {
+  int n = (void)0;
+  return n;
+}

@@ -1,0 +1,4 @@
+int row[3];
+void work(void) {
+  puts(row);
+}

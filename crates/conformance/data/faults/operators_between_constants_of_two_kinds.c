@@ -1,0 +1,14 @@
+char difference[2 - 3u == 4294967295u && 2 - 3u > 0 && sizeof(2 - 3u) == 4 ? 1 : -1];
+char sum[(char)97 + 1L == 98 && (char)97 + 1L - 99 < 0 && sizeof((char)97 + 1L) == 8 ? 1 : -1];
+char less[(-1 < 1u) == 0 && (-1 < 1u) - 1 < 0 && sizeof(-1 < 1u) == 4 ? 1 : -1];
+char quotient[(1 ? 5 : 7 / 0) == 5 && (1 ? -1 : 7 / 0) < 0 && sizeof(7 / 0) == 4 ? 1 : -1];
+char left[(1 ? 5 : 1 << 31L) == 5 && (1 ? -1 : 1 << 31L) < 0 && sizeof(1 << 31L) == 4 ? 1 : -1];
+char right[256L >> (char)4 == 16 && (256L >> (char)4) - 17 < 0 && sizeof(256L >> (char)4) == 8 ? 1 : -1];
+char both[(2 && 1L) == 1 && (2 && 1L) - 2 < 0 && sizeof(2 && 1L) == 4 ? 1 : -1];
+char either[(0 || 0) == 0 && (0 || 0) - 1 < 0 && sizeof(0 || 0) == 4 ? 1 : -1];
+char differ[((unsigned char)255 ^ (_Bool)1) == 254 && ((unsigned char)255 ^ (_Bool)1) - 255 < 0 && sizeof((unsigned char)255 ^ (_Bool)1) == 4 ? 1 : -1];
+char product[(short)-3 * 4 == -12 && 65536u * 65536u == 0 && sizeof((short)3 * (char)4) == 4 && sizeof(3 * 4ul) == 8 ? 1 : -1];
+char rest[-7 % 3 == -1 && 7u % 4 - 4 > 0 && sizeof(7L % 3u) == 8 ? 1 : -1];
+char common[(12 & 10L) == 8 && (12 | 3u) - 16 > 0 && sizeof(12 & 10L) == 8 && sizeof(12 | 3u) == 4 ? 1 : -1];
+char equal[(-1 == 4294967295u) == 1 && (-1L != 4294967295u) == 1 && sizeof(1L == 1L) == 4 ? 1 : -1];
+char orders[(1 > 2) == 0 && (2 >= 2L) == 1 && (-1L <= 0u) == 1 && sizeof(1L >= 2L) == 4 ? 1 : -1];

@@ -1,0 +1,4 @@
+struct pair { int a; } p, q;
+int work(void) {
+  return p == q;
+}

@@ -1,0 +1,1 @@
+char (*whole)[2] = &"ab";

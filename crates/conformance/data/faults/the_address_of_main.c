@@ -1,0 +1,2 @@
+int main(int, char **);
+int (*first)(int, char **) = &main;

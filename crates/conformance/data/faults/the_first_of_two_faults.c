@@ -1,0 +1,4 @@
+void work(int *p) {
+  p = 1;
+  1 = missing;
+}

@@ -1,0 +1,3 @@
+int work(int *p) {
+  return -p == p;
+}

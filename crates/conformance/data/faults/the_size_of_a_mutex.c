@@ -1,0 +1,3 @@
+int main(void) {
+  return sizeof(pthread_mutex_t) == 8;
+}

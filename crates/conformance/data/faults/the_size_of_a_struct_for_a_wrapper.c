@@ -1,0 +1,5 @@
+struct pair { int a, b; };
+void *get(size_t n);
+void *work(void) {
+  return get(sizeof(struct pair));
+}

@@ -1,0 +1,4 @@
+struct pair { int a, b; } p;
+unsigned long work(struct pair *q) {
+  return sizeof q + sizeof *q;
+}

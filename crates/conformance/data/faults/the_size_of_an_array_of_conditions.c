@@ -1,0 +1,4 @@
+pthread_cond_t all[3];
+int main(void) {
+  return sizeof all;
+}

@@ -1,0 +1,2 @@
+struct node *first;
+unsigned long n = sizeof *first;

@@ -1,0 +1,1 @@
+static extern enum { dark = missing } s;

@@ -1,0 +1,4 @@
+void work(void) {
+  int n;
+  static int *p = &n;
+}

@@ -1,0 +1,3 @@
+int n;
+int *p = &n;
+int *q = p;

@@ -1,0 +1,3 @@
+int work(long n) {
+  return !*n;
+}

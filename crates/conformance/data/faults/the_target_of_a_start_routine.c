@@ -1,0 +1,6 @@
+void *w(void *q) {
+  return q;
+}
+void work(pthread_t *t) {
+  pthread_create(t, 0, *w, 0);
+}

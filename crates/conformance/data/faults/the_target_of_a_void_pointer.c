@@ -1,0 +1,3 @@
+int work(void *p) {
+  return *p;
+}

@@ -1,0 +1,4 @@
+int next(void);
+int work(void) {
+  return next(3);
+}

@@ -1,0 +1,1 @@
+char words[2][2] = {"ab", "cd", "ef"};

@@ -1,0 +1,2 @@
+extern int n = 1;
+extern int n = 2;

@@ -1,0 +1,4 @@
+void work(void) {
+  int get(void), get(void);
+  int get(int);
+}

@@ -1,0 +1,1 @@
+char word[4] = {{"abc"}};

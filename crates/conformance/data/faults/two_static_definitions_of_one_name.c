@@ -1,0 +1,2 @@
+static int n = 1;
+static int n = 2;

@@ -1,0 +1,6 @@
+struct left {
+  struct right r;
+};
+struct right {
+  struct left l;
+};

@@ -1,0 +1,1 @@
+char word[8] = {"ab", "cd"};

@@ -1,0 +1,2 @@
+int n;
+unsigned char short s;

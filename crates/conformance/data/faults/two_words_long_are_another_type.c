@@ -1,0 +1,2 @@
+extern long far;
+extern long int long far;

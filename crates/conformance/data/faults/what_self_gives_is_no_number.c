@@ -1,0 +1,4 @@
+int main(void) {
+  int n = pthread_self();
+  return n;
+}

@@ -1,0 +1,3 @@
+void work(int n) {
+  int *p = 0 * n;
+}

@@ -1,0 +1,152 @@
+-- The head of a definition: its specifiers, its declarator and its name, with the codes of the definition itself.
+use Rattle.std.proofs.Common.{◌≡◌, ◌∙◌, ◌++◌, ℕ, false, List, [], ◌∷◌, Option, ap, subst, append_assoc}
+use Rattle.std.specs.Option.{option_map}
+use Rattle.std.specs.Prelude.{IfSome}
+use Rattle.lk_base.specs.declared.spot.Spot.{Spot}
+use Rattle.lk_tree.specs.declared.statement.Function.{Function}
+use Rattle.lk_types.specs.Table.{IsKnown}
+use Rattle.lk_typed.specs.DeclarationRules.{AtFile, Defined, InDefinition, definition_rules, type_in}
+use Rattle.lk_typed.specs.DeclaratorRules.{of_type}
+use Rattle.lk_typed.specs.Env.{Env, extend}
+use Rattle.lk_typed.specs.Expressions.{declarator_found}
+use Rattle.lk_typed.specs.Faults.{Breach}
+use Rattle.lk_typed.specs.HolderRules.{all_specifier_rules}
+use Rattle.lk_typed.specs.Layers.{type_made}
+use Rattle.lk_typed.specs.Meaning.{meaning}
+use Rattle.lk_typed.specs.NodeParts.{defined_left, result_of}
+use Rattle.lk_typed.specs.NodeRules.{mark, struct_bound_rules}
+use Rattle.lk_typed.specs.Nodes.{ADeclarator, Declares, NameUse, Placed, at}
+use Rattle.lk_typed.specs.Parts.{specifiers_parts}
+use Rattle.lk_typed.specs.Stands.{Mark}
+use Rattle.lk_typed.specs.Told.{DeclaratorTold, SpecifierTold}
+use Rattle.lk_typed.specs.Ty.{Ty}
+use Rattle.lk_rules.specs.Keeping.{Kept, KeepsCodes}
+use Rattle.lk_check_walk.proofs.GoingOn.{scope_known, type_same}
+use Rattle.lk_check_walk.proofs.WalkedForms.{scope_stays}
+use Rattle.lk_check_walk.specs.Declarators.{FindsDeclarator, IsDeclared, IsKnownFound, codes_of_use, left_of, name_codes}
+use Rattle.lk_check_walk.specs.Keepings.{Codes, KeepsAll, codes_at}
+use Rattle.lk_check_walk.specs.Specified.{breaches_in}
+use Rattle.lk_check_walk.specs.Specifying.{AreSpecified, IsSame, KeepsAt, Specifies}
+use Rattle.lk_check_walk.specs.Walking.{IsFurther}
+use Rattle.lk_check_walk.specs.Walks.{IsSound, kept_in, mark_at}
+use Rattle.lk_check_walk.specs.declared.checker.Checker.{Checker}
+use Rattle.lk_check_walk.specs.declared.declarators.DeclaratorFound.{DeclaratorFound}
+use Rattle.lk_check_walk.specs.declared.found.At.{At}
+use Rattle.lk_check_walk.specs.declared.gathered.Specified.{Specified}
+use Rattle.lk_check_unit.specs.Bodies.{IsPlain}
+use Rattle.lk_check_unit.specs.Definitions.{FunctionIsNamed, Heads, IsHeaded, IsKnownHeaded, NamesFunction, behind_specifiers, specifiers_of, type_defined}
+use Rattle.lk_check_unit.specs.declared.definitions.Headed.{Headed}
+use Rattle.lk_check_unit.proofs.Declares.{no_bound, use_is_named}
+use Rattle.lk_check_unit.proofs.Later.{codes_first, codes_joined, codes_turned_back, nodes_first}
+use Rattle.lk_check_unit.proofs.Naming.{in_same}
+
+pub marked : (place : At) (s : Spot) (n : ℕ) → place.spot ≡ s → place.ordinal ≡ n → mark_at place ≡ mark s n
+marked place s n p q = ap (λ t. mark t place.ordinal) p ∙ ap (mark s) q
+
+-- the state is that where a head begins, behind its specifiers, their codes, its declarator, code 40, and its name
+module _ (c0 c1 c2 c3 c4 c5 : Checker) (node : Function) (specified : Specified) (declared : DeclaratorFound) (returned : Option ℕ) (place : At)
+    (marks : mark_at place ≡ mark node.spot node.ordinal)
+    (specifies : Specifies c0 c1 InDefinition false false node.specifiers specified)
+    (own : KeepsAt c1 c2 place (breaches_in specified.breaches.items)) (same12 : IsSame c1 c2)
+    (finds : FindsDeclarator c2 c3 specified.ty node.declarator (record { may_be_absent = false; in_size = false }) declared)
+    (dots : KeepsAt c3 c4 place (definition_rules (option_map (meaning c3.types) declared.ty))) (same34 : IsSame c3 c4)
+    (names : NamesFunction c4 c5 specified.storages.items node.declarator declared.ty)
+    (sound3 : IsSound c3) (further : IsFurther c3 c5) (known : IsKnownFound c3 declared)
+    (returned_is : option_map (meaning c5.types) returned ≡ result_of (option_map (meaning c5.types) declared.ty)) where
+  abbrev headed : Headed
+  headed = record { returned = returned; parameters = declared.parameters }
+
+  headed_so : (at_end env : Env) → IsPlain c0 env → IsHeaded at_end env c0 c5 node headed
+  headed_so at_end env plain =
+      record {
+        behind = named.behind;
+        returned = returned_is ∙ ap result_of (type_same c3 c5 sound3 further declared.ty known.type ∙ type_is);
+        parameters = scope_stays c3 c5 further.longer sound3 further.sound.ready.table_is declared.parameters known.parameters ∙ decl.parameters;
+        keeps = keeps;
+      }
+    where
+      sp : AreSpecified at_end c0 c1 env InDefinition false node.specifiers specified
+      sp = specifies at_end env (record { is_in = plain.is_in; role = plain.role; in_size = plain.in_size })
+
+      S : SpecifierTold
+      S = specifiers_of env node
+
+      here : Env
+      here = behind_specifiers env node
+
+      inner : DeclaratorTold
+      inner = declarator_found node.declarator
+
+      left : Option Ty
+      left = type_in InDefinition S
+
+      T : Option Ty
+      T = type_defined env node
+
+      after : Env
+      after = extend here (inner.additions here)
+
+      left_is : option_map (meaning c2.types) specified.ty ≡ left
+      left_is = ap (λ t. option_map (meaning t) specified.ty) same12.types ∙ sp.specified.type
+
+      decl : IsDeclared at_end c2 c3 here specified.ty node.declarator (record { may_be_absent = false; in_size = false }) declared
+      decl = finds at_end here (record { is_in = in_same c1 c2 same12 here sp.walks.behind; role = plain.role; in_size = plain.in_size })
+
+      type_is : option_map (meaning c3.types) declared.ty ≡ T
+      type_is = decl.type ∙ ap (λ t. type_made here false t inner) left_is
+
+      named : FunctionIsNamed at_end c4 c5 after S.storages inner.name T
+      named =
+          subst (λ t. FunctionIsNamed at_end c4 c5 after S.storages inner.name t) (ap (λ t. option_map (meaning t) declared.ty) same34.types ∙ type_is)
+          (subst (λ ss. FunctionIsNamed at_end c4 c5 after ss inner.name (option_map (meaning c4.types) declared.ty)) sp.specified.storages (names at_end after (in_same c3 c4 same34 after decl.behind)))
+
+      used : NameUse
+      used = Declares AtFile S.storages Defined 0 at_end
+
+      KeepsSo : Option Ty → Type 0
+      KeepsSo t = (others : List Placed) (later : List Codes) (last : Kept) → KeepsAll at_end (kept_in c3) others (codes_of_use here (left_of here false t node.declarator used) node.declarator ++ later) last →
+          KeepsAll at_end (kept_in c2) (at here (ADeclarator (left_of here false t node.declarator used) node.declarator) ∷ others) later last
+
+      kept_so : KeepsSo left
+      kept_so = subst KeepsSo left_is (decl.keeps used)
+
+      m : Mark
+      m = mark node.spot node.ordinal
+
+      own_rules : List Breach
+      own_rules = all_specifier_rules InDefinition false env node.specifiers
+
+      dots_so : KeepsCodes (kept_in c3) m (definition_rules T) (kept_in c4)
+      dots_so = subst (λ n. KeepsCodes (kept_in c3) n (definition_rules T) (kept_in c4)) marks (subst (λ t. KeepsAt c3 c4 place (definition_rules t)) type_is dots)
+
+      own_so : KeepsCodes (kept_in c1) m own_rules (kept_in c2)
+      own_so = subst (λ n. KeepsCodes (kept_in c1) n own_rules (kept_in c2)) marks (subst (KeepsAt c1 c2 place) sp.specified.breaches own)
+
+      specs : List Placed
+      specs = specifiers_parts false env node.specifiers
+
+      keeps : (others : List Placed) (more : List Codes) (last : Kept) → KeepsAll at_end (kept_in c5) others more last →
+          KeepsAll at_end (kept_in c0) (specs ++ at here (ADeclarator (defined_left S at_end here node) node.declarator) ∷ others) (codes_at m (own_rules ++ definition_rules T) ∷ more) last
+      keeps others more last kept =
+          let ns = name_codes after T used inner.name in
+          let d = at here (ADeclarator (defined_left S at_end here node) node.declarator) in
+          let k3 : KeepsAll at_end (kept_in c3) others (codes_at m (definition_rules T) ∷ (ns ++ more)) last =
+          codes_first at_end (kept_in c3) (kept_in c4) last others m (definition_rules T) (ns ++ more) dots_so (named.keeps others more last kept) in
+          let turned : KeepsAll at_end (kept_in c3) others (ns ++ (codes_at m (definition_rules T) ∷ more)) last =
+          subst (λ cs. KeepsAll at_end (kept_in c3) others cs last) (append_assoc ns (codes_at m (definition_rules T) ∷ []) more)
+          (codes_turned_back at_end (kept_in c3) last others ns (codes_at m (definition_rules T) ∷ []) more k3) in
+          let k2 : KeepsAll at_end (kept_in c2) (d ∷ others) (codes_at m (definition_rules T) ∷ more) last =
+          kept_so others (codes_at m (definition_rules T) ∷ more) last
+          (use_is_named at_end (kept_in c3) last others ns (mark node.declarator.spot node.declarator.ordinal) (of_type T (struct_bound_rules after used)) (codes_at m (definition_rules T) ∷ more)
+          (no_bound after AtFile S.storages Defined 0 at_end T) turned) in
+          codes_joined at_end (kept_in c0) last (specs ++ d ∷ others) m own_rules (definition_rules T) more
+          (nodes_first at_end (kept_in c0) (kept_in c1) last specs (d ∷ others) (codes_at m own_rules ∷ codes_at m (definition_rules T) ∷ more) sp.walks.keeps
+          (codes_first at_end (kept_in c1) (kept_in c2) last (d ∷ others) m own_rules (codes_at m (definition_rules T) ∷ more) own_so k2))
+
+  pub head_walked : Heads node c0 c5 headed
+  head_walked = headed_so
+
+-- what is known of it where its declarator ends is known behind its name
+pub head_known : (c3 c5 : Checker) (declared : DeclaratorFound) (returned : Option ℕ) → IsSound c3 → IsFurther c3 c5 → IsKnownFound c3 declared → IfSome returned (IsKnown c5.types) →
+    IsKnownHeaded c5 (record { returned = returned; parameters = declared.parameters })
+head_known c3 c5 declared returned sound further known result = record { returned = result; parameters = scope_known c3 c5 sound further declared.parameters known.parameters }

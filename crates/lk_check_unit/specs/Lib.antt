@@ -1,0 +1,13 @@
+pub mod Asking
+pub mod Bodies
+pub mod Composites
+pub mod Converting
+pub mod Declaring
+pub mod Definitions
+pub mod InitDeclarators
+pub mod Initialising
+pub mod Labelled
+pub mod Later
+pub mod Scoping
+pub mod Sources
+pub mod Writing

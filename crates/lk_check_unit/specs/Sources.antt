@@ -1,0 +1,51 @@
+-- What a walk over the external declarations of a source leaves behind (C99 6.9), and what is told of a source.
+use Rattle.std.specs.Prelude.{◌≡◌, true, Option, Some, None, List, [], ◌∷◌, if◌then◌else◌}
+use Rattle.std.specs.HashSet.{HashSet, contains_by}
+use Rattle.lk_base.specs.declared.refusal.Refusal.{Refusal}
+use Rattle.lk_tree.specs.declared.statement.Decl.{Decl}
+use Rattle.lk_tree.specs.declared.statement.Unit.{Unit}
+use Rattle.lk_typed.specs.Env.{Env, Additions, Name, both, extend, is_name, is_one_of, nothing}
+use Rattle.lk_typed.specs.Faults.{Fault}
+use Rattle.lk_typed.specs.NodeParts.{external_adds, externals_in_turn}
+use Rattle.lk_typed.specs.Nodes.{AnExternal, at}
+use Rattle.lk_typed.specs.Units.{IsFaultOf, IsFirstFault}
+use Rattle.lk_check_decl.specs.declared.words.Scope.TheVariants.{File}
+use Rattle.lk_check_walk.specs.Walks.{refusal_of}
+use Rattle.lk_check_walk.specs.declared.checker.Checker.{Checker}
+use Rattle.lk_check_unit.specs.Bodies.{IsPlain}
+use Rattle.lk_check_unit.specs.InitDeclarators.{PutsPending}
+use Rattle.lk_check_unit.specs.Later.{WalksBut, pending_codes}
+use Rattle.lk_check_unit.specs.declared.pending.Pending.{Pending}
+
+-- ---- external declarations
+
+pub record WalksExternal (old new : Checker) (d : Decl) (before after : List Pending) : Type 0 where
+  pub puts : PutsPending new.types File before after
+  pub walks : (at_end env : Env) → IsPlain old env →
+      WalksBut at_end old new env (external_adds env d) (at env (AnExternal d) ∷ []) (pending_codes new.types at_end puts.fresh)
+
+-- what they add, each behind those before it
+abbrev pub externals_add : Env → List Decl → Additions
+externals_add env [] = nothing
+externals_add env (d ∷ ds) = let a = external_adds env d in both a (externals_add (extend env a) ds)
+
+pub record WalksExternals (old new : Checker) (ds : List Decl) (before after : List Pending) : Type 0 where
+  pub puts : PutsPending new.types File before after
+  pub walks : (at_end env : Env) → IsPlain old env → WalksBut at_end old new env (externals_add env ds) (externals_in_turn env ds) (pending_codes new.types at_end puts.fresh)
+
+-- ---- names in sets
+
+-- a set of exactly these names
+abbrev pub IsSetOf : {S : Type 0} → List Name → HashSet Name S → Type 0
+IsSetOf names set = (name : Name) → is_one_of names name ≡ contains_by (is_name name) set
+
+-- these names are in the set with those before them
+abbrev pub PutsNames : {S : Type 0} → List Name → HashSet Name S → HashSet Name S → Type 0
+PutsNames names old new = (name : Name) → contains_by (is_name name) new ≡ (if is_one_of names name then true else contains_by (is_name name) old)
+
+-- ---- the answer of the checker
+
+-- the refusal by the least fault of a source; none exactly where it has no fault
+abbrev pub TellsFirst : List Name → Unit → Option Refusal → Type 0
+TellsFirst externs unit None = (f : Fault) → IsFaultOf externs unit f → ⊥
+TellsFirst externs unit (Some refusal) = (f : Fault) × IsFirstFault externs unit f × (refusal ≡ refusal_of f)

@@ -1,0 +1,96 @@
+//! The check of a source.
+ghost use Rattle.std.specs.Prelude.{◌∷◌, [], IfOk, OnOk};
+ghost use Rattle.lk_tree.specs.declared.statement.Decl.TheVariants as decl;
+ghost use Rattle.lk_typed.specs.Units as spec;
+ghost use Rattle.lk_predeclared.specs.Beginning.{IsOutsideOf};
+ghost use Rattle.lk_check_unit.specs.Sources.{IsSetOf, PutsNames, TellsFirst};
+
+use crate::at_end::ask_pending;
+use crate::declarations::nothing_pending;
+use crate::externals::externals;
+use indexmap::IndexSet;
+use lk_base::{Name, NoMemory, Refusal};
+use lk_check_walk::{Outside, declared_name};
+use lk_predeclared::begin;
+use lk_tree::{Decl, Function, Unit};
+use std::alloc::Global;
+
+/// Puts a name into a set.
+fn put_name(name: &Name, out: &mut IndexSet<Name>) -> Result<(), NoMemory>
+    ensures { OnOk result (PutsNames (name.now ∷ []) out.old out.new) }
+{
+    let name = name.copy()?;
+    out.insert(name)?;
+    Ok(())
+}
+
+/// Puts the name of a function that is defined.
+fn put_function(node: &Function, out: &mut IndexSet<Name>) -> Result<(), NoMemory>
+    ensures { OnOk result (PutsNames (spec.defined_by (decl.Function node.now)) out.old out.new) }
+{
+    match declared_name(&node.declarator) {
+        Some(named) => put_name(named.name, out),
+        None => Ok(()),
+    }
+}
+
+/// Puts the name of the function that an external declaration defines, where it is a definition.
+fn put_defined(d: &Decl, out: &mut IndexSet<Name>) -> Result<(), NoMemory>
+    ensures { OnOk result (PutsNames (spec.defined_by d.now) out.old out.new) }
+{
+    match d {
+        Decl::Function(node) => put_function(node, out),
+        Decl::Declare(_) | Decl::Empty(_) => Ok(()),
+    }
+}
+
+/// The names of the functions that a source defines.
+fn defined_in(alloc: Global, list: &[Decl]) -> Result<IndexSet<Name>, NoMemory>
+    ensures { IfOk result (IsSetOf (spec.defined_in list.now)) }
+{
+    let mut names = IndexSet::new(alloc);
+    for d in list {
+        put_defined(d, &mut names)?;
+    }
+    Ok(names)
+}
+
+/// These names as a set.
+fn set_of(alloc: Global, list: &[Name]) -> Result<IndexSet<Name>, NoMemory>
+    ensures { IfOk result (IsSetOf list.now) }
+{
+    let mut names = IndexSet::new(alloc);
+    for name in list {
+        put_name(name, &mut names)?;
+    }
+    Ok(names)
+}
+
+/// What is known of a source before it is checked.
+fn outside(alloc: Global, unit: &Unit, externs: &[Name]) -> Result<Outside, NoMemory>
+    ensures { IfOk result (λ outside. IsOutsideOf outside externs.now unit.now) }
+{
+    Ok(Outside {
+        defined: defined_in(alloc, unit.externals.list())?,
+        externs: set_of(alloc, externs)?,
+    })
+}
+
+/// The refusal by the least fault of a source, where it has one. `externs` are the names that `--externs`
+/// lists.
+///
+/// `Err` comes for want of memory.
+pub fn check_faults(
+    alloc: Global,
+    unit: &Unit,
+    externs: &[Name],
+) -> Result<Option<Refusal>, NoMemory>
+    ensures { IfOk result (TellsFirst externs.now unit.now) }
+{
+    let outside = outside(alloc, unit, externs)?;
+    let mut checker = begin(alloc, outside)?;
+    let mut pending = nothing_pending(alloc);
+    externals(&mut checker, unit.externals.list(), &mut pending)?;
+    ask_pending(&mut checker, pending.list())?;
+    Ok(checker.first_fault())
+}

@@ -1,0 +1,293 @@
+-- The arms of the walk over a specifier.
+use Rattle.std.proofs.Common.{◌≡◌, ◌∙◌, ◌++◌, ℕ, zero, suc, arith, Bool, true, false, List, [], ◌∷◌, Option, Some, None, map, refl, sym, ap, subst}
+use Rattle.std.specs.Prelude.{◌||◌, ◌<◌, not, length, if◌then◌else◌, slice_get, slice_set}
+use Rattle.std.proofs.lemmas.Bool.{false≢true}
+use Rattle.std.proofs.lemmas.List.{length-set}
+use Rattle.std.proofs.lemmas.Option.{slice_get_within}
+use Rattle.std.proofs.lemmas.List.{append-nil}
+use Rattle.lk_types.specs.Building.{IsLonger}
+use Rattle.lk_types.specs.Table.{Table, is_empty}
+use Rattle.lk_tree.specs.declared.expression.Item.{Item}
+use Rattle.lk_tree.specs.declared.expression.Member.{Member}
+use Rattle.lk_tree.specs.declared.expression.Specifier.{Specifier, out-Specifier, out-roll-Specifier, roll-Specifier}
+use Rattle.lk_tree.specs.declared.specifiers.Storage.{Storage}
+use Rattle.lk_tree.specs.declared.specifiers.TypeWord.{TypeWord}
+use Rattle.lk_typed.specs.Env.{AStructTag, AnEnumTag, Additions, Completes, Env, Faulty, Field, Known, Name, both, extend, nothing}
+use Rattle.lk_typed.specs.Expressions.{item_found, member_found, specifier_found}
+use Rattle.lk_typed.specs.Faults.{Breach}
+use Rattle.lk_typed.specs.HolderRules.{one_tag_rules, optional_tag_rules}
+use Rattle.lk_typed.specs.Nodes.{Placed}
+use Rattle.lk_typed.specs.Parts.{items_parts, members_parts, specifier_parts}
+use Rattle.lk_typed.specs.Redeclared.{DefinesEnum, DefinesStruct, may_use}
+use Rattle.lk_typed.specs.Telling.{of_specifier}
+use Rattle.lk_typed.specs.Told.{MemberTold, SpecifierTold, before_first, enum_defined, enum_tag, items_hold_sizeof, items_in_turn, known_or_faulty, members_in_turn, members_made, no_member, no_specifier, of_type_alone, steps, struct_begins, struct_defined, struct_meant_by, tag_additions, tag_found, then_specifier}
+use Rattle.lk_typed.specs.Ty.{Struct, Ty, int}
+use Rattle.lk_typed.specs.Typings.{field_in}
+use Rattle.lk_typed.specs.declared.members.Field.{Field as CodeField}
+use Rattle.lk_typed.specs.declared.members.Members.{Members as CodeMembers}
+use Rattle.lk_typed.specs.declared.members.Members.TheVariants as code
+use Rattle.lk_typed.specs.declared.members.Members.TheVariants.{Begun}
+use Rattle.lk_rules.proofs.Kept.{nothing_is_kept}
+use Rattle.lk_rules.proofs.Layered.{specifiers_follow_their_forms}
+use Rattle.lk_rules.specs.Keeping.{KeepsNodes}
+use Rattle.lk_rules.specs.LayerLaws.{SpecifierTree, specifier_parts_told}
+use Rattle.lk_check_walk.proofs.Gathers.{both_assoc, or_false, stands_behind}
+use Rattle.lk_check_walk.proofs.KeepsAll.{sound_same}
+use Rattle.lk_check_walk.proofs.NamedTypes.{gathered_stays}
+use Rattle.lk_names.specs.InScope.{InScope}
+use Rattle.lk_check_walk.proofs.States.{extend_both, longer_same, longer_then}
+use Rattle.lk_check_walk.proofs.Walking.{no_walk, then_walks}
+use Rattle.lk_check_walk.specs.Counting.{CountsAll}
+use Rattle.lk_check_walk.specs.MembersOf.{AreMembers, FindsAll}
+use Rattle.lk_check_walk.specs.Moves.{GoesOn, Grows, KeepsBegun}
+use Rattle.lk_check_walk.specs.Naming.{IsSpecifierPut}
+use Rattle.lk_check_walk.specs.Specified.{AreOthers, IsGathered}
+use Rattle.lk_check_walk.specs.Specifying.{AreGathered, BeginsStruct, IsSame, IsTagUse, KeepsOthersBegun, PutsType}
+use Rattle.lk_check_walk.specs.Walking.{IsFurther, operand_in}
+use Rattle.lk_check_walk.specs.Walks.{IsIn, IsSound, StandsIn, Walks, kept_in}
+use Rattle.lk_check_walk.specs.declared.checker.Checker.{Checker}
+use Rattle.lk_check_walk.specs.declared.defining.BegunStruct.{BegunStruct}
+use Rattle.lk_check_walk.specs.declared.fields.MembersFound.{MembersFound}
+use Rattle.lk_check_walk.specs.declared.gathered.Gathered.{Gathered}
+
+-- ---- walks that keep no code
+
+module _ (at_end : Env) (old new : Checker) (env : Env) (a : Additions) where
+  pub grow_walks : IsFurther old new → kept_in new ≡ kept_in old → IsIn new (extend env a) → Walks at_end old new env a []
+  grow_walks further kept inside = record {
+    longer = further.longer;
+    sound = further.sound;
+    outside = further.outside;
+    begun = further.begun;
+    behind = inside;
+    keeps = subst (KeepsNodes at_end (kept_in old) []) (sym kept) (nothing_is_kept at_end (kept_in old));
+  }
+
+pub walks_grow : (at_end : Env) (old middle new : Checker) (env : Env) (a b : Additions) (ps : List Placed) → Walks at_end old middle env a ps → Grows middle new →
+    KeepsBegun old.names.structs new.names.structs → IsIn new (extend (extend env a) b) → Walks at_end old new env (both a b) ps
+walks_grow at_end old middle new env a b ps walks grows begun inside = record {
+  longer = longer_then old.types middle.types new.types walks.longer grows.longer;
+  sound = grows.sound;
+  outside = grows.outside ∙ walks.outside;
+  begun = begun;
+  behind = subst (IsIn new) (extend_both env a b) inside;
+  keeps = subst (KeepsNodes at_end (kept_in old) ps) (sym grows.kept) walks.keeps;
+}
+
+pub grows_further : (old new : Checker) → Grows old new → KeepsBegun old.names.structs new.names.structs → IsFurther old new
+grows_further old new grows begun = record { longer = grows.longer; sound = grows.sound; outside = grows.outside; begun = begun }
+
+-- ---- an arm
+
+pub arm : (at_end : Env) (old new : Checker) (env : Env) (alone : Bool) (s : Specifier) (before after : Gathered) (layer : SpecifierTree) → out-Specifier s ≡ layer →
+    AreGathered at_end old new env (of_specifier (specifier_parts_told layer) env alone) (one_tag_rules env alone layer) (specifier_parts env layer) before after →
+    AreGathered at_end old new env (specifier_found s env alone) (one_tag_rules env alone (out-Specifier s)) (specifier_parts env (out-Specifier s)) before after
+arm at_end old new env alone s before after layer is gathered =
+    let told : specifier_found s env alone ≡ of_specifier (specifier_parts_told layer) env alone =
+    ap (λ f. f env alone) (specifiers_follow_their_forms s) ∙ ap (λ l. of_specifier (specifier_parts_told l) env alone) is in
+    subst (λ t. AreGathered at_end old new env t (one_tag_rules env alone (out-Specifier s)) (specifier_parts env (out-Specifier s)) before after) (sym told)
+    (subst (λ l. AreGathered at_end old new env (of_specifier (specifier_parts_told layer) env alone) (one_tag_rules env alone l) (specifier_parts env l) before after) (sym is) gathered)
+
+-- nothing is gathered but what this says
+pub word_gathered : (at_end : Env) (checker : Checker) (env : Env) (told : SpecifierTold) (before after : Gathered) → told.additions ≡ nothing → IsSound checker → IsIn checker env →
+    ((others : SpecifierTold) (codes : List Breach) → IsGathered checker.types before others codes → IsGathered checker.types after (then_specifier others told) codes) →
+    AreGathered at_end checker checker env told [] [] before after
+word_gathered at_end checker env told before after none sound is put = record {
+  walks = subst (λ a. Walks at_end checker checker env a []) (sym none) (no_walk at_end checker env sound is);
+  gathered = λ others codes gathered. subst (IsGathered checker.types after (then_specifier others told)) (sym (append-nil codes)) (put others codes gathered);
+}
+
+pub storage_put : (table : Table) (g : Gathered) (others : SpecifierTold) (codes : List Breach) (word : Storage) →
+    IsGathered table g (record others { storages = others.storages ++ word ∷ [] }) codes → IsGathered table g (then_specifier others (record no_specifier { storages = word ∷ [] })) codes
+storage_put table g others codes word is = record {
+  storages = is.storages;
+  words = is.words ∙ sym (append-nil others.words);
+  types = subst (AreOthers table g.others) (sym (append-nil others.types)) is.types;
+  holds_sizeof = is.holds_sizeof ∙ sym (or_false others.holds_sizeof);
+  breaches = is.breaches;
+}
+
+pub word_put : (table : Table) (g : Gathered) (others : SpecifierTold) (codes : List Breach) (word : TypeWord) →
+    IsGathered table g (record others { words = others.words ++ word ∷ [] }) codes → IsGathered table g (then_specifier others (record no_specifier { words = word ∷ [] })) codes
+word_put table g others codes word is = record {
+  storages = is.storages ∙ sym (append-nil others.storages);
+  words = is.words;
+  types = subst (AreOthers table g.others) (sym (append-nil others.types)) is.types;
+  holds_sizeof = is.holds_sizeof ∙ sym (or_false others.holds_sizeof);
+  breaches = is.breaches;
+}
+
+pub nothing_put : (table : Table) (g : Gathered) (others : SpecifierTold) (codes : List Breach) → IsGathered table g others codes → IsGathered table g (then_specifier others no_specifier) codes
+nothing_put table g others codes is = record {
+  storages = is.storages ∙ sym (append-nil others.storages);
+  words = is.words ∙ sym (append-nil others.words);
+  types = subst (AreOthers table g.others) (sym (append-nil others.types)) is.types;
+  holds_sizeof = is.holds_sizeof ∙ sym (or_false others.holds_sizeof);
+  breaches = is.breaches;
+}
+
+-- a name of a type
+pub named_gathered : (at_end : Env) (old new : Checker) (env : Env) (told : SpecifierTold) (broken : List Breach) (before after : Gathered) → IsFurther old new → kept_in new ≡ kept_in old →
+    IsSpecifierPut old new env before after told broken → AreGathered at_end old new env told broken [] before after
+named_gathered at_end old new env told broken before after further kept put = record {
+  walks = grow_walks at_end old new env told.additions further kept put.behind;
+  gathered = put.gathered;
+}
+
+-- ---- one more type, behind nodes in which a sizeof may stand
+
+typed_put : (table : Table) (g : Gathered) (others : SpecifierTold) (codes : List Breach) (more : Additions) (t : Option Ty) (holds : Bool) →
+    IsGathered table g (record others { types = others.types ++ t ∷ []; holds_sizeof = others.holds_sizeof || holds }) codes →
+    IsGathered table g (then_specifier others (record (of_type_alone more t) { holds_sizeof = holds })) codes
+typed_put table g others codes more t holds is = record {
+  storages = is.storages ∙ sym (append-nil others.storages);
+  words = is.words ∙ sym (append-nil others.words);
+  types = is.types;
+  holds_sizeof = is.holds_sizeof;
+  breaches = is.breaches;
+}
+
+-- the code of the tag, then nodes, then the type
+module _ (at_end : Env) (old middle new : Checker) (env : Env) (ps : List Placed) (before between after : Gathered) where
+  pub tagged_gathered : (a : Additions) (t : Option Ty) (holds : Bool) (broken : List Breach) → IsSound old → IsSound middle → IsLonger old.types middle.types →
+      ((table : Table) (others : SpecifierTold) (codes : List Breach) → IsGathered table before others codes → IsGathered table between others (codes ++ broken)) →
+      PutsType middle.types new.types between after t holds → Walks at_end old new env a ps →
+      AreGathered at_end old new env (record (of_type_alone a t) { holds_sizeof = holds }) broken ps before after
+  tagged_gathered a t holds broken sound next longer code type walks = record {
+    walks = walks;
+    gathered = λ others codes is.
+        typed_put new.types after others (codes ++ broken) a t holds
+        (type others (codes ++ broken)
+        (gathered_stays old.types middle.types sound.ready.table_is next.ready.table_is longer between others (codes ++ broken) (code old.types others codes is)));
+  }
+
+-- ---- `struct tag { members }`
+
+module _ (at_end : Env) (old first middle new : Checker) (in_size : Bool) (env : Env) (tag : Option Name) (ms : List Member) (begun : BegunStruct) (found : MembersFound)
+    (before between after : Gathered) (stands : StandsIn old (operand_in in_size) env) (sound : IsSound old) where
+  abbrev start : Additions
+  start = struct_begins env tag
+
+  abbrev inside : MemberTold
+  inside = members_in_turn (map member_found ms) (extend env start) []
+
+  abbrev end_of : ℕ → Additions
+  end_of s = steps (Completes s (members_made inside) ∷ [])
+
+  abbrev struct_type : ℕ → Bool → Option Ty
+  struct_type s admitted = if admitted then Some (Struct s) else None
+
+  pub struct_gathered : IsFurther old first → kept_in first ≡ kept_in old → BeginsStruct first env tag before between begun → FindsAll first middle in_size ms found → Grows middle new →
+      (slice_get old.names.structs begun.number ≡ Some Begun → ⊥) → KeepsOthersBegun begun.number middle.names.structs new.names.structs →
+      ((env : Env) (told : MemberTold) → IsIn middle env → AreMembers middle.types found told → IsIn new (extend env (steps (Completes begun.number (members_made told) ∷ [])))) →
+      PutsType middle.types new.types between after (struct_type begun.number begun.is_admitted) found.holds_sizeof →
+      AreGathered at_end old new env (struct_defined env tag (map member_found ms)) (optional_tag_rules env DefinesStruct tag) (members_parts (extend env start) [] ms) before after
+  struct_gathered further kept begins finds grows fresh others_begun ends type =
+      let all = finds at_end (extend env start) (stands_behind old first in_size env start stands begins.behind) in
+      let walked = then_walks at_end old first middle env start inside.additions [] (members_parts (extend env start) [] ms) (grow_walks at_end old first env start further kept begins.behind) all.walks in
+      let number = begins.number in
+      let whole = walks_grow at_end old middle new env (both start inside.additions) (end_of (struct_meant_by env tag).number) (members_parts (extend env start) [] ms) walked grows
+      (λ t is. others_begun t (λ same. fresh (subst (λ s. slice_get old.names.structs s ≡ Some Begun) same is)) (walked.begun t is))
+      (subst (λ s. IsIn new (extend (extend env (both start inside.additions)) (end_of s))) number (ends (extend env (both start inside.additions)) inside walked.behind all.members)) in
+      let same_type : struct_type begun.number begun.is_admitted ≡ struct_type (struct_meant_by env tag).number (may_use env (tag_found env DefinesStruct tag) DefinesStruct) =
+      ap (λ s. struct_type s begun.is_admitted) number ∙ ap (struct_type (struct_meant_by env tag).number) begins.admitted.may in
+      tagged_gathered at_end old middle new env (members_parts (extend env start) [] ms) before between after
+      (both start (both inside.additions (end_of (struct_meant_by env tag).number)))
+      (struct_type (struct_meant_by env tag).number (may_use env (tag_found env DefinesStruct tag) DefinesStruct)) inside.holds_sizeof (optional_tag_rules env DefinesStruct tag)
+      sound walked.sound walked.longer begins.admitted.gathered
+      (subst (λ t. PutsType middle.types new.types between after t inside.holds_sizeof) same_type
+      (subst (PutsType middle.types new.types between after (struct_type begun.number begun.is_admitted)) all.members.holds_sizeof type))
+      (subst (λ a. Walks at_end old new env a (members_parts (extend env start) [] ms)) (both_assoc start inside.additions (end_of (struct_meant_by env tag).number)) whole)
+
+-- ---- `enum tag { items }`
+
+module _ (at_end : Env) (old middle new : Checker) (in_size : Bool) (env : Env) (tag : Option Name) (is : List Item) (admitted holds : Bool) (before between after : Gathered)
+    (stands : StandsIn old (operand_in in_size) env) (sound : IsSound old) where
+  abbrev enum_type : Bool → Option Ty
+  enum_type admitted = if admitted then Some int else None
+
+  abbrev tag_of : Bool → Additions
+  tag_of admitted = if admitted then tag_additions tag AnEnumTag else nothing
+
+  pub enum_gathered : IsTagUse env DefinesEnum tag before between admitted → CountsAll old middle in_size before_first is holds → Grows middle new →
+      new.names.structs ≡ middle.names.structs → GoesOn middle new (λ env. tag_of admitted) → PutsType middle.types new.types between after (enum_type admitted) holds →
+      AreGathered at_end old new env (enum_defined env tag (map item_found is)) (optional_tag_rules env DefinesEnum tag) (items_parts env before_first is) before after
+  enum_gathered use_of counts grows structs goes type =
+      let all = counts at_end env stands in
+      let a = items_in_turn (map item_found is) env before_first in
+      let may = may_use env (tag_found env DefinesEnum tag) DefinesEnum in
+      let whole = walks_grow at_end old middle new env a (tag_of may) (items_parts env before_first is) all.walks grows
+      (λ t begun. subst (λ ss. slice_get ss t ≡ Some Begun) (sym structs) (all.walks.begun t begun))
+      (subst (λ b. IsIn new (extend (extend env a) (tag_of b))) use_of.may (goes (extend env a) all.walks.behind)) in
+      tagged_gathered at_end old middle new env (items_parts env before_first is) before between after (both a (tag_of may)) (enum_type may) (items_hold_sizeof (map item_found is) env before_first)
+      (optional_tag_rules env DefinesEnum tag) sound all.walks.sound all.walks.longer use_of.gathered
+      (subst (λ b. PutsType middle.types new.types between after (enum_type b) (items_hold_sizeof (map item_found is) env before_first)) use_of.may
+      (subst (PutsType middle.types new.types between after (enum_type admitted)) all.holds_sizeof type)) whole
+
+-- ---- what has begun
+
+abbrev is_begun : Option CodeMembers → Bool
+is_begun None = false
+is_begun (Some code.NotYet) = false
+is_begun (Some code.Begun) = true
+is_begun (Some (code.Known fields)) = false
+is_begun (Some code.Faulty) = false
+
+pub not_yet_begun : (o : Option CodeMembers) → o ≡ Some code.NotYet → o ≡ Some code.Begun → ⊥
+not_yet_begun o not_yet begun = false≢true (ap is_begun (sym not_yet ∙ begun))
+
+-- ---- the members that a struct has in the end
+
+pub faulty_by : (table : Table) (b : Bool) (fields : List CodeField) → (not b || is_empty fields) ≡ true → (if b then known_or_faulty (map (field_in table) fields) else Faulty) ≡ Faulty
+faulty_by table true [] is = refl
+faulty_by table true (f ∷ fs) is = absurd (false≢true is)
+faulty_by table false fields is = refl
+
+pub known_by : (table : Table) (b : Bool) (fields : List CodeField) → (not b || is_empty fields) ≡ false →
+    (if b then known_or_faulty (map (field_in table) fields) else Faulty) ≡ Known (map (field_in table) fields)
+known_by table true [] is = absurd (false≢true (sym is))
+known_by table true (f ∷ fs) is = refl
+known_by table false fields is = absurd (false≢true (sym is))
+
+pub made_of_members : (table : Table) (found : MembersFound) (told : MemberTold) → AreMembers table found told →
+    members_made told ≡ (if found.is_sound then known_or_faulty (map (field_in table) found.fields.items) else Faulty)
+made_of_members table found told are =
+    ap (λ b. if b then known_or_faulty told.fields else Faulty) (sym are.sound) ∙ ap (λ fs. if found.is_sound then known_or_faulty fs else Faulty) (sym are.fields)
+
+set_there : {X : Type 0} (xs : List X) (s r : ℕ) (x : X) → (s ≡ r → ⊥) → slice_get (slice_set xs s x) r ≡ slice_get xs r
+set_there [] s r x apart = refl
+set_there (y ∷ xs) zero zero x apart = absurd (apart refl)
+set_there (y ∷ xs) zero (suc r) x apart = refl
+set_there (y ∷ xs) (suc s) zero x apart = refl
+set_there (y ∷ xs) (suc s) (suc r) x apart = set_there xs s r x (λ same. apart (ap suc same))
+
+-- a struct that comes to an end is begun no more, all others are
+pub others_stay : (xs : List CodeMembers) (s : ℕ) (m : CodeMembers) (new : List CodeMembers) → new ≡ slice_set xs s m → KeepsOthersBegun s xs new
+others_stay xs s m new is t apart begun = ap (λ ms. slice_get ms t) is ∙ set_there xs s t m (λ same. apart (sym same)) ∙ begun
+
+pub within_still : (xs : List CodeMembers) (s : ℕ) (m : CodeMembers) (new : List CodeMembers) → new ≡ slice_set xs s m → slice_get xs s ≡ Some code.Begun → s < length new
+within_still xs s m new is begun = subst (λ (ms : List CodeMembers). s < length ms) (sym is) (let within = slice_get_within xs s code.Begun begun in omega (arith, within, length-set xs s m))
+
+pub grows_then : (a b c : Checker) → Grows a b → Grows b c → Grows a c
+grows_then a b c f g = record { longer = longer_then a.types b.types c.types f.longer g.longer; sound = g.sound; outside = g.outside ∙ f.outside; kept = g.kept ∙ f.kept }
+
+pub int_flipped : (b : Bool) → (if not b then None else Some int) ≡ (if b then Some int else None)
+int_flipped true = refl
+int_flipped false = refl
+
+pub spec_layer : (s f : Specifier) (layer : SpecifierTree) → s ≡ f → roll-Specifier layer ≡ f → out-Specifier s ≡ layer
+spec_layer s f layer is rolls = ap out-Specifier (is ∙ sym rolls) ∙ out-roll-Specifier layer
+
+pub further_refl : (checker : Checker) → IsSound checker → IsFurther checker checker
+further_refl checker sound = record { longer = longer_same checker.types; sound = sound; outside = refl; begun = λ s begun. begun }
+
+pub further_then : (a b c : Checker) → IsFurther a b → IsFurther b c → IsFurther a c
+further_then a b c f g = record { longer = longer_then a.types b.types c.types f.longer g.longer; sound = g.sound; outside = g.outside ∙ f.outside; begun = λ s begun. g.begun s (f.begun s begun) }
+
+pub same_further : (a b c : Checker) → IsFurther a b → IsSame b c → IsFurther a c
+same_further a b c f g = record {
+  longer = subst (IsLonger a.types) (sym g.types) f.longer;
+  sound = sound_same b c g f.sound;
+  outside = g.outside ∙ f.outside;
+  begun = λ s begun. ap (λ (names : InScope). slice_get names.structs s) g.names ∙ f.begun s begun;
+}

@@ -1,0 +1,152 @@
+-- A type name: its specifiers, their codes, its declarator.
+use Rattle.std.proofs.Common.{◌≡◌, ◌∙◌, ◌++◌, ◌↔◌, ℕ, Bool, true, false, List, [], ◌∷◌, Option, Some, None, map, refl, sym, ap, subst}
+use Rattle.std.specs.Prelude.{◌||◌, slice_get}
+use Rattle.std.specs.Option.{option_map}
+use Rattle.std.proofs.lemmas.List.{append-nil}
+use Rattle.lk_types.specs.Building.{IsLonger}
+use Rattle.lk_tree.specs.declared.expression.Declarator.{Declarator}
+use Rattle.lk_tree.specs.declared.expression.Specifier.{Specifier}
+use Rattle.lk_tree.specs.declared.expression.TypeName.{TypeName, out-TypeName}
+use Rattle.lk_typed.specs.DeclarationRules.{InType, type_in}
+use Rattle.lk_typed.specs.DeclaratorRules.{of_type}
+use Rattle.lk_typed.specs.Env.{Additions, Env, both, extend, nothing}
+use Rattle.lk_typed.specs.Expressions.{declarator_found, declarator_layer, specifier_found, specifiers_found, type_found}
+use Rattle.lk_typed.specs.Faults.{Breach}
+use Rattle.lk_typed.specs.HolderRules.{all_specifier_rules}
+use Rattle.lk_typed.specs.Layers.{inner_of, type_made, type_name_told}
+use Rattle.lk_typed.specs.Meaning.{meaning}
+use Rattle.lk_typed.specs.NodeParts.{parts, type_part, type_part_if_there}
+use Rattle.lk_typed.specs.NodeRules.{breaches, mark, struct_bound_rules}
+use Rattle.lk_typed.specs.Nodes.{ADeclarator, ATypeName, Left, Unnamed, Placed, at}
+use Rattle.lk_typed.specs.Parts.{span_at, specifiers_parts}
+use Rattle.lk_typed.specs.Stands.{IsIn as IsAmong, Mark}
+use Rattle.lk_typed.specs.Told.{DeclaratorTold, Named, SpecifierTold, TypeTold}
+use Rattle.lk_typed.specs.Ty.{Ty}
+use Rattle.lk_names.specs.InScope.{InScope}
+use Rattle.lk_rules.proofs.Kept.{both_are_all_of_a_node, codes_are_kept_further, nodes_are_kept_further, nothing_is_kept, nothing_is_kept_of_both}
+use Rattle.lk_rules.proofs.Layered.{type_names_follow_their_parts}
+use Rattle.lk_rules.proofs.Parts.{type_names_are_asked}
+use Rattle.lk_rules.specs.Keeping.{Kept, KeepsBoth, KeepsCodes, KeepsNodes}
+use Rattle.lk_rules.specs.Laws.{name_found}
+use Rattle.lk_check_walk.proofs.Gathers.{or_false, stands_behind}
+use Rattle.lk_check_walk.proofs.Inside.{use_kept}
+use Rattle.lk_check_walk.proofs.KeepsAll.{in_same, no_codes, sound_same}
+use Rattle.lk_check_walk.proofs.States.{extend_both, extend_nothing, longer_same, longer_then}
+use Rattle.lk_check_walk.specs.Declarators.{IsDeclared, left_of, name_codes, use_codes}
+use Rattle.lk_check_walk.specs.Keepings.{Codes, KeepsEach, codes_at}
+use Rattle.lk_check_walk.specs.Specified.{breaches_in}
+use Rattle.lk_check_walk.specs.Specifying.{AreSpecified, IsSame, KeepsAt}
+use Rattle.lk_check_walk.specs.Walking.{IsFurther, IsTypeNamed, operand_in}
+use Rattle.lk_check_walk.specs.Walks.{IsIn, IsSound, StandsIn, Walks, kept_in, mark_at}
+use Rattle.lk_check_walk.specs.declared.checker.Checker.{Checker}
+use Rattle.lk_check_walk.specs.declared.declarators.Asked.{Asked}
+use Rattle.lk_check_walk.specs.declared.declarators.DeclaratorFound.{DeclaratorFound}
+use Rattle.lk_check_walk.specs.declared.found.At.{At}
+use Rattle.lk_check_walk.specs.declared.found.TypeFound.{TypeFound}
+use Rattle.lk_check_walk.specs.declared.gathered.Specified.{Specified}
+
+-- a name that nothing becomes has no codes
+pub unnamed_kept : (kept : Kept) (left : Left) (d : Declarator) (t : Option Ty) → left.use_of_name ≡ Unnamed → KeepsEach kept (use_codes left d t) kept
+unnamed_kept kept left d t is =
+    subst (λ becomes. KeepsEach kept (name_codes left.behind t becomes (declarator_found d).name ++ codes_at (mark d.spot d.ordinal) (of_type t (struct_bound_rules left.behind becomes)) ∷ []) kept) (sym is)
+    (by_name (declarator_found d).name t)
+  where
+    last : (t : Option Ty) → KeepsEach kept (codes_at (mark d.spot d.ordinal) (of_type t (struct_bound_rules left.behind Unnamed)) ∷ []) kept
+    last None = (kept, no_codes kept (mark d.spot d.ordinal), refl)
+    last (Some t) = (kept, no_codes kept (mark d.spot d.ordinal), refl)
+
+    by_name : (name : Option Named) (t : Option Ty) →
+        KeepsEach kept (name_codes left.behind t Unnamed name ++ codes_at (mark d.spot d.ordinal) (of_type t (struct_bound_rules left.behind Unnamed)) ∷ []) kept
+    by_name None t = last t
+    by_name (Some named) t = (kept, no_codes kept (mark named.spot named.ordinal), last t)
+
+module _ (at_end : Env) (old first middle new : Checker) (env : Env) (n : TypeName) (specified : Specified) (at_n : At) (result : TypeFound)
+    (marked : mark_at at_n ≡ mark (out-TypeName n).spot (out-TypeName n).ordinal) (specifies : AreSpecified at_end old first env InType false (out-TypeName n).specifiers specified)
+    (same : IsSame first middle) (keeps : KeepsAt first middle at_n (breaches_in specified.breaches.items)) where
+  abbrev told : SpecifierTold
+  told = specifiers_found (out-TypeName n).specifiers env false
+
+  abbrev here : Env
+  here = extend env told.additions
+
+  abbrev inner : Option Declarator → DeclaratorTold
+  inner d = (inner_of (option_map declarator_layer d)).told
+
+  abbrev inner_nodes : Option Declarator → List Placed
+  inner_nodes d = type_part_if_there here told false Unnamed d
+
+  abbrev node_mark : Mark
+  node_mark = mark (out-TypeName n).spot (out-TypeName n).ordinal
+
+  codes_are : breaches_in specified.breaches.items ≡ breaches at_end env (ATypeName n)
+  codes_are = specifies.specified.breaches ∙ sym (type_names_are_asked at_end env n)
+
+  node_kept : (d : Option Declarator) → (out-TypeName n).declarator ≡ d → KeepsNodes at_end (kept_in middle) (inner_nodes d) (kept_in new) →
+      KeepsNodes at_end (kept_in old) (at env (ATypeName n) ∷ []) (kept_in new)
+  node_kept d is inside =
+      let bs = breaches_in specified.breaches.items in
+      let ps = specifiers_parts false env (out-TypeName n).specifiers in
+      let none = nothing_is_kept_of_both at_end (kept_in old) node_mark in
+      let nodes = nodes_are_kept_further at_end (kept_in old) (kept_in old) (kept_in first) node_mark [] ps [] none specifies.walks.keeps in
+      let own = subst (λ m. KeepsCodes (kept_in first) m bs (kept_in middle)) marked keeps in
+      let codes = codes_are_kept_further at_end (kept_in old) (kept_in first) (kept_in middle) node_mark ps [] bs nodes own in
+      let all = nodes_are_kept_further at_end (kept_in old) (kept_in middle) (kept_in new) node_mark ps (inner_nodes d) bs codes inside in
+      both_are_all_of_a_node at_end env (ATypeName n) (kept_in old) (kept_in new) bs refl (λ b. (subst (IsAmong b) codes_are, subst (IsAmong b) (sym codes_are)))
+      (subst (λ d. KeepsBoth at_end (kept_in old) (ps ++ inner_nodes d) node_mark bs (kept_in new)) (sym is) all)
+
+  pub type_named : (d : Option Declarator) → (out-TypeName n).declarator ≡ d → KeepsNodes at_end (kept_in middle) (inner_nodes d) (kept_in new) → IsFurther middle new →
+      IsIn new (extend here ((inner d).additions here)) → option_map (meaning new.types) result.ty ≡ type_made here false (type_in InType told) (inner d) →
+      result.holds_sizeof ≡ (told.holds_sizeof || (inner d).holds_sizeof here) → IsTypeNamed at_end old new env n result
+  type_named d is inside further behind type holds =
+      let found : type_found n env ≡ type_name_told (map specifier_found (out-TypeName n).specifiers) (option_map declarator_layer d) env =
+      ap (λ f. f env) (type_names_follow_their_parts n) ∙ ap (λ d. type_name_told (map specifier_found (out-TypeName n).specifiers) (option_map declarator_layer d) env) is in
+      record {
+        walks = subst (λ (t : TypeTold). Walks at_end old new env t.additions (at env (ATypeName n) ∷ [])) (sym found)
+            (record {
+              longer = longer_then old.types first.types new.types specifies.walks.longer (subst (λ table. IsLonger table new.types) same.types further.longer);
+              sound = further.sound;
+              outside = further.outside ∙ same.outside ∙ specifies.walks.outside;
+              begun = λ s begun. further.begun s (ap (λ (names : InScope). slice_get names.structs s) same.names ∙ specifies.walks.begun s begun);
+              behind = subst (IsIn new) (extend_both env told.additions ((inner d).additions here)) behind;
+              keeps = node_kept d is inside;
+            });
+        found = record {
+          type = type ∙ ap (λ (t : TypeTold). t.type) (sym found);
+          holds_sizeof = holds ∙ ap (λ (t : TypeTold). t.holds_sizeof) (sym found);
+        };
+      }
+
+-- without a declarator
+pub named_alone : (at_end : Env) (old first new : Checker) (env : Env) (n : TypeName) (specified : Specified) (at_n : At) (result : TypeFound) →
+    mark_at at_n ≡ mark (out-TypeName n).spot (out-TypeName n).ordinal → AreSpecified at_end old first env InType false (out-TypeName n).specifiers specified →
+    IsSame first new → KeepsAt first new at_n (breaches_in specified.breaches.items) → (out-TypeName n).declarator ≡ None → result.ty ≡ specified.ty → result.holds_sizeof ≡ specified.holds_sizeof →
+    IsTypeNamed at_end old new env n result
+named_alone at_end old first new env n specified at_n result marked specifies same keeps is type holds =
+    let told = specifiers_found (out-TypeName n).specifiers env false in
+    let sound = sound_same first new same specifies.walks.sound in
+    type_named at_end old first new new env n specified at_n result marked specifies same keeps None is (nothing_is_kept at_end (kept_in new))
+    (record { longer = longer_same new.types; sound = sound; outside = refl; begun = λ s begun. begun })
+    (subst (IsIn new) (sym (extend_nothing (extend env told.additions))) (in_same first new (extend env told.additions) same specifies.walks.behind))
+    (ap (λ table. option_map (meaning table) result.ty) same.types ∙ ap (option_map (meaning first.types)) type ∙ specifies.specified.type)
+    (holds ∙ specifies.specified.holds_sizeof ∙ sym (or_false told.holds_sizeof))
+
+-- behind specifiers a declarator
+pub named_with : (at_end : Env) (old first middle new : Checker) (in_size : Bool) (env : Env) (n : TypeName) (d : Declarator) (specified : Specified) (at_n : At) (asked : Asked) (found : DeclaratorFound) (result : TypeFound) →
+    mark_at at_n ≡ mark (out-TypeName n).spot (out-TypeName n).ordinal → AreSpecified at_end old first env InType false (out-TypeName n).specifiers specified →
+    IsSame first middle → KeepsAt first middle at_n (breaches_in specified.breaches.items) → (out-TypeName n).declarator ≡ Some d → asked.may_be_absent ≡ false → IsFurther middle new →
+    IsDeclared at_end middle new (extend env (specifiers_found (out-TypeName n).specifiers env false).additions) specified.ty d asked found →
+    result.ty ≡ found.ty → result.holds_sizeof ≡ (specified.holds_sizeof || found.holds_sizeof) → IsTypeNamed at_end old new env n result
+named_with at_end old first middle new in_size env n d specified at_n asked found result marked specifies same keeps is absent further declared type holds =
+    let told = specifiers_found (out-TypeName n).specifiers env false in
+    let here = extend env told.additions in
+    let left : option_map (meaning middle.types) specified.ty ≡ type_in InType told = ap (λ table. option_map (meaning table) specified.ty) same.types ∙ specifies.specified.type in
+    let given = left_of here asked.may_be_absent (option_map (meaning middle.types) specified.ty) d Unnamed in
+    let node = use_kept declared Unnamed (kept_in new)
+    (unnamed_kept (kept_in new) given d ((declarator_found d).type (span_at here given) given.type) refl) in
+    type_named at_end old first middle new env n specified at_n result marked specifies same keeps (Some d) is
+    (subst (λ may. KeepsNodes at_end (kept_in middle) (at here (ADeclarator (left_of here may (type_in InType told) d Unnamed) d) ∷ []) (kept_in new)) absent
+    (subst (λ t. KeepsNodes at_end (kept_in middle) (at here (ADeclarator (left_of here asked.may_be_absent t d Unnamed) d) ∷ []) (kept_in new)) left node))
+    further declared.behind
+    (ap (option_map (meaning new.types)) type ∙ declared.type ∙ ap (λ may. type_made here may (option_map (meaning middle.types) specified.ty) (declarator_found d)) absent ∙
+    ap (λ t. type_made here false t (declarator_found d)) left)
+    (holds ∙ ap (λ h. h || found.holds_sizeof) specifies.specified.holds_sizeof ∙ ap (λ h. told.holds_sizeof || h) declared.holds_sizeof)

@@ -1,0 +1,96 @@
+-- What the walk over specifiers, enumerators, members and type names leaves behind and finds (C99 6.7.2, 6.7.6).
+use Rattle.std.specs.Prelude.{ℕ, ◌≡◌, ◌++◌, ◌||◌, Bool, Option, Some, List, [], ◌∷◌, map, slice_get}
+use Rattle.lk_types.specs.Table.{Table}
+use Rattle.lk_tree.specs.declared.expression.Item.{Item}
+use Rattle.lk_tree.specs.declared.expression.Member.{Member}
+use Rattle.lk_tree.specs.declared.expression.Specifier.{Specifier, out-Specifier}
+use Rattle.lk_typed.specs.DeclarationRules.{Holder}
+use Rattle.lk_typed.specs.Env.{Env, Name, extend}
+use Rattle.lk_typed.specs.Expressions.{item_found, member_found, specifier_found, specifiers_found}
+use Rattle.lk_typed.specs.Faults.{Breach}
+use Rattle.lk_typed.specs.HolderRules.{all_specifier_rules, one_tag_rules, optional_tag_rules}
+use Rattle.lk_typed.specs.Nodes.{Placed}
+use Rattle.lk_typed.specs.Parts.{items_parts, members_parts, specifier_parts, specifiers_parts}
+use Rattle.lk_typed.specs.Redeclared as spec
+use Rattle.lk_typed.specs.Redeclared.{TagUse, may_use}
+use Rattle.lk_typed.specs.Told.{SpecifierTold, before_first, enum_defined, struct_begins, struct_defined, struct_meant_by, tag_found, then_specifier}
+use Rattle.lk_typed.specs.Ty.{Ty}
+use Rattle.lk_typed.specs.declared.members.Members.{Members}
+use Rattle.lk_typed.specs.declared.members.Members.TheVariants.{Begun}
+use Rattle.lk_rules.specs.Keeping.{KeepsCodes}
+use Rattle.lk_check_walk.specs.Specified.{IsGathered, IsSpecified}
+use Rattle.lk_check_walk.specs.Walking.{operand_in}
+use Rattle.lk_check_walk.specs.Walks.{IsIn, StandsIn, Walks, kept_in, mark_at}
+use Rattle.lk_check_walk.specs.declared.checker.Checker.{Checker}
+use Rattle.lk_check_walk.specs.declared.defining.BegunStruct.{BegunStruct}
+use Rattle.lk_check_walk.specs.declared.found.At.{At}
+use Rattle.lk_check_walk.specs.declared.gathered.Gathered.{Gathered}
+use Rattle.lk_check_walk.specs.declared.gathered.Specified.{Specified}
+
+-- codes that hold at a node are kept
+abbrev pub KeepsAt : Checker → Checker → At → List Breach → Type 0
+KeepsAt old new at broken = KeepsCodes (kept_in old) (mark_at at) broken (kept_in new)
+
+-- all but what is kept is as it was
+pub record IsSame (old new : Checker) : Type 0 where
+  pub types : new.types ≡ old.types
+  pub names : new.names ≡ old.names
+  pub outside : new.outside ≡ old.outside
+
+-- ---- specifiers
+
+-- specifiers that tell this are walked and gathered behind others, with their codes
+pub record AreGathered (at_end : Env) (old new : Checker) (env : Env) (told : SpecifierTold) (broken : List Breach) (nodes : List Placed) (before after : Gathered) : Type 0 where
+  pub walks : Walks at_end old new env told.additions nodes
+  pub gathered : (others : SpecifierTold) (codes : List Breach) → IsGathered old.types before others codes →
+      IsGathered new.types after (then_specifier others told) (codes ++ broken)
+
+-- one of them
+abbrev pub Gathers : Checker → Checker → Bool → Bool → Specifier → Gathered → Gathered → Type 0
+Gathers old new alone in_size s before after =
+    (at_end env : Env) → StandsIn old (operand_in in_size) env →
+    AreGathered at_end old new env (specifier_found s env alone) (one_tag_rules env alone (out-Specifier s)) (specifier_parts env (out-Specifier s)) before after
+
+-- the code of a use of a tag is gathered, which is admitted or not
+pub record IsTagUse (env : Env) (wanted : TagUse) (tag : Option Name) (before after : Gathered) (admitted : Bool) : Type 0 where
+  pub may : admitted ≡ may_use env (tag_found env wanted tag) wanted
+  pub gathered : (table : Table) (others : SpecifierTold) (codes : List Breach) → IsGathered table before others codes →
+      IsGathered table after others (codes ++ optional_tag_rules env wanted tag)
+
+-- one more type is gathered, and whether a sizeof stands in it
+abbrev pub PutsType : Table → Table → Gathered → Gathered → Option Ty → Bool → Type 0
+PutsType old new before after t holds =
+    (others : SpecifierTold) (codes : List Breach) → IsGathered old before others codes →
+    IsGathered new after (record others { types = others.types ++ t ∷ []; holds_sizeof = others.holds_sizeof || holds }) codes
+
+-- all structs but this one are begun still
+abbrev pub KeepsOthersBegun : ℕ → List Members → List Members → Type 0
+KeepsOthersBegun s old new = (t : ℕ) → (t ≡ s → ⊥) → slice_get old t ≡ Some Begun → slice_get new t ≡ Some Begun
+
+-- `struct tag {`, with its code
+pub record BeginsStruct (new : Checker) (env : Env) (tag : Option Name) (before after : Gathered) (begun : BegunStruct) : Type 0 where
+  pub number : begun.number ≡ (struct_meant_by env tag).number
+  pub admitted : IsTagUse env spec.DefinesStruct tag before after begun.is_admitted
+  pub behind : IsIn new (extend env (struct_begins env tag))
+
+-- `struct tag { members }`
+abbrev pub GathersStruct : Checker → Checker → Bool → Option Name → List Member → Gathered → Gathered → Type 0
+GathersStruct old new in_size tag ms before after =
+    (at_end env : Env) → StandsIn old (operand_in in_size) env →
+    AreGathered at_end old new env (struct_defined env tag (map member_found ms)) (optional_tag_rules env spec.DefinesStruct tag)
+    (members_parts (extend env (struct_begins env tag)) [] ms) before after
+
+-- `enum tag { items }`
+abbrev pub GathersEnum : Checker → Checker → Bool → Option Name → List Item → Gathered → Gathered → Type 0
+GathersEnum old new in_size tag is before after =
+    (at_end env : Env) → StandsIn old (operand_in in_size) env →
+    AreGathered at_end old new env (enum_defined env tag (map item_found is)) (optional_tag_rules env spec.DefinesEnum tag) (items_parts env before_first is) before after
+
+-- all of a list
+pub record AreSpecified (at_end : Env) (old new : Checker) (env : Env) (holder : Holder) (alone : Bool) (ss : List Specifier) (result : Specified) : Type 0 where
+  pub walks : Walks at_end old new env (specifiers_found ss env alone).additions (specifiers_parts alone env ss)
+  pub specified : IsSpecified new.types holder result (specifiers_found ss env alone) (all_specifier_rules holder alone env ss)
+
+abbrev pub Specifies : Checker → Checker → Holder → Bool → Bool → List Specifier → Specified → Type 0
+Specifies old new holder alone in_size ss result =
+    (at_end env : Env) → StandsIn old (operand_in in_size) env → AreSpecified at_end old new env holder alone ss result

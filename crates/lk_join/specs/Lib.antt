@@ -1,0 +1,4 @@
+pub mod Classes
+pub mod Labels
+pub mod Numbering
+pub mod Places

@@ -1,7 +1,0 @@
-use Rattle.std.proofs.Common.{rules}
-use Rattle.lk_lower_expr.proofs.Operands.{pointer_called}
-use Rattle.lk_lower_expr.specs.Naming.{names_of}
-use Rattle.lk_lower_expr.proofs.call.call_steps.Goals as goal
-
-pub returns-in_ok-a-in-Pointer : goal.returns-in_ok-a-in-Pointer
-returns-in_ok-a-in-Pointer c = rw (pointer_called (names_of c.args.table.now c.args.names.now) _ _ c.in-Pointer.is) (search rules)

@@ -1,0 +1,15 @@
+use Rattle.std.proofs.Common.{◌+◌, ◌*◌}
+use Rattle.lk_typed.specs.declared.expression.TypedExpr.{size-TypedExpr}
+use Rattle.lk_lower_expr.proofs.lowering.Lowering.+owns.Given as goal
+
+abbrev pub decreases-own_steps : goal.decreases-own_steps
+decreases-own_steps l = 2 * size-TypedExpr l.e.now
+
+abbrev pub decreases-load_steps : goal.decreases-load_steps
+decreases-load_steps l = 2 * size-TypedExpr l.place.now + 1
+
+abbrev pub decreases-convert_steps : goal.decreases-convert_steps
+decreases-convert_steps l = 2 * size-TypedExpr l.value.now + 1
+
+abbrev pub decreases-decay_steps : goal.decreases-decay_steps
+decreases-decay_steps l = 2 * size-TypedExpr l.array.now + 1

@@ -1,0 +1,14 @@
+pub mod Adding
+pub mod Alike
+pub mod AlikeForms
+pub mod AlikeStatements
+pub mod AlikeTrees
+pub mod Counted
+pub mod Ending
+pub mod Laying
+pub mod Numbering
+pub mod PointsOf
+pub mod Sources
+pub mod Steps
+pub mod Sums
+pub mod TableNames

@@ -1,5 +1,0 @@
-//! Tests of the names in scope while a source is checked.
-#![tactic(auto)]
-
-#[cfg(test)]
-mod names;

@@ -1,0 +1,4 @@
+pub mod FirstPlain
+pub mod Rows
+pub mod Scopes
+pub mod Begun

@@ -1,0 +1,12 @@
+pub mod AtTokens
+pub mod Lists
+pub mod Numbering
+pub mod Parts
+pub mod Reading
+pub mod Standing
+pub mod StatementNumbering
+pub mod StatementReading
+pub mod TypedExpressions
+pub mod TypedStatements
+pub mod TypedUnits
+pub mod Variants

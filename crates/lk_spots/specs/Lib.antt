@@ -1,0 +1,5 @@
+pub mod Laws
+pub mod NodePlaces
+pub mod Places
+pub mod StatementPlaces
+pub mod TypedPlaces

@@ -1,5 +1,0 @@
-//! Tests of the state of the checker.
-#![tactic(auto)]
-
-#[cfg(test)]
-mod faults;
