@@ -6,12 +6,8 @@
 //! output is in NAME.out and to standard error in NAME.err; where there is no such file, it must write nothing.
 #![tactic(auto)]
 
-mod case;
-
-ghost use Rattle.std.specs.Prelude.{◌≡◌, ◌↔◌, IsNone};
-
-use crate::case::{Case, is_case, parse_case};
 use anyhow::{Context, Result};
+use lk_cases::{Case, differing_line, is_case, parse_case};
 use lk_io::{MemShelf, MemSink};
 use lk_top::run;
 use std::alloc::Global;
@@ -73,18 +69,6 @@ fn run_case(rt: &(impl Files + AllocGlobal), case: &Case) -> Result<Ran> {
     let mut err = sink(alloc, limits.err_room, limits.err_room, limits.err_fails)?;
     let status = run(alloc, &case.words, &mut shelf, &mut out, &mut err).number();
     Ok(Ran { status, out, err })
-}
-
-/// The first line in which two texts differ, counted from 1.
-fn differing_line(text: &[u8], other: &[u8]) -> Option<usize>
-    ensures { IsNone result ↔ (text.now ≡ other.now) }
-{
-    if text == other {
-        return None;
-    }
-    let same = text.iter().zip(other).take_while(|(a, b)| a == b);
-    let ended = same.filter(|(byte, _)| **byte == b'\n').count();
-    Some(ended.saturating_add(1))
 }
 
 /// Runs a case, and says of each part of its answer that is not as expected.

@@ -150,101 +150,7 @@ const THROUGH_POINTERS: &[Case<'static>] = &[
     ),
 ];
 
-const IN_FUNCTIONS: &[Case<'static>] = &[
-    (
-        "a lock on one branch is not held behind it",
-        Small {
-            points: &[
-                (0, Step::Lock(0)),
-                (0, Step::Skip),
-                (0, Step::Lock(1)),
-                (0, Step::Unlock(0)),
-                (0, Step::Skip),
-            ],
-            next: &[(0, 1), (1, 2), (1, 3), (2, 3), (3, 4)],
-            dead: &[],
-            functions: &[(0, 4, 2, None)],
-            locations: 0,
-            labels: &[MUTEX, MUTEX, CODE],
-            edges: &[],
-        },
-        &[(1, 0), (2, 0), (3, 0)],
-        &[(1, 0), (2, 0)],
-        &[],
-        &[(0, 0)],
-    ),
-    (
-        "a loop that unlocks at its end does not hold its lock",
-        Small {
-            points: &[
-                (0, Step::Lock(0)),
-                (0, Step::Skip),
-                (0, Step::Unlock(0)),
-                (0, Step::Skip),
-            ],
-            next: &[(0, 1), (1, 2), (1, 3), (2, 1)],
-            dead: &[],
-            functions: &[(0, 3, 1, None)],
-            locations: 0,
-            labels: &[MUTEX, CODE],
-            edges: &[],
-        },
-        &[],
-        &[],
-        &[],
-        &[(0, 0)],
-    ),
-    (
-        "a wait changes nothing",
-        Small {
-            points: &[
-                (0, Step::Lock(0)),
-                (0, Step::Release(0)),
-                (0, Step::Retake(0)),
-                (0, Step::Skip),
-            ],
-            next: &[(0, 1), (1, 2), (2, 3)],
-            dead: &[],
-            functions: &[(0, 3, 1, None)],
-            locations: 0,
-            labels: &[MUTEX, CODE],
-            edges: &[],
-        },
-        &[(1, 0), (2, 0), (3, 0)],
-        &[(1, 0), (2, 0), (3, 0)],
-        &[(0, 0)],
-        &[],
-    ),
-];
-
 const BETWEEN_FUNCTIONS: &[Case<'static>] = &[
-    (
-        // 0 takes the lock 0, 1 frees it, and 2 holds another one over the calls of both.
-        "callees take and release locks",
-        Small {
-            points: &[
-                (0, Step::Lock(0)),
-                (0, Step::Skip),
-                (1, Step::Unlock(0)),
-                (1, Step::Skip),
-                (2, Step::Lock(1)),
-                (2, Step::Call(0, 0)),
-                (2, Step::Skip),
-                (2, Step::Call(1, 1)),
-                (2, Step::Skip),
-            ],
-            next: &[(0, 1), (2, 3), (4, 5), (5, 6), (6, 7), (7, 8)],
-            dead: &[],
-            functions: &[(0, 1, 2, None), (2, 3, 2, None), (4, 8, 2, None)],
-            locations: 0,
-            labels: &[MUTEX, MUTEX, CODE],
-            edges: &[],
-        },
-        &[(1, 0), (5, 1), (6, 0), (6, 1), (7, 0), (7, 1), (8, 1)],
-        &[(1, 0), (5, 1), (6, 0), (6, 1), (7, 1), (8, 1)],
-        &[(0, 0), (2, 1)],
-        &[(1, 0), (2, 0)],
-    ),
     (
         // 0 loops for ever, and its exit isn't live.
         "a function that never returns holds nothing at its exit",
@@ -357,15 +263,9 @@ fn calls_through_pointers_take_and_release(rt: HostRuntime) -> Result<(), Fail> 
 }
 
 #[test]
-fn locks_are_held_within_functions(rt: HostRuntime) -> Result<(), Fail> {
-    for case in IN_FUNCTIONS {
-        check_case(&rt, rt.alloc(), case)?;
-    }
-    Ok(())
-}
-
-#[test]
-fn locks_are_held_and_released_over_calls(rt: HostRuntime) -> Result<(), Fail> {
+fn functions_that_do_not_return_and_recursive_ones_hold_and_release_locks(
+    rt: HostRuntime,
+) -> Result<(), Fail> {
     for case in BETWEEN_FUNCTIONS {
         check_case(&rt, rt.alloc(), case)?;
     }

@@ -10,120 +10,44 @@ use std::test::Fail;
 /// What is shown, a program, and all items.
 type Case<'a> = (&'a str, Small<'a>, &'a [Entry<'a>]);
 
-const CALLS: &[Case<'static>] = &[
-    (
-        "accesses have the locks that are held there",
-        Small {
-            points: &[
-                (0, Step::Read(1)),
-                (0, Step::Lock(2)),
-                (0, Step::Lock(3)),
-                (0, Step::Write(1)),
-                (0, Step::Skip),
-                (0, Step::Write(1)),
-            ],
-            next: &[(0, 1), (1, 2), (2, 3), (3, 4)],
-            dead: &[5],
-            functions: &[(0, 4, 4, None)],
-            locations: 2,
-            labels: &[CELL, CELL, MUTEX, MUTEX, CODE],
-            edges: &[],
-        },
-        &[(0, false, 1, 0, &[]), (0, false, 1, 3, &[2, 3])],
-    ),
-    (
-        // 1 calls 0 and keeps the lock 3. 2 calls 0 where it has freed that lock, which 3 holds over the call of 2.
-        "a call adds the locks that it keeps, and two ways leave the common ones",
-        Small {
-            points: &[
-                (0, Step::Lock(2)),
-                (0, Step::Write(1)),
-                (0, Step::Unlock(2)),
-                (0, Step::Skip),
-                (1, Step::Lock(3)),
-                (1, Step::Call(0, 0)),
-                (1, Step::Skip),
-                (2, Step::Unlock(3)),
-                (2, Step::Call(0, 1)),
-                (2, Step::Lock(3)),
-                (2, Step::Skip),
-                (3, Step::Lock(3)),
-                (3, Step::Call(2, 2)),
-                (3, Step::Unlock(3)),
-                (3, Step::Call(1, 3)),
-                (3, Step::Skip),
-            ],
-            next: &[
-                (0, 1),
-                (1, 2),
-                (2, 3),
-                (4, 5),
-                (5, 6),
-                (7, 8),
-                (8, 9),
-                (9, 10),
-                (11, 12),
-                (12, 13),
-                (13, 14),
-                (14, 15),
-            ],
-            dead: &[],
-            functions: &[
-                (0, 3, 4, None),
-                (4, 6, 4, None),
-                (7, 10, 4, None),
-                (11, 15, 4, None),
-            ],
-            locations: 2,
-            labels: &[CELL, CELL, MUTEX, MUTEX, CODE],
-            edges: &[],
-        },
-        &[
-            (0, false, 1, 1, &[2]),
-            (1, false, 1, 1, &[2, 3]),
-            (2, false, 1, 1, &[2]),
-            (3, false, 1, 1, &[2]),
+const RECURSION: &[Case<'static>] = &[(
+    // 0 may call 1, and 1 calls 0 while it holds the lock 4.
+    "two functions that call each other share their items",
+    Small {
+        points: &[
+            (0, Step::Lock(2)),
+            (0, Step::Write(1)),
+            (0, Step::Unlock(2)),
+            (0, Step::Call(1, 0)),
+            (0, Step::Skip),
+            (1, Step::Lock(3)),
+            (1, Step::Call(0, 1)),
+            (1, Step::Read(0)),
+            (1, Step::Skip),
         ],
-    ),
-    (
-        // 0 may call 1, and 1 calls 0 while it holds the lock 4.
-        "two functions that call each other share their items",
-        Small {
-            points: &[
-                (0, Step::Lock(2)),
-                (0, Step::Write(1)),
-                (0, Step::Unlock(2)),
-                (0, Step::Call(1, 0)),
-                (0, Step::Skip),
-                (1, Step::Lock(3)),
-                (1, Step::Call(0, 1)),
-                (1, Step::Read(0)),
-                (1, Step::Skip),
-            ],
-            next: &[
-                (0, 1),
-                (1, 2),
-                (2, 3),
-                (2, 4),
-                (3, 4),
-                (5, 6),
-                (6, 7),
-                (7, 8),
-            ],
-            dead: &[],
-            functions: &[(0, 4, 4, None), (5, 8, 4, None)],
-            locations: 2,
-            labels: &[CELL, CELL, MUTEX, MUTEX, CODE],
-            edges: &[],
-        },
-        &[
-            (0, false, 1, 1, &[2]),
-            (1, false, 1, 1, &[2, 3]),
-            (0, false, 0, 7, &[3]),
-            (1, false, 0, 7, &[3]),
+        next: &[
+            (0, 1),
+            (1, 2),
+            (2, 3),
+            (2, 4),
+            (3, 4),
+            (5, 6),
+            (6, 7),
+            (7, 8),
         ],
-    ),
-];
+        dead: &[],
+        functions: &[(0, 4, 4, None), (5, 8, 4, None)],
+        locations: 2,
+        labels: &[CELL, CELL, MUTEX, MUTEX, CODE],
+        edges: &[],
+    },
+    &[
+        (0, false, 1, 1, &[2]),
+        (1, false, 1, 1, &[2, 3]),
+        (0, false, 0, 7, &[3]),
+        (1, false, 0, 7, &[3]),
+    ],
+)];
 
 const WAYS: &[Case<'static>] = &[
     (
@@ -266,8 +190,8 @@ fn check_case(rt: &impl Abort, alloc: Global, case: &Case<'_>) -> Result<(), Fai
 }
 
 #[test]
-fn functions_have_the_items_of_what_they_call(rt: HostRuntime) -> Result<(), Fail> {
-    for case in CALLS {
+fn recursive_functions_share_their_items(rt: HostRuntime) -> Result<(), Fail> {
+    for case in RECURSION {
         check_case(&rt, rt.alloc(), case)?;
     }
     Ok(())

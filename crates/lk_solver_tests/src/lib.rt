@@ -7,8 +7,6 @@ mod analysis;
 #[cfg(test)]
 mod checks;
 #[cfg(test)]
-mod graph;
-#[cfg(test)]
 mod held;
 #[cfg(test)]
 mod items;
