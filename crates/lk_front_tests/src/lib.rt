@@ -6,8 +6,6 @@ mod expressions;
 #[cfg(test)]
 mod lex;
 #[cfg(test)]
-mod ordinals;
-#[cfg(test)]
 mod texts;
 #[cfg(test)]
 mod units;

@@ -2,7 +2,7 @@
 
 use lk_base::{Fault, Files, Name, Spot};
 use lk_lex::tokens;
-use lk_parse_unit::parse_unit;
+use lk_parse_unit::{Parsed, parse_unit};
 use lk_tree::{BlockItem, Decl, ExprForm, Function, Stmt, StmtForm, Unit};
 use std::alloc::Global;
 use std::process::Abort;
@@ -16,7 +16,7 @@ fn one_file(alloc: Global) -> Result<Files, Fail> {
 }
 
 /// The tree of a source that has the number 0.
-fn read(rt: &impl Abort, alloc: Global, source: &[u8], files: &mut Files) -> Result<Unit, Fault> {
+fn read(rt: &impl Abort, alloc: Global, source: &[u8], files: &mut Files) -> Result<Parsed, Fault> {
     assert!(rt; source.len() <= 1_048_576);
     let count = files.len();
     assert!(rt; count > 0 && count < 2_147_483_648);
@@ -25,10 +25,10 @@ fn read(rt: &impl Abort, alloc: Global, source: &[u8], files: &mut Files) -> Res
 }
 
 /// The tree of a source that is the one file of its command.
-fn tree(rt: &impl Abort, alloc: Global, source: &[u8]) -> Result<Unit, Fail> {
+fn tree(rt: &impl Abort, alloc: Global, source: &[u8]) -> Result<Parsed, Fail> {
     let mut files = one_file(alloc)?;
     match read(rt, alloc, source, &mut files) {
-        Ok(unit) => Ok(unit),
+        Ok(parsed) => Ok(parsed),
         Err(_) => Err("no tree".into()),
     }
 }
@@ -37,7 +37,7 @@ fn tree(rt: &impl Abort, alloc: Global, source: &[u8]) -> Result<Unit, Fail> {
 fn refusal(rt: &impl Abort, alloc: Global, source: &[u8]) -> Result<(u32, u32), Fail> {
     let mut files = one_file(alloc)?;
     match read(rt, alloc, source, &mut files) {
-        Ok(_unit) => Ok((0, 0)),
+        Ok(_parsed) => Ok((0, 0)),
         Err(Fault::Refused(refusal)) => Ok((refusal.code.number(), refusal.spot.col)),
         Err(Fault::NoMemory) => Err("no memory".into()),
     }
@@ -339,8 +339,8 @@ fn shape(alloc: Global, unit: &Unit) -> Result<String, Fail> {
 #[test]
 fn bodies_have_their_shapes(rt: HostRuntime) -> Result<(), Fail> {
     for (source, want) in BODIES {
-        let unit = tree(&rt, rt.alloc(), source.as_bytes())?;
-        let found = shape(rt.alloc(), &unit)?;
+        let parsed = tree(&rt, rt.alloc(), source.as_bytes())?;
+        let found = shape(rt.alloc(), &parsed.unit)?;
         assert!(rt; found.as_str() == *want, "{source}");
     }
     Ok(())
@@ -356,13 +356,16 @@ fn declared_at(unit: &Unit) -> Option<(Spot, usize)> {
 
 #[test]
 fn a_declaration_stands_at_its_first_token(rt: HostRuntime) -> Result<(), Fail> {
-    let unit = tree(&rt, rt.alloc(), b"  int n;")?;
+    let parsed = tree(&rt, rt.alloc(), b"  int n;")?;
     let spot = Spot {
         file: 0,
         line: 1,
         col: 3,
     };
-    assert!(rt; declared_at(&unit) == Some((spot, 1)), "one declarator");
+    assert!(rt;
+        declared_at(&parsed.unit) == Some((spot, 1)),
+        "one declarator"
+    );
     Ok(())
 }
 
@@ -404,9 +407,9 @@ fn push_ordinals(out: &mut Vec<u32>, unit: &Unit) -> Result<(), Fail> {
 
 #[test]
 fn nodes_are_numbered_in_a_walk(rt: HostRuntime) -> Result<(), Fail> {
-    let unit = tree(&rt, rt.alloc(), COUNTING.as_bytes())?;
+    let parsed = tree(&rt, rt.alloc(), COUNTING.as_bytes())?;
     let mut ordinals = Vec::new(rt.alloc());
-    push_ordinals(&mut ordinals, &unit)?;
+    push_ordinals(&mut ordinals, &parsed.unit)?;
     assert!(rt;
         ordinals.as_slice() == [4, 13, 18, 24, 30, 38, 46, 51, 57].as_slice(),
         "both"
@@ -487,13 +490,13 @@ int main(void) {
 
 #[test]
 fn a_whole_program_is_a_tree(rt: HostRuntime) -> Result<(), Fail> {
-    let unit = tree(&rt, rt.alloc(), BANK.as_bytes())?;
+    let parsed = tree(&rt, rt.alloc(), BANK.as_bytes())?;
     assert!(rt;
-        unit.externals.len() == 11,
+        parsed.unit.externals.len() == 11,
         "typedefs, objects and functions"
     );
     assert!(rt;
-        shape(rt.alloc(), &unit)?.as_str()
+        shape(rt.alloc(), &parsed.unit)?.as_str()
             == "(block(declare)(other)(other)(for(block(if(other))))(other)(assign)(other)(other)(other)(other)(other)(return))",
         "main"
     );

@@ -9,4 +9,4 @@ mod statement;
 mod unit;
 
 pub use laws::one_tree;
-pub use parse::parse_unit;
+pub use parse::{Parsed, parse_unit};

@@ -12,6 +12,18 @@ use lk_ordinals::number_unit;
 use lk_tree::Unit;
 use std::alloc::Global;
 
+/// A source that was read. It is let go here, so that a crate which holds one need not know what trees are made of.
+pub struct Parsed {
+    /// The tree of the source.
+    pub unit: Unit,
+}
+
+impl Drop for Parsed {
+    fn drop(self) {
+        let Parsed { unit: _unit } = self;
+    }
+}
+
 /// The tree of a source with these tokens, as the grammar gives it (C99 6.5 to 6.9), of depth 200 at most. Its nodes are numbered in a
 /// walk, parents first, from 0 on, and there are at most as many as tokens.
 ///
@@ -19,10 +31,10 @@ use std::alloc::Global;
 /// at most. By the law `one_tree` there is one tree at most; so the tree comes, but for want of memory, exactly where there is one that is
 /// not too deep. A refusal has an empty name.
 #[tactic(auto, using(crate::proofs::Exact::read_tree, crate::proofs::Exact::refused))]
-pub fn parse_unit(alloc: Global, source: &[u8], tokens: &[Token]) -> Result<Unit, Fault>
+pub fn parse_unit(alloc: Global, source: &[u8], tokens: &[Token]) -> Result<Parsed, Fault>
     requires { AreInside source.now tokens.now }
-    ensures tree { IfOk result (IsTree 200 source.now tokens.now) }
-    ensures few { IfOk result (HasFewOrdinals (length tokens.now)) }
+    ensures tree { IfOk result (λ parsed. IsTree 200 source.now tokens.now parsed.unit) }
+    ensures few { IfOk result (λ parsed. HasFewOrdinals (length tokens.now) parsed.unit) }
     ensures err { IfErr result (IsRefused 200 source.now tokens.now) }
 {
     let mut cursor = begin(alloc, source, tokens)?;
@@ -33,5 +45,5 @@ pub fn parse_unit(alloc: Global, source: &[u8], tokens: &[Token]) -> Result<Unit
             externals: found.tree,
         },
     )?;
-    Ok(unit)
+    Ok(Parsed { unit })
 }

@@ -15,7 +15,7 @@ use lk_form::{Program, read_program};
 use lk_io::{ReadFault, Shelf, read_whole};
 use lk_lex::tokens;
 use lk_lower::lower;
-use lk_parse_unit::parse_unit;
+use lk_parse_unit::{Parsed, parse_unit};
 use lk_solve::solve;
 use lk_spots::faults_stand_in_files;
 use lk_tree::Unit;
@@ -113,17 +113,17 @@ fn line_in(alloc: Global, files: &Files, refusal: &Refusal) -> Result<Vec<u8>, N
 }
 
 /// The tree of a source, which is the first of the files. The names of its line marks are put behind it.
-fn tree_of(alloc: Global, source: &[u8], files: &mut Files) -> Result<Unit, Fault>
+fn tree_of(alloc: Global, source: &[u8], files: &mut Files) -> Result<Parsed, Fault>
     requires few { length source.now ≤ 1048576 }
     requires own { length files.old ≡ 1 }
-    ensures tree { IfOk result (IsTreeOf files.old source.now files.new) }
-    ensures filed { IfOk result (HasFaultsIn (length files.new)) }
+    ensures tree { IfOk result (λ parsed. IsTreeOf files.old source.now files.new parsed.unit) }
+    ensures filed { IfOk result (λ parsed. HasFaultsIn (length files.new) parsed.unit) }
     ensures err { IfErr result (IsTreeFault files.old source.now files.new) }
 {
     let list = tokens(alloc, source, FIRST_BYTE.file, files)?;
-    let unit = parse_unit(alloc, source, &list)?;
+    let parsed = parse_unit(alloc, source, &list)?;
     faults_stand_in_files();
-    Ok(unit)
+    Ok(parsed)
 }
 
 /// What a source comes to whose tree this is: it is refused for the first of its faults, or for its form.
@@ -150,8 +150,8 @@ fn unformed(alloc: Global, name: &[u8], source: &[u8]) -> Result<Answer, NoMemor
 {
     let mut files = files_of(alloc, name)?;
     match tree_of(alloc, source, &mut files) {
-        Ok(unit) => {
-            let answer = checked(alloc, name, &files, &unit)?;
+        Ok(parsed) => {
+            let answer = checked(alloc, name, &files, &parsed.unit)?;
             Ok(answer)
         }
         Err(Fault::Refused(refusal)) => Ok(Answer::Refusal {

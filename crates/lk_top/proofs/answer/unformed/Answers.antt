@@ -5,7 +5,7 @@ use Rattle.lk_top.proofs.answer.unformed.Goals as goal
 
 pub returns-in-Ok : goal.returns-in-Ok
 returns-in-Ok c =
-    tree_checked _ _ _ _ _ (subst (λ names. IsTreeOf names c.args.source.now c.tree_of.new.files c.in-Ok.unit) c.in_ok-files.ensures c.in-Ok.ensures.tree)
+    tree_checked _ _ _ _ _ (subst (λ names. IsTreeOf names c.args.source.now c.tree_of.new.files c.in-Ok.parsed.unit) c.in_ok-files.ensures c.in-Ok.ensures.tree)
     c.in_ok-answer-in-Ok.ensures
 
 pub returns-in-Err-Refused : goal.returns-in-Err-Refused
