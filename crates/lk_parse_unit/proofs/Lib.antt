@@ -6,3 +6,5 @@ pub mod Counting
 pub mod Few
 pub mod Placing
 pub mod Exact
+mod Rows
+pub mod Forms

@@ -4,3 +4,4 @@ pub mod Tree
 pub mod Parsing
 pub mod Reading
 pub mod Nests
+pub mod Parts

@@ -1,9 +1,10 @@
-//! Statements and units from tokens.
+//! Statements and units from tokens, and the ordinals of their nodes.
 #![tactic(auto)]
 
 mod begin;
 mod laws;
 mod lead;
+mod ordinals;
 mod parse;
 mod statement;
 mod unit;

@@ -5,10 +5,10 @@ ghost use Rattle.lk_parse_unit.specs.Parsing.{IsRefused, HasFewOrdinals};
 ghost use Rattle.lk_parse_unit.specs.Tree.{IsTree};
 
 use crate::begin::begin;
+use crate::ordinals::number_unit;
 use crate::unit::read_unit;
 use lk_base::{Fault, MOST_DEPTH};
 use lk_lex::Token;
-use lk_ordinals::number_unit;
 use lk_tree::Unit;
 use std::alloc::Global;
 

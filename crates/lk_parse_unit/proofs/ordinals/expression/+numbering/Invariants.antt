@@ -1,9 +1,9 @@
 use Rattle.std.proofs.Common.{◌≡◌, map, length}
 use Rattle.std.specs.Vec.Iter.{into_iter_items, into_iter_len}
 use Rattle.lk_tree.specs.Numbers as spec
-use Rattle.lk_ordinals.specs.Parts as part
-use Rattle.lk_ordinals.proofs.Rows.{behind}
-use Rattle.lk_ordinals.proofs.expression.+numbering.Given as goal
+use Rattle.lk_parse_unit.specs.Parts as part
+use Rattle.lk_parse_unit.proofs.Rows.{behind}
+use Rattle.lk_parse_unit.proofs.ordinals.expression.+numbering.Given as goal
 
 abbrev pub invariant-exprs-loop-one : goal.invariant-exprs-loop-one
 invariant-exprs-loop-one l =

@@ -2,10 +2,10 @@
 ghost use Rattle.std.specs.Prelude.{◌≡◌, IfOk};
 ghost use Rattle.lk_tree.specs.Numbers as spec;
 
-use crate::declaration::{number_declare, number_specifiers};
-use crate::expression::number_declarator;
-use crate::next::behind;
-use crate::statement::number_stmt;
+use crate::ordinals::declaration::{number_declare, number_specifiers};
+use crate::ordinals::expression::number_declarator;
+use crate::ordinals::next::behind;
+use crate::ordinals::statement::number_stmt;
 use lk_base::{NoMemory, Seq};
 use lk_tree::{Decl, Empty, Function, Unit};
 use std::alloc::Global;

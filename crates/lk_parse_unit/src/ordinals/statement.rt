@@ -1,12 +1,12 @@
 //! Ordinals in statements.
 ghost use Rattle.std.specs.Prelude.{◌≡◌, IfOk, map};
 ghost use Rattle.std.specs.Option.{option_map};
-ghost use Rattle.lk_ordinals.specs.Parts as part;
+ghost use Rattle.lk_parse_unit.specs.Parts as part;
 ghost use Rattle.lk_tree.specs.Numbers as spec;
 
-use crate::declaration::number_declare;
-use crate::expression::number_expr;
-use crate::next::behind;
+use crate::ordinals::declaration::number_declare;
+use crate::ordinals::expression::number_expr;
+use crate::ordinals::next::behind;
 use lk_base::{Boxed, NoMemory, Seq, Spot};
 use lk_tree::{BlockItem, Expr, ForFirst, Stmt, StmtForm};
 use std::alloc::Global;

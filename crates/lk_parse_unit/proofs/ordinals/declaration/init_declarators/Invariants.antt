@@ -1,8 +1,8 @@
 use Rattle.std.proofs.Common.{◌≡◌, length}
 use Rattle.std.specs.Vec.Iter.{into_iter_items, into_iter_len}
 use Rattle.lk_tree.specs.Numbers as spec
-use Rattle.lk_ordinals.proofs.Rows.{behind}
-use Rattle.lk_ordinals.proofs.declaration.init_declarators.Given as goal
+use Rattle.lk_parse_unit.proofs.Rows.{behind}
+use Rattle.lk_parse_unit.proofs.ordinals.declaration.init_declarators.Given as goal
 
 abbrev pub invariant-loop-one : goal.invariant-loop-one
 invariant-loop-one l =

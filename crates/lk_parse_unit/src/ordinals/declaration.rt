@@ -1,10 +1,10 @@
 //! Ordinals in initialisers and declarations.
 ghost use Rattle.std.specs.Prelude.{◌≡◌, IfOk, map};
-ghost use Rattle.lk_ordinals.specs.Parts as part;
+ghost use Rattle.lk_parse_unit.specs.Parts as part;
 ghost use Rattle.lk_tree.specs.Numbers as spec;
 
-use crate::expression::{number_declarator, number_expr, number_specifier};
-use crate::next::behind;
+use crate::ordinals::expression::{number_declarator, number_expr, number_specifier};
+use crate::ordinals::next::behind;
 use lk_base::{NoMemory, Seq};
 use lk_tree::{Declare, Designator, Entry, Init, InitDeclarator, InitList, Specifier};
 use std::alloc::Global;

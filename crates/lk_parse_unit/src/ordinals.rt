@@ -1,5 +1,4 @@
 //! The ordinals of a tree: a walk numbers each node before the nodes inside it, and those in the order of the text.
-#![tactic(auto)]
 
 mod declaration;
 mod expression;
@@ -7,4 +6,4 @@ mod next;
 mod statement;
 mod unit;
 
-pub use unit::number_unit;
+pub(crate) use unit::number_unit;

@@ -1,9 +1,9 @@
 use Rattle.std.proofs.Common.{◌≡◌, map, length}
 use Rattle.std.specs.Vec.Iter.{into_iter_items, into_iter_len}
 use Rattle.lk_tree.specs.Numbers as spec
-use Rattle.lk_ordinals.specs.Parts as part
-use Rattle.lk_ordinals.proofs.Rows.{behind}
-use Rattle.lk_ordinals.proofs.declaration.+initialisers.Given as goal
+use Rattle.lk_parse_unit.specs.Parts as part
+use Rattle.lk_parse_unit.proofs.Rows.{behind}
+use Rattle.lk_parse_unit.proofs.ordinals.declaration.+initialisers.Given as goal
 
 abbrev pub invariant-entries_of-loop-one : goal.invariant-entries_of-loop-one
 invariant-entries_of-loop-one l =

@@ -1,10 +1,10 @@
 //! Ordinals in expressions, and in the declarators and types that lead back to them.
 ghost use Rattle.std.specs.Prelude.{◌≡◌, IfOk, map};
 ghost use Rattle.std.specs.Option.{option_map};
-ghost use Rattle.lk_ordinals.specs.Parts as part;
+ghost use Rattle.lk_parse_unit.specs.Parts as part;
 ghost use Rattle.lk_tree.specs.Numbers as spec;
 
-use crate::next::behind;
+use crate::ordinals::next::behind;
 use lk_base::{Boxed, NoMemory, Seq};
 use lk_tree::{
     Declarator, DeclaratorForm, Expr, ExprForm, Item, Member, MemberDeclarator, Parameter,
