@@ -203,46 +203,12 @@ fn are_first_one(
     Ok(answer)
 }
 
-/// What the first struct of the first of these sources is in the program.
-fn first_in_program(alloc: Global, units: &[TypedUnit]) -> Result<Option<StructOf>, NoMemory> {
-    if !are_sources(units) || units.len() > 64 {
-        return Ok(None);
-    }
-    let becomes = resolve(alloc, units)?;
-    match becomes.as_slice().first() {
-        Some(row) => Ok(row.list().first().copied()),
-        None => Ok(None),
-    }
-}
-
-/// The same of two sources with these structs.
-fn first_struct(
-    alloc: Global,
-    first: &[Sketch],
-    second: &[Sketch],
-) -> Result<Option<StructOf>, NoMemory> {
-    let mut units = Vec::new(alloc);
-    units.push(source(alloc, first)?)?;
-    units.push(source(alloc, second)?)?;
-    let found = first_in_program(alloc, units.as_slice())?;
-    Ok(found)
-}
-
 #[test]
 fn structs_are_one(rt: HostRuntime) -> Result<(), Fail> {
     for (first, second, wanted) in CASES.as_slice() {
         let answer = may_declare_first(rt.alloc(), sketches(*first), sketches(*second))?;
         assert!(rt; answer == Some(*wanted));
     }
-    Ok(())
-}
-
-#[test]
-fn another_source_completes(rt: HostRuntime) -> Result<(), Fail> {
-    let completed = first_struct(rt.alloc(), sketches(Text::Open), sketches(Text::Short))?;
-    assert!(rt; completed.is_some_and(|s| s.source == 1 && s.number == 0));
-    let kept = first_struct(rt.alloc(), sketches(Text::Short), sketches(Text::Short))?;
-    assert!(rt; kept.is_some_and(|s| s.source == 0 && s.number == 0));
     Ok(())
 }
 

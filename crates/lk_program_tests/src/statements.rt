@@ -3,7 +3,7 @@
 use crate::rows::{Row, have_rows};
 use crate::trees::{global, int, names, spot};
 use lk_base::{Boxed, CellStep, NoMemory, Seq};
-use lk_facts::{Action, Place};
+use lk_facts::Place;
 use lk_lower_expr::{Goals, Lowering, NamedStep};
 use lk_lower_stmt::{BodyLowering, Cells, Lowered};
 use lk_typed::{
@@ -207,33 +207,6 @@ fn one_at(alloc: Global, path: Vec<CellStep>) -> Result<Seq<LocalPart>, NoMemory
     Ok(Seq::new(list))
 }
 
-/// `int x = 1;`, where x is a slot.
-fn slot(alloc: Global) -> Result<TypedStmt, NoMemory> {
-    let named = one_at(alloc, Vec::new(alloc))?;
-    let init = LocalInit {
-        local: 0,
-        named,
-        absent: Seq::new(Vec::new(alloc)),
-    };
-    declaration(alloc, init)
-}
-
-/// Whether it begins at a point and has these steps.
-fn slot_has(alloc: Global, point: u32, wanted: &[Row]) -> Result<bool, NoMemory> {
-    let s = slot(alloc)?;
-    is_lowered(alloc, &s, point, wanted)
-}
-
-/// The number leads to the write at the declared name.
-const SLOT: &[Row] = &[(4, 0, 30), (9, 0, 50)];
-
-#[test]
-fn a_slot_is_written_at_its_name(rt: HostRuntime) -> Result<(), Fail> {
-    let has = slot_has(rt.alloc(), 10, SLOT)?;
-    assert!(rt; has);
-    Ok(())
-}
-
 /// The steps to an element.
 fn element(alloc: Global, index: u64) -> Result<Seq<CellStep>, NoMemory> {
     let list = vec![in alloc; CellStep::Index(index)]?;
@@ -292,28 +265,6 @@ const ARRAY: &[Row] = &[
 fn an_array_is_written_and_then_filled(rt: HostRuntime) -> Result<(), Fail> {
     let has = array_has(rt.alloc(), 40, ARRAY)?;
     assert!(rt; has);
-    Ok(())
-}
-
-/// Whether the last step fills the cells of the place behind the pointer at the point 46.
-fn end_with_the_fill(steps: &[NamedStep]) -> bool {
-    match steps.last() {
-        Some(step) => matches!(&step.is.does, Action::Fill { a: 46, .. }),
-        None => false,
-    }
-}
-
-/// Whether the array is filled.
-fn array_is_filled(alloc: Global) -> Result<bool, NoMemory> {
-    let s = array(alloc)?;
-    let (_, out) = lowered(alloc, &s)?;
-    Ok(end_with_the_fill(&out.steps))
-}
-
-#[test]
-fn a_fill_points_to_the_first_of_its_cells(rt: HostRuntime) -> Result<(), Fail> {
-    let filled = array_is_filled(rt.alloc())?;
-    assert!(rt; filled);
     Ok(())
 }
 

@@ -1,19 +1,16 @@
-//! The points of `n = n + 1`, where `n` is a global object of type int, against those of a program that was lowered by hand,
-//! and those of `printf("..", s)`, where `s` is a slot of type `char *`.
+//! The points of `n = n + 1`, where `n` is a global object of type int, against those of a program that was lowered by hand;
+//! those of calls, and what the tables of names say.
 
-ghost use Rattle.std.specs.Prelude.{◌≡◌, ◌<◌, IsTrue, false, length};
 ghost use Rattle.lk_lower_expr.specs.Naming.{AreFew};
-ghost use Rattle.lk_types.specs.Building.{IsForm};
-ghost use Rattle.lk_types.specs.Sizes as sizes;
 
 use crate::rows::{Row, have_rows};
-use crate::trees::{global, int, names, spot};
+use crate::trees::{global, int, names};
 use lk_arith::Op;
 use lk_base::{Boxed, NoMemory, Seq};
 use lk_facts::Action;
 use lk_lower_expr::{Lowering, SourceNames, Step};
-use lk_typed::{LibraryCall, Storage, TypedExpr, TypedForm};
-use lk_types::{CType, TypeId, TypeTable};
+use lk_typed::{Storage, TypedExpr, TypedForm};
+use lk_types::{TypeId, TypeTable};
 use std::alloc::Global;
 use std::test::Fail;
 
@@ -65,32 +62,6 @@ fn an_assignment_begins_with_its_place(rt: HostRuntime) -> Result<(), Fail> {
     Ok(())
 }
 
-/// Those of the sum.
-fn sum_points(alloc: Global) -> Result<(u32, u32, u32), NoMemory> {
-    let e = sum(alloc)?;
-    points_of(alloc, &e)
-}
-
-#[test]
-fn an_operator_begins_with_its_left_operand(rt: HostRuntime) -> Result<(), Fail> {
-    let points = sum_points(rt.alloc())?;
-    assert!(rt; points == (8, 7, 1));
-    Ok(())
-}
-
-/// Those of the value of the global object.
-fn value_points(alloc: Global) -> Result<(u32, u32, u32), NoMemory> {
-    let e = global(alloc, 3, 29)?;
-    points_of(alloc, &e)
-}
-
-#[test]
-fn a_value_has_a_step_behind_its_place(rt: HostRuntime) -> Result<(), Fail> {
-    let points = value_points(rt.alloc())?;
-    assert!(rt; points == (8, 9, 2));
-    Ok(())
-}
-
 /// The steps of the node of an expression, behind which control goes on at the point 12.
 fn own(alloc: Global, e: &TypedExpr) -> Result<Vec<Step>, NoMemory> {
     let table = TypeTable::new(alloc)?;
@@ -101,57 +72,6 @@ fn own(alloc: Global, e: &TypedExpr) -> Result<Vec<Step>, NoMemory> {
         names: &names,
     };
     lowering.own_steps(e, 12)
-}
-
-/// Whether the steps are a write of the value at the point 7 through the pointer at the point 6.
-fn are_the_write(steps: &[Step]) -> bool {
-    if steps.len() != 1 {
-        return false;
-    }
-    matches!(
-        &steps[0].does,
-        Action::Write {
-            a: 6,
-            b: 7,
-            raw: false
-        }
-    )
-}
-
-/// Whether the assignment writes once.
-fn assignment_writes(alloc: Global) -> Result<bool, NoMemory> {
-    let e = assignment(alloc)?;
-    let steps = own(alloc, &e)?;
-    Ok(are_the_write(&steps))
-}
-
-#[test]
-fn an_assignment_writes_once(rt: HostRuntime) -> Result<(), Fail> {
-    let writes = assignment_writes(rt.alloc())?;
-    assert!(rt; writes);
-    Ok(())
-}
-
-/// Whether there are two steps, of which the last is a read through the pointer at the point 8.
-fn end_with_the_read(steps: &[Step]) -> bool {
-    if steps.len() != 2 {
-        return false;
-    }
-    matches!(&steps[1].does, Action::Read { a: 8, raw: false })
-}
-
-/// Whether the global object is found and then read.
-fn value_is_read(alloc: Global) -> Result<bool, NoMemory> {
-    let e = global(alloc, 3, 29)?;
-    let steps = own(alloc, &e)?;
-    Ok(end_with_the_read(&steps))
-}
-
-#[test]
-fn a_place_is_found_and_then_read(rt: HostRuntime) -> Result<(), Fail> {
-    let is_read = value_is_read(rt.alloc())?;
-    assert!(rt; is_read);
-    Ok(())
 }
 
 /// Whether all steps of an expression, behind which control goes on at the point 12, are these.
@@ -197,89 +117,6 @@ fn an_assignment_goes_from_the_left_to_the_right(rt: HostRuntime) -> Result<(), 
     Ok(())
 }
 
-/// Whether a form may be put.
-fn can_put(table: &TypeTable, form: &CType) -> bool
-    ensures known { IsTrue result → IsForm table.now form.now }
-    ensures small { IsTrue result → sizes.is_too_large (sizes.form_size table.now form.now) ≡ false }
-    ensures room { IsTrue result → length table.now.types < 4294967295 }
-{
-    table.is_form(form) && table.form_size(form).is_some() && table.count() < 2000
-}
-
-/// A table with `char *`, and the number of that.
-fn texts(alloc: Global) -> Result<(TypeTable, TypeId), NoMemory> {
-    let mut table = TypeTable::new(alloc)?;
-    let form = CType::Pointer(TypeId::CHAR);
-    if !can_put(&table, &form) {
-        return Err(NoMemory);
-    }
-    let text = table.put(form)?;
-    Ok((table, text))
-}
-
-/// The format of a `printf`: the points 13 to 15.
-fn format(alloc: Global, ty: TypeId) -> Result<Boxed<TypedExpr>, NoMemory> {
-    let literal = int(6, 8, TypedForm::Text(Seq::new(Vec::new(alloc))));
-    let literal = Boxed::new(alloc, literal)?;
-    let format = TypedExpr {
-        spot: spot(8),
-        ordinal: 6,
-        ty,
-        form: TypedForm::Decay(literal),
-    };
-    Ok(Boxed::new(alloc, format)?)
-}
-
-/// Its argument, which is the value of a slot: the point 16.
-fn argument(alloc: Global, ty: TypeId) -> Result<TypedExpr, NoMemory> {
-    let slot = int(7, 14, TypedForm::Object(Storage::Local(0)));
-    let slot = Boxed::new(alloc, slot)?;
-    Ok(TypedExpr {
-        spot: spot(14),
-        ordinal: 7,
-        ty,
-        form: TypedForm::Load(slot),
-    })
-}
-
-/// The arguments behind the format.
-fn arguments(alloc: Global, ty: TypeId) -> Result<Seq<TypedExpr>, NoMemory> {
-    let argument = argument(alloc, ty)?;
-    let list = vec![in alloc; argument]?;
-    Ok(Seq::new(list))
-}
-
-/// `printf("..", s)`: the points 11 and 12.
-fn print(alloc: Global, ty: TypeId) -> Result<TypedExpr, NoMemory> {
-    let args = arguments(alloc, ty)?;
-    let format = format(alloc, ty)?;
-    Ok(int(5, 1, TypedForm::Library(LibraryCall::Print(format, args))))
-}
-
-/// Whether these are the steps of that call.
-fn print_has(alloc: Global, wanted: &[Row]) -> Result<bool, NoMemory> {
-    let (table, ty) = texts(alloc)?;
-    let e = print(alloc, ty)?;
-    are_rows(alloc, &table, &e, wanted)
-}
-
-/// The format is found and the slot is read, and then both texts are read.
-const PRINT: &[Row] = &[
-    (7, 0, 11),
-    (6, 0, 14),
-    (6, 1, 15),
-    (6, 2, 16),
-    (5, 0, 12),
-    (5, 1, 12),
-];
-
-#[test]
-fn printf_reads_its_texts(rt: HostRuntime) -> Result<(), Fail> {
-    let has = print_has(rt.alloc(), PRINT)?;
-    assert!(rt; has);
-    Ok(())
-}
-
 /// Whether a step is a call of the function 1.
 fn is_call(steps: &[Step]) -> bool {
     match steps.first() {
@@ -299,13 +136,6 @@ fn calls(alloc: Global, entity: u32) -> Result<bool, NoMemory> {
 fn an_extern_function_that_a_source_defines_is_called(rt: HostRuntime) -> Result<(), Fail> {
     let called = calls(rt.alloc(), 0)?;
     assert!(rt; called);
-    Ok(())
-}
-
-#[test]
-fn an_extern_function_that_no_source_defines_touches_nothing(rt: HostRuntime) -> Result<(), Fail> {
-    let called = calls(rt.alloc(), 1)?;
-    assert!(rt; !called);
     Ok(())
 }
 
