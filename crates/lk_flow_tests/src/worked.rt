@@ -9,8 +9,6 @@ use std::alloc::Global;
 use std::process::Abort;
 use std::test::Fail;
 
-const CASES: &[Worked<'static>] = &[MUNGE, POINTER_CALL, TWO_OBJECTS];
-
 /// A program has the labels and edges, and the flow along these, that are worked out.
 fn check_worked(rt: &impl Abort, alloc: Global, worked: &Worked<'_>) -> Result<(), Fail> {
     check_labels(rt, alloc, worked)?;
@@ -19,9 +17,16 @@ fn check_worked(rt: &impl Abort, alloc: Global, worked: &Worked<'_>) -> Result<(
 }
 
 #[test]
-fn labels_edges_and_matched_paths_of_programs(rt: HostRuntime) -> Result<(), Fail> {
-    for worked in CASES {
-        check_worked(&rt, rt.alloc(), worked)?;
-    }
-    Ok(())
+fn a_function_is_called_with_two_locks(rt: HostRuntime) -> Result<(), Fail> {
+    check_worked(&rt, rt.alloc(), &MUNGE)
+}
+
+#[test]
+fn functions_are_called_through_a_pointer(rt: HostRuntime) -> Result<(), Fail> {
+    check_worked(&rt, rt.alloc(), &POINTER_CALL)
+}
+
+#[test]
+fn a_function_is_called_with_two_objects(rt: HostRuntime) -> Result<(), Fail> {
+    check_worked(&rt, rt.alloc(), &TWO_OBJECTS)
 }
