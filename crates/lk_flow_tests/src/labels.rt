@@ -1,12 +1,12 @@
 //! The labels of a worked program.
 
 use crate::checks::{Named, Worked, check};
+use lk_base::NoMemory;
 use lk_facts::{Label, Labels};
 use lk_label::labels;
 use lk_types::NodeId;
 use std::alloc::Global;
 use std::process::Abort;
-use std::test::Fail;
 
 /// Whether a label is named so.
 fn is_named(labels: &Labels, label: u32, named: &Named) -> bool {
@@ -42,9 +42,11 @@ fn are_labels(labels: &Labels, wanted: &[Named]) -> bool {
 }
 
 /// A program has the labels that are worked out.
-pub fn check_labels(rt: &impl Abort, alloc: Global, worked: &Worked<'_>) -> Result<(), Fail> {
+pub fn check_labels(rt: &impl Abort, alloc: Global, worked: &Worked<'_>) -> Result<(), NoMemory> {
     let points = worked.program.made(rt, alloc)?;
-    let labels = labels(alloc, &points)?;
+    let Ok(labels) = labels(alloc, &points) else {
+        return Err(NoMemory);
+    };
     check(
         rt,
         worked.shows,

@@ -21,7 +21,7 @@ const MAIN: Small<'static> = Small {
 
 /// How many labels a program has whose only function has so many points, each of which gives a pointer to a number, or
 /// nothing where these are too many.
-fn count(rt: &impl Abort, alloc: Global, pointers: u32) -> Result<Option<u32>, Fail> {
+fn count(rt: &impl Abort, alloc: Global, pointers: u32) -> Result<Option<u32>, NoMemory> {
     let mut points = Vec::new(alloc);
     for _ in 0..pointers {
         let next = Seq::new(Vec::new(alloc));
@@ -31,12 +31,17 @@ fn count(rt: &impl Abort, alloc: Global, pointers: u32) -> Result<Option<u32>, F
     match labels(alloc, &points) {
         Ok(labels) => Ok(Some(labels.count())),
         Err(LabelFault::TooMany) => Ok(None),
-        Err(LabelFault::NoMemory) => Err(NoMemory)?,
+        Err(LabelFault::NoMemory) => Err(NoMemory),
     }
 }
 
 /// A program with so many pointers has so many labels, or too many.
-fn check(rt: &impl Abort, alloc: Global, pointers: u32, wanted: Option<u32>) -> Result<(), Fail> {
+fn check(
+    rt: &impl Abort,
+    alloc: Global,
+    pointers: u32,
+    wanted: Option<u32>,
+) -> Result<(), NoMemory> {
     let found = count(rt, alloc, pointers)?;
     assert!(rt; found == wanted);
     Ok(())
@@ -45,5 +50,6 @@ fn check(rt: &impl Abort, alloc: Global, pointers: u32, wanted: Option<u32>) -> 
 #[test]
 fn labels_are_at_most_65_536(rt: HostRuntime) -> Result<(), Fail> {
     check(&rt, rt.alloc(), 65_535, Some(65_536))?;
-    check(&rt, rt.alloc(), 65_536, None)
+    check(&rt, rt.alloc(), 65_536, None)?;
+    Ok(())
 }

@@ -2,6 +2,7 @@
 
 use crate::checks::{Pair, Worked, check, is_relation};
 use crate::programs::Small;
+use lk_base::NoMemory;
 use lk_facts::{Label, Origins, Site};
 use lk_flow::edges;
 use lk_label::labels;
@@ -10,12 +11,17 @@ use lk_origin::origins;
 use lk_sets::BitRows;
 use std::alloc::Global;
 use std::process::Abort;
-use std::test::Fail;
 
 /// The levels and the origins of a program.
-fn flow(rt: &impl Abort, alloc: Global, program: &Small<'_>) -> Result<(BitRows, Origins), Fail> {
+fn flow(
+    rt: &impl Abort,
+    alloc: Global,
+    program: &Small<'_>,
+) -> Result<(BitRows, Origins), NoMemory> {
     let points = program.made(rt, alloc)?;
-    let labels = labels(alloc, &points)?;
+    let Ok(labels) = labels(alloc, &points) else {
+        return Err(NoMemory);
+    };
     let edges = edges(alloc, &points, &labels)?;
     let levels = levels(alloc, &edges, &labels)?;
     let origins = origins(alloc, &edges, &levels, &labels)?;
@@ -47,7 +53,7 @@ fn are_crossing(found: &Origins, sites: u32, wanted: &[(u32, u32, u32)]) -> bool
 }
 
 /// A program has the levels and the origins that are worked out.
-pub fn check_flow(rt: &impl Abort, alloc: Global, worked: &Worked<'_>) -> Result<(), Fail> {
+pub fn check_flow(rt: &impl Abort, alloc: Global, worked: &Worked<'_>) -> Result<(), NoMemory> {
     let (levels, origins) = flow(rt, alloc, &worked.program)?;
     check(
         rt,

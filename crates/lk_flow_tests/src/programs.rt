@@ -1,13 +1,12 @@
 //! Small programs, made from plain tuples.
 
-use lk_base::{Name, Seq, Spot};
+use lk_base::{Name, NoMemory, Seq, Spot};
 use lk_facts::{
     Action, Function, Holder, Mark, Places, Point, Points, Program, Root, RootKind, Site,
 };
 use lk_types::{Base, CType, NodeId, TypeId, TypeIds, TypeTable};
 use std::alloc::Global;
 use std::process::Abort;
-use std::test::Fail;
 
 const SPOT: Spot = Spot {
     file: 0,
@@ -84,7 +83,7 @@ pub struct Small<'a> {
 }
 
 /// Types with these numbers.
-fn type_ids(alloc: Global, numbers: &[u32]) -> Result<Vec<TypeId>, Fail> {
+fn type_ids(alloc: Global, numbers: &[u32]) -> Result<Vec<TypeId>, NoMemory> {
     let mut types = Vec::new(alloc);
     for number in numbers {
         types.push(TypeId(*number))?;
@@ -94,7 +93,7 @@ fn type_ids(alloc: Global, numbers: &[u32]) -> Result<Vec<TypeId>, Fail> {
 
 impl Form<'_> {
     /// The type.
-    fn made(&self, alloc: Global) -> Result<CType, Fail> {
+    fn made(&self, alloc: Global) -> Result<CType, NoMemory> {
         Ok(match self {
             Form::Pointer(t) => CType::Pointer(TypeId(*t)),
             Form::Function(result, params) => CType::Function {
@@ -155,20 +154,28 @@ impl Passing {
 }
 
 /// Puts a type behind the others.
-fn put(rt: &impl Abort, table: &mut TypeTable, form: CType) -> Result<TypeId, Fail> {
+fn put(rt: &impl Abort, table: &mut TypeTable, form: CType) -> Result<TypeId, NoMemory> {
     assert!(rt; table.is_form(&form));
     assert!(rt; table.form_size(&form).is_some());
     assert!(rt; table.count() < u32::MAX);
     Ok(table.put(form)?)
 }
 
+/// A name, which is short.
+fn name(alloc: Global, text: &str) -> Result<Name, NoMemory> {
+    match Name::from_bytes(alloc, text.as_bytes()) {
+        Ok(name) => Ok(name),
+        Err(_) => Err(NoMemory),
+    }
+}
+
 /// A root.
-fn root(alloc: Global, kind: RootKind, ty: u32) -> Result<Root, Fail> {
+fn root(alloc: Global, kind: RootKind, ty: u32) -> Result<Root, NoMemory> {
     Ok(Root {
         kind,
         ty: TypeId(ty),
         spot: SPOT,
-        name: Name::from_bytes(alloc, b"r")?,
+        name: name(alloc, "r")?,
         function: None,
         point: None,
         bytes: Seq::new(Vec::new(alloc)),
@@ -176,14 +183,14 @@ fn root(alloc: Global, kind: RootKind, ty: u32) -> Result<Root, Fail> {
 }
 
 /// A function with this number.
-fn function(alloc: Global, number: u32, code: &Code<'_>) -> Result<Function, Fail> {
+fn function(alloc: Global, number: u32, code: &Code<'_>) -> Result<Function, NoMemory> {
     let (root, entry, slots, params, result, value_site) = *code;
     let mut parameters = Vec::new(alloc);
     for slot in 0..params {
         parameters.push(Holder::Slot(number, slot))?;
     }
     Ok(Function {
-        name: Name::from_bytes(alloc, b"f")?,
+        name: name(alloc, "f")?,
         root,
         entry,
         exit: entry,
@@ -215,7 +222,7 @@ pub fn point(
 
 impl Small<'_> {
     /// The types.
-    fn table(&self, rt: &impl Abort, alloc: Global) -> Result<TypeTable, Fail> {
+    fn table(&self, rt: &impl Abort, alloc: Global) -> Result<TypeTable, NoMemory> {
         let mut table = TypeTable::new(alloc)?;
         for form in self.types {
             put(rt, &mut table, form.made(alloc)?)?;
@@ -226,7 +233,7 @@ impl Small<'_> {
     }
 
     /// The arguments of a point.
-    fn args_of(&self, alloc: Global, point: u32) -> Result<Seq<u32>, Fail> {
+    fn args_of(&self, alloc: Global, point: u32) -> Result<Seq<u32>, NoMemory> {
         let mut args = Vec::new(alloc);
         for (at, arg) in self.args {
             if *at == point {
@@ -237,7 +244,7 @@ impl Small<'_> {
     }
 
     /// The points.
-    pub fn point_list(&self, alloc: Global) -> Result<Vec<Point>, Fail> {
+    pub fn point_list(&self, alloc: Global) -> Result<Vec<Point>, NoMemory> {
         let mut points = Vec::new(alloc);
         for (number, (function, step, value)) in (0..u32::MAX).zip(self.points) {
             let args = self.args_of(alloc, number)?;
@@ -249,7 +256,7 @@ impl Small<'_> {
     }
 
     /// The functions.
-    fn function_list(&self, alloc: Global) -> Result<Vec<Function>, Fail> {
+    fn function_list(&self, alloc: Global) -> Result<Vec<Function>, NoMemory> {
         let mut functions = Vec::new(alloc);
         for (number, code) in (0..u32::MAX).zip(self.functions) {
             functions.push(function(alloc, number, code)?)?;
@@ -258,7 +265,7 @@ impl Small<'_> {
     }
 
     /// The roots.
-    fn root_list(&self, alloc: Global) -> Result<Vec<Root>, Fail> {
+    fn root_list(&self, alloc: Global) -> Result<Vec<Root>, NoMemory> {
         let mut roots = Vec::new(alloc);
         for (kind, ty) in self.roots {
             roots.push(root(alloc, *kind, *ty)?)?;
@@ -267,7 +274,7 @@ impl Small<'_> {
     }
 
     /// The places, each the whole of its root.
-    fn place_list(&self, rt: &impl Abort, alloc: Global) -> Result<Places, Fail> {
+    fn place_list(&self, rt: &impl Abort, alloc: Global) -> Result<Places, NoMemory> {
         let mut places = Places::new(alloc);
         for (root, ty) in self.places {
             assert!(rt; places.len() < 65_536);
@@ -294,7 +301,7 @@ impl Small<'_> {
         rt: &impl Abort,
         alloc: Global,
         points: Vec<Point>,
-    ) -> Result<Points, Fail> {
+    ) -> Result<Points, NoMemory> {
         let program = Program {
             points: Seq::new(points),
             functions: Seq::new(self.function_list(alloc)?),
@@ -311,7 +318,7 @@ impl Small<'_> {
     }
 
     /// The program.
-    pub fn made(&self, rt: &impl Abort, alloc: Global) -> Result<Points, Fail> {
+    pub fn made(&self, rt: &impl Abort, alloc: Global) -> Result<Points, NoMemory> {
         self.made_of(rt, alloc, self.point_list(alloc)?)
     }
 }
