@@ -4,6 +4,7 @@ ghost use Rattle.lk_facts.specs.Facts.{basis_of};
 ghost use Rattle.lk_rise.specs.Conflicts.{AreRacingLists};
 ghost use Rattle.lk_rise.specs.Correlations.{AreInRange};
 
+use lk_base::NoMemory;
 use lk_conflict::{conflicts, verdicts};
 use lk_facts::{Facts, Held, Verdict};
 use lk_graph::after;
@@ -12,7 +13,6 @@ use lk_rise::{Conflicts, Items};
 use lk_sets::IdSet;
 use std::alloc::Global;
 use std::process::Abort;
-use std::test::Fail;
 
 /// The items, with these lock sets.
 pub fn items_in(
@@ -20,7 +20,7 @@ pub fn items_in(
     alloc: Global,
     facts: &Facts<'_>,
     held: &Held,
-) -> Result<Items, Fail>
+) -> Result<Items, NoMemory>
     ensures { IfOk result (λ found. AreInRange facts.now (length facts.now.labels.entries) found.entries) }
 {
     assert!(rt; held.labels() == facts.labels().count());
@@ -35,7 +35,7 @@ fn races_of(
     facts: &Facts<'_>,
     held: &Held,
     items: &Items,
-) -> Result<Conflicts, Fail>
+) -> Result<Conflicts, NoMemory>
     requires { AreInRange facts.now (length facts.now.labels.entries) items.now.entries }
     ensures { IfOk result (λ c. AreRacingLists (basis_of facts.now) c.entries c.racing) }
 {
@@ -51,7 +51,7 @@ pub fn races_in(
     alloc: Global,
     facts: &Facts<'_>,
     held: &Held,
-) -> Result<Conflicts, Fail>
+) -> Result<Conflicts, NoMemory>
     ensures { IfOk result (λ c. AreRacingLists (basis_of facts.now) c.entries c.racing) }
 {
     let items = items_in(rt, alloc, facts, held)?;
@@ -64,7 +64,7 @@ fn verdicts_of(
     facts: &Facts<'_>,
     races: &Conflicts,
     linear: &[u32],
-) -> Result<Vec<Verdict>, Fail>
+) -> Result<Vec<Verdict>, NoMemory>
     requires { AreRacingLists (basis_of facts.now) races.now.entries races.now.racing }
 {
     let linear = IdSet::from_list(alloc, linear)?;
@@ -78,7 +78,7 @@ pub fn verdicts_in(
     facts: &Facts<'_>,
     held: &Held,
     linear: &[u32],
-) -> Result<Vec<Verdict>, Fail> {
+) -> Result<Vec<Verdict>, NoMemory> {
     let races = races_in(rt, alloc, facts, held)?;
     verdicts_of(alloc, facts, &races, linear)
 }

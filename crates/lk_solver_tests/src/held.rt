@@ -1,5 +1,6 @@
 use crate::checks::{Pair, are_at, are_out, check};
 use crate::programs::{CODE, LOCK_NAME, MUTEX, NAME, Named, Passing, STATIC, Small, Step};
+use lk_base::NoMemory;
 use lk_held::held;
 use std::alloc::Global;
 use std::process::Abort;
@@ -240,7 +241,7 @@ const BETWEEN_FUNCTIONS: &[Case<'static>] = &[
     ),
 ];
 
-fn check_case(rt: &impl Abort, alloc: Global, case: &Case<'_>) -> Result<(), Fail> {
+fn check_case(rt: &impl Abort, alloc: Global, case: &Case<'_>) -> Result<(), NoMemory> {
     let (shows, program, at, keep, out, released) = case;
     let made = program.made(rt, alloc)?;
     let found = held(alloc, &made.facts(rt))?;

@@ -1,6 +1,7 @@
 use crate::analysis::items_in;
 use crate::checks::{Entry, are_items, check};
 use crate::programs::{CELL, CODE, LOCK_NAME, MUTEX, NAME, Named, Passing, STATIC, Small, Step};
+use lk_base::NoMemory;
 use lk_facts::Facts;
 use lk_held::held;
 use std::alloc::Global;
@@ -177,14 +178,14 @@ fn check_found(
     alloc: Global,
     case: &Case<'_>,
     facts: &Facts<'_>,
-) -> Result<(), Fail> {
+) -> Result<(), NoMemory> {
     let held = held(alloc, facts)?;
     let found = items_in(rt, alloc, facts, &held)?;
     check(rt, case.0, "items", are_items(&found, case.2));
     Ok(())
 }
 
-fn check_case(rt: &impl Abort, alloc: Global, case: &Case<'_>) -> Result<(), Fail> {
+fn check_case(rt: &impl Abort, alloc: Global, case: &Case<'_>) -> Result<(), NoMemory> {
     let made = case.1.made(rt, alloc)?;
     check_found(rt, alloc, case, &made.facts(rt))
 }

@@ -1,4 +1,5 @@
 use crate::programs::{CELL, CODE, LOCK_NAME, MUTEX, NAME, Named, Passing, STATIC, Small, Step};
+use lk_base::NoMemory;
 use lk_facts::{Facts, Site, Way};
 use lk_links::{Link, Links, clash, held_as, risen};
 use std::alloc::Global;
@@ -80,7 +81,7 @@ fn wanted_links(point: u32, links: &[Link]) -> Option<usize> {
     Some(links.len())
 }
 
-fn check_links(rt: &impl Abort, alloc: Global, facts: &Facts<'_>) -> Result<(), Fail> {
+fn check_links(rt: &impl Abort, alloc: Global, facts: &Facts<'_>) -> Result<(), NoMemory> {
     let links = Links::new(alloc, facts)?;
     let mut count = 0;
     for point in 0..facts.points().count() {
@@ -99,10 +100,11 @@ fn check_links(rt: &impl Abort, alloc: Global, facts: &Facts<'_>) -> Result<(), 
 #[test]
 fn each_live_way_into_a_function_is_a_link(rt: HostRuntime) -> Result<(), Fail> {
     let made = CALLS.made(&rt, rt.alloc())?;
-    check_links(&rt, rt.alloc(), &made.facts(&rt))
+    check_links(&rt, rt.alloc(), &made.facts(&rt))?;
+    Ok(())
 }
 
-fn check_names(rt: &impl Abort, alloc: Global, facts: &Facts<'_>) -> Result<(), Fail> {
+fn check_names(rt: &impl Abort, alloc: Global, facts: &Facts<'_>) -> Result<(), NoMemory> {
     assert!(rt; facts.labels().count() == 13);
     assert!(rt; clash(facts, 8, 9) && !clash(facts, 8, 1));
     assert!(rt; held_as(facts, 10) == 10 && held_as(facts, 3) == 3 && held_as(facts, 12) == 3);
@@ -116,5 +118,6 @@ fn a_lock_is_held_as_its_one_place_and_crosses_where_it_is_one_label(
     rt: HostRuntime,
 ) -> Result<(), Fail> {
     let made = NAMES.made(&rt, rt.alloc())?;
-    check_names(&rt, rt.alloc(), &made.facts(&rt))
+    check_names(&rt, rt.alloc(), &made.facts(&rt))?;
+    Ok(())
 }

@@ -1,5 +1,6 @@
 use crate::checks::check;
 use crate::programs::{CODE, NAME, Named, Passing, STATIC, Small, Step};
+use lk_base::NoMemory;
 use lk_graph::many;
 use std::alloc::Global;
 use std::process::Abort;
@@ -90,7 +91,7 @@ const CASES: &[Case<'static>] = &[
     ),
 ];
 
-fn check_case(rt: &impl Abort, alloc: Global, case: &Case<'_>) -> Result<(), Fail> {
+fn check_case(rt: &impl Abort, alloc: Global, case: &Case<'_>) -> Result<(), NoMemory> {
     let (shows, program, again) = case;
     let points = program.points(rt, alloc)?;
     let found = many(alloc, &points)?;

@@ -1,5 +1,6 @@
 use crate::checks::{Pair, check, is_relation};
 use crate::programs::{Named, Passing, Storage, edge_list, flow, label_table};
+use lk_base::NoMemory;
 use lk_facts::{Label, Labels, Origins, Site};
 use lk_match::levels;
 use std::alloc::Global;
@@ -103,7 +104,7 @@ fn check_levels(
     alloc: Global,
     case: &Case<'_>,
     labels: &Labels,
-) -> Result<(), Fail> {
+) -> Result<(), NoMemory> {
     let edges = edge_list(alloc, case.2)?;
     let count = labels.count();
     assert!(rt;
@@ -116,7 +117,7 @@ fn check_levels(
     Ok(())
 }
 
-fn check_case(rt: &impl Abort, alloc: Global, case: &Case<'_>) -> Result<(), Fail> {
+fn check_case(rt: &impl Abort, alloc: Global, case: &Case<'_>) -> Result<(), NoMemory> {
     let labels = label_table(rt, alloc, case.1, Vec::new(alloc))?;
     check_levels(rt, alloc, case, &labels)?;
     let found = flow(rt, alloc, case.2, &labels)?;

@@ -4,7 +4,7 @@ ghost use Rattle.std.specs.Prelude.{◌≡◌};
 ghost use Rattle.lk_facts.specs.Facts.{facts_of};
 
 use indexmap::IndexSet;
-use lk_base::{Name, Seq, Spot};
+use lk_base::{Name, NoMemory, Seq, Spot};
 use lk_facts::{
     Action, Edge, Facts, Function, Holder, Label, LabelEntry, LabelName, Labels, Mark, Origins,
     Places, Point, Points, Program, Root, RootKind, Site,
@@ -14,7 +14,6 @@ use lk_origin::origins;
 use lk_types::{Base, NodeId, TypeId, TypeTable};
 use std::alloc::Global;
 use std::process::Abort;
-use std::test::Fail;
 
 /// How many sites a program has at most.
 const SITES: u32 = 16;
@@ -232,8 +231,16 @@ fn entry(number: u32, named: Named, storage: Storage) -> LabelEntry {
     }
 }
 
+/// A name, which is short.
+fn name(alloc: Global, text: &str) -> Result<Name, NoMemory> {
+    match Name::from_bytes(alloc, text.as_bytes()) {
+        Ok(name) => Ok(name),
+        Err(_) => Err(NoMemory),
+    }
+}
+
 /// The root of a label.
-fn root(alloc: Global, named: Named, storage: Storage) -> Result<Root, Fail> {
+fn root(alloc: Global, named: Named, storage: Storage) -> Result<Root, NoMemory> {
     let (kind, function, point) = match (named, storage) {
         (Named::Function(function), _) => (RootKind::Function, Some(function), None),
         (_, Storage::Static) => (RootKind::Global, None, None),
@@ -244,7 +251,7 @@ fn root(alloc: Global, named: Named, storage: Storage) -> Result<Root, Fail> {
         kind,
         ty: named.ty(),
         spot: SPOT,
-        name: Name::from_bytes(alloc, b"r")?,
+        name: name(alloc, "r")?,
         function,
         point,
         bytes: Seq::new(Vec::new(alloc)),
@@ -257,7 +264,7 @@ pub fn label_table(
     alloc: Global,
     labels: &[(Named, Storage)],
     targets: Vec<Option<Label>>,
-) -> Result<Labels, Fail> {
+) -> Result<Labels, NoMemory> {
     let mut names = IndexSet::new(alloc);
     let mut entries = Vec::new(alloc);
     for (number, (named, storage)) in (0..u32::MAX).zip(labels) {
@@ -272,7 +279,7 @@ pub fn label_table(
 }
 
 /// These edges.
-pub fn edge_list(alloc: Global, edges: &[(u32, u32, Passing)]) -> Result<Vec<Edge>, Fail> {
+pub fn edge_list(alloc: Global, edges: &[(u32, u32, Passing)]) -> Result<Vec<Edge>, NoMemory> {
     let mut list = Vec::new(alloc);
     for (from, to, passing) in edges {
         list.push(Edge {
@@ -290,7 +297,7 @@ pub fn flow(
     alloc: Global,
     edges: &[(u32, u32, Passing)],
     labels: &Labels,
-) -> Result<Origins, Fail> {
+) -> Result<Origins, NoMemory> {
     let edges = edge_list(alloc, edges)?;
     let count = labels.count();
     assert!(rt;
@@ -314,13 +321,13 @@ impl Made {
 
 impl Small<'_> {
     /// The program, made.
-    pub fn made(&self, rt: &impl Abort, alloc: Global) -> Result<Made, Fail> {
+    pub fn made(&self, rt: &impl Abort, alloc: Global) -> Result<Made, NoMemory> {
         let points = self.points(rt, alloc)?;
         self.made_of(rt, alloc, points)
     }
 
     /// The program of these points, made.
-    fn made_of(&self, rt: &impl Abort, alloc: Global, points: Points) -> Result<Made, Fail> {
+    fn made_of(&self, rt: &impl Abort, alloc: Global, points: Points) -> Result<Made, NoMemory> {
         let labels = self.labels(rt, alloc)?;
         self.made_with(rt, alloc, points, labels)
     }
@@ -332,7 +339,7 @@ impl Small<'_> {
         alloc: Global,
         points: Points,
         labels: Labels,
-    ) -> Result<Made, Fail> {
+    ) -> Result<Made, NoMemory> {
         let origins = flow(rt, alloc, self.edges, &labels)?;
         Ok(Made {
             points,
@@ -342,7 +349,13 @@ impl Small<'_> {
     }
 
     /// A point.
-    fn point(&self, alloc: Global, number: u32, function: u32, step: Step) -> Result<Point, Fail> {
+    fn point(
+        &self,
+        alloc: Global,
+        number: u32,
+        function: u32,
+        step: Step,
+    ) -> Result<Point, NoMemory> {
         let live = !self.dead.contains(&number);
         let next: Vec<u32> = self
             .next
@@ -362,7 +375,7 @@ impl Small<'_> {
     }
 
     /// The points.
-    pub fn point_list(&self, alloc: Global) -> Result<Vec<Point>, Fail> {
+    pub fn point_list(&self, alloc: Global) -> Result<Vec<Point>, NoMemory> {
         let mut points = Vec::new(alloc);
         for (number, (function, step)) in (0..u32::MAX).zip(self.points) {
             points.push(self.point(alloc, number, *function, *step)?)?;
@@ -371,11 +384,11 @@ impl Small<'_> {
     }
 
     /// The functions.
-    pub fn function_list(&self, alloc: Global) -> Result<Vec<Function>, Fail> {
+    pub fn function_list(&self, alloc: Global) -> Result<Vec<Function>, NoMemory> {
         let mut functions = Vec::new(alloc);
         for (entry, exit, label, site) in self.functions {
             functions.push(Function {
-                name: Name::from_bytes(alloc, b"f")?,
+                name: name(alloc, "f")?,
                 root: *label,
                 entry: *entry,
                 exit: *exit,
@@ -389,7 +402,7 @@ impl Small<'_> {
     }
 
     /// The roots.
-    fn roots(&self, alloc: Global) -> Result<Vec<Root>, Fail> {
+    fn roots(&self, alloc: Global) -> Result<Vec<Root>, NoMemory> {
         let mut roots = Vec::new(alloc);
         for (named, storage) in self.labels {
             roots.push(root(alloc, *named, *storage)?)?;
@@ -398,7 +411,7 @@ impl Small<'_> {
     }
 
     /// The places, each the whole of its root.
-    fn places(&self, rt: &impl Abort, alloc: Global) -> Result<Places, Fail> {
+    fn places(&self, rt: &impl Abort, alloc: Global) -> Result<Places, NoMemory> {
         let mut places = Places::new(alloc);
         for (number, (named, _)) in (0..u32::MAX).zip(self.labels) {
             assert!(rt; places.len() < 65_536);
@@ -410,7 +423,7 @@ impl Small<'_> {
     }
 
     /// The program as its points.
-    pub fn points(&self, rt: &impl Abort, alloc: Global) -> Result<Points, Fail> {
+    pub fn points(&self, rt: &impl Abort, alloc: Global) -> Result<Points, NoMemory> {
         let program = Program {
             points: Seq::new(self.point_list(alloc)?),
             functions: Seq::new(self.function_list(alloc)?),
@@ -433,7 +446,7 @@ impl Small<'_> {
     }
 
     /// The labels, with those that points access, lock, free and call through.
-    fn labels(&self, rt: &impl Abort, alloc: Global) -> Result<Labels, Fail> {
+    fn labels(&self, rt: &impl Abort, alloc: Global) -> Result<Labels, NoMemory> {
         let targets: Vec<Option<Label>> = self
             .points
             .iter()

@@ -7,6 +7,7 @@ use crate::checks::{
 use crate::programs::{
     CELL, CODE, LOCK_NAME, MUTEX, NAME, Named, Passing, STATIC, Small, Step, Storage,
 };
+use lk_base::NoMemory;
 use lk_facts::{Facts, Held, Points, VerdictState};
 use lk_graph::many;
 use lk_held::held;
@@ -998,7 +999,7 @@ fn check_items(
     worked: &Worked<'_>,
     facts: &Facts<'_>,
     held: &Held,
-) -> Result<(), Fail> {
+) -> Result<(), NoMemory> {
     let items = items_in(rt, alloc, facts, held)?;
     check(rt, worked.shows, "items", are_items(&items, worked.items));
     let races = races_in(rt, alloc, facts, held)?;
@@ -1012,7 +1013,7 @@ fn check_many(
     alloc: Global,
     worked: &Worked<'_>,
     points: &Points,
-) -> Result<(), Fail> {
+) -> Result<(), NoMemory> {
     let found = many(alloc, points)?;
     check(rt, worked.shows, "many", found.ids() == worked.many);
     Ok(())
@@ -1024,7 +1025,7 @@ fn check_found(
     alloc: Global,
     worked: &Worked<'_>,
     facts: &Facts<'_>,
-) -> Result<(), Fail> {
+) -> Result<(), NoMemory> {
     let held = held(alloc, facts)?;
     check_held(rt, worked, &held);
     check_items(rt, alloc, worked, facts, &held)?;
@@ -1039,27 +1040,31 @@ fn check_found(
     Ok(())
 }
 
-fn check_worked(rt: &impl Abort, alloc: Global, worked: &Worked<'_>) -> Result<(), Fail> {
+fn check_worked(rt: &impl Abort, alloc: Global, worked: &Worked<'_>) -> Result<(), NoMemory> {
     let made = worked.program.made(rt, alloc)?;
     check_found(rt, alloc, worked, &made.facts(rt))
 }
 
 #[test]
 fn a_callee_releases_its_callers_lock(rt: HostRuntime) -> Result<(), Fail> {
-    check_worked(&rt, rt.alloc(), &CALLEE_RELEASES)
+    check_worked(&rt, rt.alloc(), &CALLEE_RELEASES)?;
+    Ok(())
 }
 
 #[test]
 fn a_lock_is_kept_over_a_call_through_a_table(rt: HostRuntime) -> Result<(), Fail> {
-    check_worked(&rt, rt.alloc(), &TABLE_CALL)
+    check_worked(&rt, rt.alloc(), &TABLE_CALL)?;
+    Ok(())
 }
 
 #[test]
 fn a_lock_is_held_over_a_wait(rt: HostRuntime) -> Result<(), Fail> {
-    check_worked(&rt, rt.alloc(), &CONDITION_WAIT)
+    check_worked(&rt, rt.alloc(), &CONDITION_WAIT)?;
+    Ok(())
 }
 
 #[test]
 fn a_lock_that_is_allocated_in_a_loop_is_not_linear(rt: HostRuntime) -> Result<(), Fail> {
-    check_worked(&rt, rt.alloc(), &LOOP_ALLOCATION)
+    check_worked(&rt, rt.alloc(), &LOOP_ALLOCATION)?;
+    Ok(())
 }

@@ -1,6 +1,7 @@
 use crate::analysis::verdicts_in;
 use crate::checks::{Judged, are_verdicts, check};
 use crate::programs::{CELL, CODE, LOCK_NAME, MUTEX, Named, Passing, Small, Step, Storage};
+use lk_base::NoMemory;
 use lk_facts::{Facts, VerdictState};
 use lk_held::held;
 use std::alloc::Global;
@@ -116,14 +117,14 @@ fn check_found(
     alloc: Global,
     case: &Case<'_>,
     facts: &Facts<'_>,
-) -> Result<(), Fail> {
+) -> Result<(), NoMemory> {
     let held = held(alloc, facts)?;
     let found = verdicts_in(rt, alloc, facts, &held, case.2)?;
     check(rt, case.0, "verdicts", are_verdicts(&found, &[case.3]));
     Ok(())
 }
 
-fn check_case(rt: &impl Abort, alloc: Global, case: &Case<'_>) -> Result<(), Fail> {
+fn check_case(rt: &impl Abort, alloc: Global, case: &Case<'_>) -> Result<(), NoMemory> {
     let made = case.1.made(rt, alloc)?;
     check_found(rt, alloc, case, &made.facts(rt))
 }
