@@ -22,18 +22,13 @@ fn member_location(
 }
 
 #[test]
-fn a_cell_is_of_the_location_of_its_member(rt: HostRuntime) -> Result<(), Fail> {
+fn a_cell_is_of_the_location_of_its_member_and_a_mutex_of_none(
+    rt: HostRuntime,
+) -> Result<(), Fail> {
     let points = sample(&rt, rt.alloc())?;
     let state = start(rt.alloc(), &points, &[])?;
     let found = member_location(rt.alloc(), &points, &state, 0)?;
     assert!(&rt; found == Some(0));
-    Ok(())
-}
-
-#[test]
-fn a_mutex_is_of_no_location(rt: HostRuntime) -> Result<(), Fail> {
-    let points = sample(&rt, rt.alloc())?;
-    let state = start(rt.alloc(), &points, &[])?;
     let found = member_location(rt.alloc(), &points, &state, 1)?;
     assert!(&rt; found == None);
     Ok(())
