@@ -7,6 +7,8 @@ mod analysis;
 #[cfg(test)]
 mod checks;
 #[cfg(test)]
+mod graph;
+#[cfg(test)]
 mod held;
 #[cfg(test)]
 mod items;
