@@ -56,7 +56,7 @@ pub record Numbers : Type 0 where
   -- the node to which the steps to a cell of an object of the type lead, with indices forgotten
   pub node : ℕ → List CellStep → NodeId
 
-abbrev is_whole : Defines → Bool
+abbrev pub is_whole : Defines → Bool
 is_whole Nothing = false
 is_whole Tentative = false
 is_whole WholeDefinition = true
@@ -66,7 +66,7 @@ first_of None is = Some is
 first_of (Some found) is = Some found
 
 -- of several declarations the one with a body or an initialiser counts, else the first
-abbrev counted_among : List Declaration → Option Declaration → Option Declaration
+abbrev pub counted_among : List Declaration → Option Declaration → Option Declaration
 counted_among [] found = found
 counted_among (is ∷ others) found = if is_whole is.defines then Some is else counted_among others (first_of found is)
 
@@ -76,14 +76,14 @@ declaration_of entity = counted_among entity.declarations None
 module _ (whole : Whole) (numbers : Numbers) where
   -- ---- what the numbers of a source stand for
 
-  abbrev linked_at : ℕ → Option Linked
+  abbrev pub linked_at : ℕ → Option Linked
   linked_at s = slice_get whole.sources s
 
   -- the program's entity of an entity of a source
-  abbrev entity_here : Linked → ℕ → Option WholeEntity
+  abbrev pub entity_here : Linked → ℕ → Option WholeEntity
   entity_here linked e = option_and_then (slice_get whole.entities) (slice_get linked.entities e)
 
-  abbrev entity_at : ℕ → ℕ → Option Entity
+  abbrev pub entity_at : ℕ → ℕ → Option Entity
   entity_at s e = option_and_then (λ linked. slice_get linked.unit.entities e) (linked_at s)
 
   -- the source that defines an entity of the program, and its entity there
@@ -94,16 +94,16 @@ module _ (whole : Whole) (numbers : Numbers) where
   root_of_entity None = 0
   root_of_entity (Some (s, e)) = option_map_or (λ declaration. numbers.root s declaration.ordinal) (option_and_then declaration_of (entity_at s e)) 0
 
-  abbrev object_root : (s : ℕ) → List Local → Storage → ℕ
+  abbrev pub object_root : (s : ℕ) → List Local → Storage → ℕ
   object_root s locals (storage.Entity e) = root_of_entity (definition_of s e)
   object_root s locals (storage.Local l) = option_map_or (λ local. numbers.root s local.ordinal) (slice_get locals l) 0
 
   -- the place in a list of the first element with a property
-  abbrev place_in : {A : Type 0} → (A → Bool) → List A → ℕ
+  abbrev pub place_in : {A : Type 0} → (A → Bool) → List A → ℕ
   place_in test [] = 0
   place_in test (a ∷ others) = if test a then 0 else suc (place_in test others)
 
-  abbrev is_body_of : ℕ → Body → Bool
+  abbrev pub is_body_of : ℕ → Body → Bool
   is_body_of e body = nat_eq body.entity e
 
   abbrev pub function_of : Option (ℕ × ℕ) → ℕ
@@ -117,7 +117,7 @@ module _ (whole : Whole) (numbers : Numbers) where
   node_of None = record { ordinal = 0; spot = no_place; type = 0 }
   node_of (Some local) = record { ordinal = local.ordinal; spot = local.spot; type = local.ty }
 
-  abbrev slot_of : (s : ℕ) → Local → Option ℕ
+  abbrev pub slot_of : (s : ℕ) → Local → Option ℕ
   slot_of s local = if local.is_slot then Some (numbers.slot s local.ordinal) else None
 
   -- what the numbers stand for of the source s, where these are the locals
@@ -151,7 +151,7 @@ module _ (whole : Whole) (numbers : Numbers) where
   declared_at (Some is) t = record { ordinal = is.ordinal; spot = is.spot; type = t }
 
   -- the function that the points of an initialiser of static storage stand in: none, which is written as the number of functions
-  abbrev no_function : Program → ℕ
+  abbrev pub no_function : Program → ℕ
   no_function program = length program.functions
 
   -- a step of a body, or of the initialiser of an object of static storage, with the function in which it stands

@@ -35,17 +35,17 @@ of_optional None = []
 of_optional (Some found) = found
 
 -- whether there is no count
-abbrev is_one : {A : Type 0} → Option A → Bool
+abbrev pub is_one : {A : Type 0} → Option A → Bool
 is_one None = true
 is_one (Some count) = false
 
 -- `form` says what a type of the source is
 module _ (form : ℕ → CType) where
-  abbrev Finder : Type 0
+  abbrev pub Finder : Type 0
   Finder = Node → List Owned
 
   -- a choice of type void has no value
-  abbrev hidden_of : CType → Node → List Owned
+  abbrev pub hidden_of : CType → Node → List Owned
   hidden_of Void node = []
   hidden_of (Int k) node = hidden node ∷ []
   hidden_of ThreadId node = hidden node ∷ []
@@ -57,11 +57,11 @@ module _ (form : ℕ → CType) where
   hidden_of (Function result params dots) node = hidden node ∷ []
   hidden_of (Opaque n) node = hidden node ∷ []
 
-  abbrev of_callee : Callee-F (List Owned) Finder Finder (List Owned) → List Owned
+  abbrev pub of_callee : Callee-F (List Owned) Finder Finder (List Owned) → List Owned
   of_callee (Callee-F.Callee::Function entity) = []
   of_callee (Callee-F.Pointer a) = a
 
-  abbrev of_library : LibraryCall-F (List Owned) Finder Finder (List Owned) → Finder
+  abbrev pub of_library : LibraryCall-F (List Owned) Finder Finder (List Owned) → Finder
   of_library (LibraryCall-F.Create id entity argument) node = id ++ argument
   of_library (LibraryCall-F.Join a) node = a
   of_library (LibraryCall-F.Detach a) node = a
@@ -81,7 +81,7 @@ module _ (form : ℕ → CType) where
   of_library (LibraryCall-F.Print format args) node = format ++ all_of args
   of_library (LibraryCall-F.Compute args) node = all_of args
 
-  abbrev of_form : TypedForm-F (List Owned) Finder Finder (List Owned) → Finder
+  abbrev pub of_form : TypedForm-F (List Owned) Finder Finder (List Owned) → Finder
   of_form (TypedForm-F.Object storage) node = []
   of_form (TypedForm-F.Text bytes) node = text node bytes ∷ []
   of_form (TypedForm-F.Member a k) node = a
@@ -111,7 +111,7 @@ module _ (form : ℕ → CType) where
   of_form (TypedForm-F.Discard a) node = a
   of_form TypedForm-F.Null node = []
 
-  abbrev of_expr : TypedExpr-F (List Owned) Finder Finder (List Owned) → List Owned
+  abbrev pub of_expr : TypedExpr-F (List Owned) Finder Finder (List Owned) → List Owned
   of_expr e = e.form (record { ordinal = e.ordinal; spot = e.spot; type = e.ty })
 
   unfoldable pub owned : TypedExpr → List Owned
@@ -121,12 +121,12 @@ module _ (form : ℕ → CType) where
   owned_in None = []
   owned_in (Some e) = owned e
 
-  abbrev of_value : LocalValue → List Owned
+  abbrev pub of_value : LocalValue → List Owned
   of_value (value.Expr e) = owned e
   of_value (value.Text spot node bytes) = []
   of_value value.Ready = []
 
-  abbrev of_parts : List LocalPart → List Owned
+  abbrev pub of_parts : List LocalPart → List Owned
   of_parts [] = []
   of_parts (one ∷ others) = of_value one.value ++ of_parts others
 
@@ -134,19 +134,19 @@ module _ (form : ℕ → CType) where
   of_static_parts [] = []
   of_static_parts (one ∷ others) = owned_in one.pointer ++ of_static_parts others
 
-  abbrev of_inits : List LocalInit → List Owned
+  abbrev pub of_inits : List LocalInit → List Owned
   of_inits [] = []
   of_inits (one ∷ others) = of_parts one.named ++ of_inits others
 
-  abbrev of_first : TypedFirst → List Owned
+  abbrev pub of_first : TypedFirst → List Owned
   of_first (for_first.Expr e) = owned_in e
   of_first (for_first.Declare list) = of_inits list
 
-  abbrev in_item : TypedItem-F (List Owned) (List Owned) (List Owned) → List Owned
+  abbrev pub in_item : TypedItem-F (List Owned) (List Owned) (List Owned) → List Owned
   in_item (TypedItem-F.Declare list) = of_inits list
   in_item (TypedItem-F.Stmt a) = a
 
-  abbrev in_form : TypedStmtForm-F (List Owned) (List Owned) (List Owned) → List Owned
+  abbrev pub in_form : TypedStmtForm-F (List Owned) (List Owned) (List Owned) → List Owned
   in_form (TypedStmtForm-F.Label a) = a
   in_form (TypedStmtForm-F.Case a) = a
   in_form (TypedStmtForm-F.Default a) = a
@@ -162,7 +162,7 @@ module _ (form : ℕ → CType) where
   in_form TypedStmtForm-F.Break = []
   in_form (TypedStmtForm-F.Return e) = owned_in e
 
-  abbrev in_stmt : TypedStmt-F (List Owned) (List Owned) (List Owned) → List Owned
+  abbrev pub in_stmt : TypedStmt-F (List Owned) (List Owned) (List Owned) → List Owned
   in_stmt s = s.form
 
   unfoldable pub owned_by : TypedStmt → List Owned

@@ -1,5 +1,5 @@
 -- How expressions are put together from the steps of their operands (C99 5.1.2.3, 6.5; operands go from the left to the right).
-use Rattle.std.specs.Prelude.{ℕ, ◌+◌, false, List, [], ◌∷◌, ◌++◌, Option, None, Some}
+use Rattle.std.specs.Prelude.{ℕ, ◌+◌, false, List, [], ◌∷◌, ◌++◌, Option, None, Some, nat_eq, if◌then◌else◌}
 use Rattle.lk_base.specs.declared.kind.Kind.TheVariants.{Int as IntKind}
 use Rattle.lk_base.specs.declared.spot.Spot.{Spot}
 use Rattle.lk_facts.specs.declared.action.Action.{Action}
@@ -39,6 +39,19 @@ first_of (a ∷ others) last = a.first
 abbrev pub in_turn : List Part → ℕ → Walk
 in_turn [] last = nothing
 in_turn (a ∷ others) last = goes a (first_of others last) then in_turn others last
+
+-- a place or a value, by the steps that it has at a node where it is read or converted: its own, where it stands there. What a cast
+-- converts stands at another node, and all its steps are inside the cast (C99 6.5.4)
+abbrev pub standing_at : ℕ → Part → Part
+standing_at node a = record {
+  node = a.node;
+  slot = a.slot;
+  first = a.first;
+  value = a.value;
+  count = if nat_eq a.node.ordinal node then a.count else 0;
+  steps = λ on. if nat_eq a.node.ordinal node then a.steps on else [];
+  inside = λ on. if nat_eq a.node.ordinal node then a.inside on else goes a on;
+}
 
 -- an expression whose value is that of another point
 abbrev pub with_value : ℕ → Part → Part

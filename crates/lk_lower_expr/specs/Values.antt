@@ -7,7 +7,7 @@ use Rattle.lk_base.specs.declared.kind.Kind.TheVariants.{Int as IntKind}
 use Rattle.lk_facts.specs.declared.action.Action.TheVariants as does
 use Rattle.lk_lower_expr.specs.Names.{Names, Node}
 use Rattle.lk_lower_expr.specs.Parts as parts
-use Rattle.lk_lower_expr.specs.Parts.{Part, goes, step, first_of, in_turn, values}
+use Rattle.lk_lower_expr.specs.Parts.{Part, goes, step, first_of, in_turn, standing_at, values}
 use Rattle.lk_lower_expr.specs.Walk.{◌then◌}
 use Rattle.lk_lower_expr.specs.declared.step.Step.{Step}
 use Rattle.lk_tree.specs.declared.operators.StepOperator.{StepOperator}
@@ -256,20 +256,20 @@ module _ (names : Names) where
       then (if is_pointer (names.form t) || nat_eq t (kind_id IntKind) then step_plain node (operator_of operator) change a t else step_wide node (operator_of operator) change a t)
       else step_narrow node (operator_of operator) change a t
 
-  -- ---- conversions (C99 6.3): each is a step of the node that it converts
+  -- ---- conversions (C99 6.3): each is a step of the node that it converts, and that of a cast one of the cast's own
 
   -- the value that a place has
   abbrev pub load_part : Node → Part → Part
-  load_part node a = parts.followed names node a (parts.reads names a.slot a.value) (parts.value_of names node.type)
+  load_part node a = parts.followed names node (standing_at node.ordinal a) (parts.reads names a.slot a.value) (parts.value_of names node.type)
 
   -- the pointer to the first element of an array
   abbrev pub decay_part : Node → Part → Part
   decay_part node a =
-      parts.followed names node (parts.followed names node a (does.Value (pos 0) (kind_id IntKind)) (parts.int names))
-      (does.Index a.value (at node.ordinal a.count) true) (parts.value_of names node.type)
+      parts.followed names node (parts.followed names node (standing_at node.ordinal a) (does.Value (pos 0) (kind_id IntKind)) (parts.int names))
+      (does.Index a.value (at node.ordinal (standing_at node.ordinal a).count) true) (parts.value_of names node.type)
 
   abbrev pub convert_part : Node → Part → Part
-  convert_part node a = parts.followed names node a (does.Convert a.value (names.type node.type)) (parts.value_of names node.type)
+  convert_part node a = parts.followed names node (standing_at node.ordinal a) (does.Convert a.value (names.type node.type)) (parts.value_of names node.type)
 
   abbrev pub null_part : Node → Part
   null_part node = parts.then_one names node [] (does.Null (names.type node.type)) (parts.value_of names node.type)

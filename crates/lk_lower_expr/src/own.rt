@@ -1,6 +1,7 @@
 //! The steps of an expression's own node.
 ghost use Rattle.std.specs.Prelude.{◌≡◌, IfOk};
 ghost use Rattle.lk_lower_expr.specs.Naming.{node_of};
+ghost use Rattle.lk_lower_expr.specs.Parts.{standing_at};
 ghost use Rattle.lk_lower_expr.specs.Reads.{names_by, part_by};
 ghost use Rattle.lk_lower_expr.specs.Values as rules;
 
@@ -56,6 +57,20 @@ impl Lowering<'_> {
         }
     }
 
+    /// The steps that a place or a value has at a node: those of its own where it stands there, and none where that is the
+    /// node of a cast (C99 6.5.4).
+    #[cycle(owns)]
+    #[tactic(auto, using(crate::proofs::Nodes::stands_at))]
+    fn steps_at(&self, node: u32, inner: &TypedExpr, on: u32) -> Result<Vec<Step>, NoMemory>
+        ensures { IfOk result (λ steps. steps.items ≡ (standing_at node (part_by self.now inner.now)).steps on) }
+    {
+        if inner.ordinal == node {
+            self.own_steps(inner, on)
+        } else {
+            Ok(Vec::new(self.alloc))
+        }
+    }
+
     /// The steps of a place, and then that of its value.
     #[cycle(owns)]
     fn load_steps(&self, e: &TypedExpr, place: &TypedExpr, on: u32) -> Result<Vec<Step>, NoMemory>
@@ -63,7 +78,7 @@ impl Lowering<'_> {
             (rules.load_part (names_by self.now) (node_of e.now) (part_by self.now place.now)).steps on) }
     {
         let own = self.behind(e.ordinal, place, 0)?;
-        let mut steps = self.own_steps(place, own)?;
+        let mut steps = self.steps_at(e.ordinal, place, own)?;
         steps.push(self.load_step(e, place, on)?)?;
         Ok(steps)
     }
@@ -80,7 +95,7 @@ impl Lowering<'_> {
             (rules.convert_part (names_by self.now) (node_of e.now) (part_by self.now value.now)).steps on) }
     {
         let own = self.behind(e.ordinal, value, 0)?;
-        let mut steps = self.own_steps(value, own)?;
+        let mut steps = self.steps_at(e.ordinal, value, own)?;
         steps.push(self.convert_step(e, value, on)?)?;
         Ok(steps)
     }
@@ -93,7 +108,7 @@ impl Lowering<'_> {
     {
         let zero = self.behind(e.ordinal, array, 0)?;
         let own = self.behind(e.ordinal, array, 1)?;
-        let mut steps = self.own_steps(array, zero)?;
+        let mut steps = self.steps_at(e.ordinal, array, zero)?;
         steps.push(int_step(self.alloc, e, 0, own)?)?;
         steps.push(self.element_step(e, array, zero, on)?)?;
         Ok(steps)

@@ -5,6 +5,7 @@ ghost use Rattle.lk_lower_expr.specs.Values as rules;
 ghost use Rattle.lk_types.specs.Table.{type_at};
 ghost use Rattle.lk_lower_expr.specs.Expressions.{library_part};
 ghost use Rattle.lk_lower_expr.specs.Library as calls;
+ghost use Rattle.lk_lower_expr.specs.Parts.{standing_at};
 ghost use Rattle.lk_lower_expr.specs.Reads.{names_by, part_by};
 ghost use Rattle.lk_lower_expr.specs.Naming.{at_of, node_of, slot_of};
 
@@ -202,21 +203,22 @@ impl Lowering<'_> {
     }
 
     /// How many steps of its own the node of an expression has.
+    #[cycle(counts)]
     #[tactic(auto, unfolding(crate::specs::Expressions::part))]
     pub fn count_of(&self, e: &TypedExpr) -> Result<u32, NoMemory>
         ensures { IfOk result (λ count. count ≡ (part_by self.now e.now).count) }
     {
         match &e.form {
             TypedForm::Load(inner) => {
-                let count = self.count_of(inner.get())?;
+                let count = self.count_at(e.ordinal, inner.get())?;
                 with_more(count, 1)
             }
             TypedForm::Decay(inner) => {
-                let count = self.count_of(inner.get())?;
+                let count = self.count_at(e.ordinal, inner.get())?;
                 with_more(count, 2)
             }
             TypedForm::Convert(inner) => {
-                let count = self.count_of(inner.get())?;
+                let count = self.count_at(e.ordinal, inner.get())?;
                 with_more(count, 1)
             }
             TypedForm::Choice(_, _, _) => Ok(choice_count(self.table, e.ty)),
@@ -276,12 +278,26 @@ impl Lowering<'_> {
         }
     }
 
+    /// How many steps a place or a value has at a node: those of its own where it stands there, and none where that is
+    /// the node of a cast (C99 6.5.4).
+    #[cycle(counts)]
+    #[tactic(auto, using(crate::proofs::Nodes::stands_at))]
+    fn count_at(&self, node: u32, inner: &TypedExpr) -> Result<u32, NoMemory>
+        ensures { IfOk result (λ count. count ≡ (standing_at node (part_by self.now inner.now)).count) }
+    {
+        if inner.ordinal == node {
+            self.count_of(inner)
+        } else {
+            Ok(0)
+        }
+    }
+
     /// The step behind those that a place or a value has at its node, where its value is read or converted.
     pub(crate) fn behind(&self, node: u32, inner: &TypedExpr, more: u32) -> Result<u32, NoMemory>
         ensures { IfOk result (λ point.
-            point ≡ at_of self.now.names.now node ((part_by self.now inner.now).count + more)) }
+            point ≡ at_of self.now.names.now node ((standing_at node (part_by self.now inner.now)).count + more)) }
     {
-        let count = self.count_of(inner)?;
+        let count = self.count_at(node, inner)?;
         let step = with_more(count, more)?;
         if step >= 1 << 31 {
             return Err(NoMemory);

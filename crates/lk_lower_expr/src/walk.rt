@@ -3,7 +3,7 @@ ghost use Rattle.std.specs.Prelude.{◌≡◌, ◌++◌, ◌∷◌, [], map, OnO
 ghost use Rattle.lk_lower_expr.specs.Expressions.{library_part};
 ghost use Rattle.lk_lower_expr.specs.Laid.{laid};
 ghost use Rattle.lk_lower_expr.specs.Naming.{at_of, node_of};
-ghost use Rattle.lk_lower_expr.specs.Parts.{goes, in_turn, place_of};
+ghost use Rattle.lk_lower_expr.specs.Parts.{goes, in_turn, place_of, standing_at};
 ghost use Rattle.lk_lower_expr.specs.Reads.{names_by, part_by};
 ghost use Rattle.lk_lower_expr.specs.Walk.{◌then◌};
 
@@ -140,19 +140,25 @@ impl Lowering<'_> {
         self.push_place(place, self.names.at(node, 0), out)
     }
 
-    /// Adds the steps inside a place or a value that is read or converted at the same node, behind those that it has there.
+    /// Adds the steps inside a place or a value that is read or converted at a node, behind those that it has there. All
+    /// steps of what a cast converts are inside the cast (C99 6.5.4).
     #[cycle(lays)]
+    #[tactic(auto, using(crate::proofs::Nodes::stands_at))]
     fn push_followed(
         &self,
         a: &TypedExpr,
         node: u32,
         out: &mut Vec<NamedStep>,
     ) -> Result<(), NoMemory>
-        ensures { OnOk result (out.new.items ≡ laid ((part_by self.now a.now).inside
-            (at_of self.now.names.now node (part_by self.now a.now).count)) out.old.items) }
+        ensures { OnOk result (out.new.items ≡ laid ((standing_at node (part_by self.now a.now)).inside
+            (at_of self.now.names.now node (standing_at node (part_by self.now a.now)).count)) out.old.items) }
     {
         let own = self.behind(node, a, 0)?;
-        self.push_inside(a, own, out)
+        if a.ordinal == node {
+            self.push_inside(a, own, out)
+        } else {
+            self.push_steps(a, own, out)
+        }
     }
 
     /// Adds the steps of what is inside an expression.

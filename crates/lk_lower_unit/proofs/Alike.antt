@@ -1,11 +1,11 @@
 -- Which steps a walk has doesn't depend on the numbers: two walks that are alike have the same nodes, each with as many steps.
-use Rattle.std.proofs.Common.{ap, sym, ◌∙◌, ◌≡◌, ◌+◌, ℕ, Option, None, Some, List, [], ◌∷◌, ◌++◌, length, refl}
-use Rattle.std.specs.Prelude.{⊤}
+use Rattle.std.proofs.Common.{ap, subst, sym, ◌∙◌, ◌≡◌, ◌+◌, ℕ, Bool, true, false, nat_eq, Option, None, Some, List, [], ◌∷◌, ◌++◌, length, refl}
+use Rattle.std.specs.Prelude.{⊤, if◌then◌else◌}
 use Rattle.std.proofs.lemmas.List.{length_push}
 use Rattle.lk_facts.specs.declared.action.Action.{Action}
 use Rattle.lk_lower_expr.specs.Library.{Called, by_name, by_pointer}
 use Rattle.lk_lower_expr.specs.Names.{Names, Node}
-use Rattle.lk_lower_expr.specs.Parts.{Part, computes, first_of, followed, goes, in_turn, paren_of, place_of, slot_part, stands_for, with_value}
+use Rattle.lk_lower_expr.specs.Parts.{Part, computes, first_of, followed, goes, in_turn, paren_of, place_of, slot_part, standing_at, stands_for, with_value}
 use Rattle.lk_lower_expr.specs.Walk.{Walk, nothing, own, ◌then◌}
 use Rattle.lk_lower_expr.specs.declared.step.Step.{Step}
 
@@ -53,8 +53,32 @@ pub record AlikeNames (n m : Names) : Type 0 where
 
 -- ---- parts of parts
 
+same_length : (p q : Bool) (xs ys : List Step) → p ≡ q → length xs ≡ length ys → length (if p then xs else []) ≡ length (if q then ys else [])
+same_length p q xs ys same is = subst (λ r. length (if p then xs else []) ≡ length (if r then ys else [])) same (by_test p is)
+  where
+    by_test : (p : Bool) → length xs ≡ length ys → length (if p then xs else []) ≡ length (if p then ys else [])
+    by_test true is = is
+    by_test false is = refl
+
+alike_both : (p q : Bool) (v w x y : Walk) → p ≡ q → Alike v w → Alike x y → Alike (if p then v else x) (if q then w else y)
+alike_both p q v w x y same left right = subst (λ r. Alike (if p then v else x) (if r then w else y)) same (by_test p)
+  where
+    by_test : (p : Bool) → Alike (if p then v else x) (if p then w else y)
+    by_test true = left
+    by_test false = right
+
 pub goes_alike : (a b : Part) → AlikeParts a b → (on off : ℕ) → Alike (goes a on) (goes b off)
 goes_alike a b is on off = ((ap (λ (n : Node). n.ordinal) is.node, is.steps on off), is.inside on off)
+
+-- a place or a value that is read or converted at a node
+pub standing_alike : (node : ℕ) (a b : Part) → AlikeParts a b → AlikeParts (standing_at node a) (standing_at node b)
+standing_alike node a b is =
+    let here = ap (λ (n : Node). nat_eq n.ordinal node) is.node in record {
+      node = is.node;
+      slot = is.slot;
+      steps = λ on off. same_length _ _ _ _ here (is.steps on off);
+      inside = λ on off. alike_both _ _ _ _ _ _ here (is.inside on off) (goes_alike a b is on off);
+    }
 
 pub in_turn_alike : (xs ys : List Part) → AllAlike xs ys → (last end : ℕ) → Alike (in_turn xs last) (in_turn ys end)
 in_turn_alike [] [] is last end = tt

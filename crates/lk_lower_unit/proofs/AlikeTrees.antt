@@ -6,7 +6,7 @@ use Rattle.lk_lower_expr.specs.Library.{Called}
 use Rattle.lk_lower_expr.specs.Names.{Names, Node}
 use Rattle.lk_lower_expr.specs.Parts.{Part, computes, then_one}
 use Rattle.lk_lower_expr.specs.declared.step.Step.{Step}
-use Rattle.lk_lower_unit.proofs.Alike.{AlikeCalled, AlikeNames, AlikeParts, AllAlike, computes_alike, followed_alike, paren_alike, stands_for_alike}
+use Rattle.lk_lower_unit.proofs.Alike.{AlikeCalled, AlikeNames, AlikeParts, AllAlike, computes_alike, followed_alike, paren_alike, standing_alike, stands_for_alike}
 use Rattle.lk_lower_unit.proofs.AlikeForms.{and_alike, assign_alike, call_alike, change_alike, choice_alike, comma_alike, compound_alike, name_alike, one_alike, or_alike, print_alike}
 use Rattle.lk_typed.specs.declared.expression.Callee.{Callee, roll-Callee}
 use Rattle.lk_typed.specs.declared.expression.Callee.TheFolds.{fold-roll-Callee, fold-roll-LibraryCall, fold-roll-TypedExpr, fold-roll-TypedForm, ind-TypedExpr, map-Callee, map-LibraryCall, map-TypedExpr, map-TypedForm}
@@ -123,9 +123,9 @@ module _ (n m : Names) (names : AlikeNames n m) where
   in_form (TypedForm-F.Library call) node = call.1 node
   in_form (TypedForm-F.Extern entity args) node = many_of node args _ _ _ _
   in_form (TypedForm-F.Size count) node = one_alike n m names node [] [] _ _ _ _ tt
-  in_form (TypedForm-F.Load a) node = followed_alike n m node _ _ _ _ _ _ a.1
-  in_form (TypedForm-F.Decay a) node = followed_alike n m node _ _ _ _ _ _ (followed_alike n m node _ _ _ _ _ _ a.1)
-  in_form (TypedForm-F.Convert a) node = followed_alike n m node _ _ _ _ _ _ a.1
+  in_form (TypedForm-F.Load a) node = followed_alike n m node _ _ _ _ _ _ (standing_alike node.ordinal _ _ a.1)
+  in_form (TypedForm-F.Decay a) node = followed_alike n m node _ _ _ _ _ _ (followed_alike n m node _ _ _ _ _ _ (standing_alike node.ordinal _ _ a.1))
+  in_form (TypedForm-F.Convert a) node = followed_alike n m node _ _ _ _ _ _ (standing_alike node.ordinal _ _ a.1)
   in_form (TypedForm-F.Discard a) node = stands_for_alike n m node _ _ a.1
   in_form TypedForm-F.Null node = one_alike n m names node [] [] _ _ _ _ tt
 

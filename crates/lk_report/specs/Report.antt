@@ -9,6 +9,7 @@ use Rattle.lk_facts.specs.declared.verdict.Verdict.{Verdict}
 use Rattle.lk_facts.specs.declared.verdict.VerdictState.{VerdictState}
 use Rattle.lk_facts.specs.declared.verdict.VerdictState.TheVariants.{Guarded, Unshared, Suspect}
 use Rattle.lk_report.specs.Names.{spot_text, place_text, location_spot_text}
+use Rattle.lk_report.specs.Order.{in_order}
 
 abbrev pub is_state : VerdictState → VerdictState → Bool
 is_state Guarded Guarded = true
@@ -73,10 +74,11 @@ module _ (files : List (List ℕ)) (program : Program) where
       ++ (point_text r.access
       ++ (codes " in " ++ (function_text program r.access ++ (codes " holding " ++ (held_text r.locks ++ 10 ∷ [])))))))
 
+  -- the lines of the racing accesses of a suspect location, in the order of their places
   abbrev pub accesses_text : VerdictState → List Racing → List ℕ
   accesses_text Unshared accesses = []
   accesses_text Guarded accesses = []
-  accesses_text Suspect accesses = flat_map access_text accesses
+  accesses_text Suspect accesses = flat_map access_text (in_order program accesses)
 
   -- the lines of a location
   abbrev pub location_text : Verdict → List ℕ

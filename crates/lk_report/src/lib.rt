@@ -3,6 +3,7 @@
 
 mod lines;
 mod names;
+mod order;
 
 pub use lines::report;
 pub use names::{place_of, text_of};

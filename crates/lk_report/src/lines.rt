@@ -4,6 +4,7 @@ ghost use Rattle.lk_report.specs.Names.{CanBeNamed};
 ghost use Rattle.lk_report.specs.Report.{locks_text, held_text, state_text, access_word, function_text, point_text, access_text, accesses_text, location_text, is_state, count_of, total_text, report_text, AreLockPlaces, IsAccessThere, IsVerdictThere};
 
 use crate::names::{push_location_spot, push_spot, push_text};
+use crate::order::in_order;
 use lk_base::{Files, NoMemory};
 use lk_facts::{Points, Racing, Verdict, VerdictState};
 use std::alloc::Global;
@@ -120,7 +121,7 @@ impl Lines<'_> {
         Ok(())
     }
 
-    /// Appends the lines of the racing accesses of a location where it is suspect.
+    /// Appends the lines of the racing accesses of a location where it is suspect, in the order of their places.
     fn push_racing(
         &self,
         alloc: Global,
@@ -133,7 +134,10 @@ impl Lines<'_> {
             ≡ out.old.items ++ accesses_text self.now.files.now self.now.points.now verdict.now.state verdict.now.accesses) }
     {
         match verdict.state {
-            VerdictState::Suspect => self.push_all(alloc, out, verdict.accesses.list()),
+            VerdictState::Suspect => {
+                let told = in_order(alloc, self.points, verdict.accesses.list())?;
+                self.push_all(alloc, out, told.as_slice())
+            }
             VerdictState::Guarded | VerdictState::Unshared => Ok(()),
         }
     }
@@ -188,7 +192,7 @@ fn push_total(alloc: Global, out: &mut Vec<u8>, verdicts: &[Verdict]) -> Result<
 }
 
 /// The report of these verdicts, in their order: a line for each location, with a line for each racing access where it is
-/// suspect, and a line of totals.
+/// suspect, in the order of their places, and a line of totals.
 pub fn report(
     alloc: Global,
     verdicts: &[Verdict],
