@@ -51,8 +51,10 @@ use Rattle.lk_check_decl.specs.declared.words.Given.{Given}
 use Rattle.lk_check_decl.specs.declared.words.Given.TheVariants.{Initialiser, Body}
 use Rattle.lk_check_decl.specs.declared.words.Scope.{Scope}
 use Rattle.lk_check_decl.specs.declared.words.Scope.TheVariants.{File, Block}
+use Rattle.lk_check_walk.proofs.Recordings.{in_recorded, with_records}
 use Rattle.lk_check_walk.proofs.States.{longer_same, longer_then}
 use Rattle.lk_check_walk.specs.Keepings.{KeepsAll, codes_at}
+use Rattle.lk_check_walk.specs.Recorded.{Recorded}
 use Rattle.lk_check_walk.specs.Specifying.{IsSame, KeepsAt}
 use Rattle.lk_check_walk.specs.Structs.{AreListed}
 use Rattle.lk_check_walk.specs.Walking.{IsFurther}
@@ -462,3 +464,7 @@ put_so old names d adds =
         externs = is_in.externs;
       };
     }
+
+-- and something is recorded
+pub put_recorded : (old new : Checker) (r : Recorded) (d : Declared) → PutsName old new d → PutsName old (with_records new r) d
+put_recorded old new r d puts = record { kept = puts.kept; types = puts.types; names = λ env is_in. in_recorded new r _ (puts.names env is_in) }

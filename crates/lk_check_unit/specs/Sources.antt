@@ -1,6 +1,8 @@
 -- What a walk over the external declarations of a source leaves behind (C99 6.9), and what is told of a source.
-use Rattle.std.specs.Prelude.{◌≡◌, true, Option, Some, None, List, [], ◌∷◌, if◌then◌else◌}
+use Rattle.std.specs.Prelude.{⊤, ◌≡◌, true, Option, Some, None, List, [], ◌∷◌, if◌then◌else◌}
 use Rattle.std.specs.HashSet.{HashSet, contains_by}
+use Rattle.lk_base.specs.declared.fault.Fault.{Fault as LayerFault}
+use Rattle.lk_base.specs.declared.fault.Fault.TheVariants as answer
 use Rattle.lk_base.specs.declared.refusal.Refusal.{Refusal}
 use Rattle.lk_tree.specs.declared.statement.Decl.{Decl}
 use Rattle.lk_tree.specs.declared.statement.Unit.{Unit}
@@ -49,3 +51,8 @@ PutsNames names old new = (name : Name) → contains_by (is_name name) new ≡ (
 abbrev pub TellsFirst : List Name → Unit → Option Refusal → Type 0
 TellsFirst externs unit None = (f : Fault) → IsFaultOf externs unit f → ⊥
 TellsFirst externs unit (Some refusal) = (f : Fault) × IsFirstFault externs unit f × (refusal ≡ refusal_of f)
+
+-- a source is refused by its least fault; of want of memory nothing is said
+abbrev pub IsRefused : List Name → Unit → LayerFault → Type 0
+IsRefused externs unit (answer.Refused refusal) = TellsFirst externs unit (Some refusal)
+IsRefused externs unit answer.NoMemory = ⊤

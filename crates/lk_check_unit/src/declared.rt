@@ -30,7 +30,7 @@ use lk_check_decl::{
     Given, NameUse, Scope, completed, defines_of, given_code, has_extern, has_typedef, list_size,
     meaning_of, object_code, text_size, use_code, waits_for_end,
 };
-use lk_check_walk::{At, Checker, DeclaredName};
+use lk_check_walk::{At, Checker, DeclaredHere, DeclaredName};
 use lk_tree::{Init, Storage};
 use lk_typed::{Declared, Defines, ExprType, Linkage, form, is_function};
 use lk_types::{CType, TypeId, TypeTable};
@@ -346,6 +346,26 @@ pub(crate) fn sized(
     }
 }
 
+/// A declared name as it is recorded, where it has a type.
+fn here(declared: &Declared, t: &Option<TypeId>) -> Option<DeclaredHere>
+    ensures { result ≡ option_map (λ ty. record {
+      meaning = declared.now.meaning;
+      linkage = declared.now.linkage;
+      defines = declared.now.defines;
+      ty = ty;
+    }) t.now }
+{
+    match t {
+        Some(ty) => Some(DeclaredHere {
+            meaning: declared.meaning,
+            linkage: declared.linkage,
+            defines: declared.defines,
+            ty: *ty,
+        }),
+        None => None,
+    }
+}
+
 /// Puts a name in scope, with this type.
 fn put_name(
     checker: &mut Checker,
@@ -362,6 +382,8 @@ fn put_name(
 {
     let mut declared = declared;
     declared.meaning = meaning_of(&checker.types, how.scope, words, *t);
+    let recorded = here(&declared, t);
+    checker.records.put_declared(declared.ordinal, recorded)?;
     checker.names.declare(declared)
 }
 

@@ -42,7 +42,7 @@ pub(crate) struct Headed {
 }
 
 /// The items of a body, which is a block.
-fn items_of(body: &Stmt) -> &[BlockItem]
+pub fn items_of(body: &Stmt) -> &[BlockItem]
     ensures { result.now ≡ spec.body_items (out-StmtForm body.now.form) }
 {
     match &body.form {

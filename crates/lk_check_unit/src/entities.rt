@@ -114,7 +114,7 @@ fn are_redeclarable(types: &TypeTable, t: TypeId, u: TypeId) -> bool
 }
 
 /// The composite of a type and one that is declared before, where they are those of one entity.
-fn composite_if_equal(
+pub fn composite_if_equal(
     alloc: Global,
     types: &mut TypeTable,
     t: TypeId,

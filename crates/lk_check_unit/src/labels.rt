@@ -34,7 +34,7 @@ fn put_items(items: &[BlockItem], out: &mut Seq<Label>) -> Result<(), NoMemory>
 /// Puts the labels of a statement, in the order of the text.
 #[cycle(labels)]
 #[tactic(auto, unfolding(lk_typed::specs::Labels::labels))]
-pub(crate) fn put_labels(s: &Stmt, out: &mut Seq<Label>) -> Result<(), NoMemory>
+pub fn put_labels(s: &Stmt, out: &mut Seq<Label>) -> Result<(), NoMemory>
     ensures { OnOk result (map label_of out.new ≡ map label_of out.old ++ labels s.now) }
 {
     match &s.form {

@@ -149,7 +149,7 @@ fn text_alone(entries: &[Entry]) -> Result<Option<u32>, NoMemory>
 /// A list in braces. `NoMemory` where its entries, or the bytes of the text that is all of it, are more than
 /// a `u32`
 /// counts.
-pub(crate) fn braces_of(list: &InitList) -> Result<Braces, NoMemory>
+pub fn braces_of(list: &InitList) -> Result<Braces, NoMemory>
     ensures { IfOk result (λ braces. spec_braces braces ≡ spec.braces_of (out-InitList list.now).entries) }
 {
     let entries = list.entries.list();

@@ -25,6 +25,7 @@ pub mod KeepsAll
 pub mod Named
 pub mod PartsOfObjects
 pub mod Passing
+pub mod Recordings
 pub mod Rules
 pub mod Settled
 pub mod Settling

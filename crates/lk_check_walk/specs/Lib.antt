@@ -1,3 +1,4 @@
+pub mod Recorded
 pub mod Addresses
 pub mod Declarators
 pub mod Named

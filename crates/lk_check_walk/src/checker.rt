@@ -1,5 +1,5 @@
 //! The state of the checker of a source.
-ghost use Rattle.std.specs.Prelude.{◌≡◌, ◌<◌, ◌^◌, ◌||◌, ℕ, List, Bool, true, false, Option, Some, None, [], IfOk, OnOk, option_map};
+ghost use Rattle.std.specs.Prelude.{◌≡◌, ◌<◌, ◌^◌, ◌||◌, ℕ, List, Bool, true, false, Option, Some, None, [], IfErr, IfOk, OnOk, option_map};
 ghost use Rattle.std.specs.HashSet.{contains_by};
 ghost use Rattle.lk_base.specs.Code.{number_of};
 ghost use Rattle.lk_base.specs.declared.refusal.Refusal.{Refusal};
@@ -12,6 +12,7 @@ ghost use Rattle.lk_rules.specs.Keeping.{keep, none_kept, watched, seen_by};
 ghost use Rattle.lk_check_walk.specs.Walks.{IsSound, Tells, fault_of, first_of, kept_in, mark_at, refusal_of};
 
 use crate::found::At;
+use crate::records::Records;
 use indexmap::IndexSet;
 use lk_base::{Code, Name, NoMemory, Refusal};
 use lk_names::Names;
@@ -73,6 +74,21 @@ fn no_name(alloc: Global) -> Result<Name, NoMemory>
     }
 }
 
+/// A source without a fault, checked.
+#[derive(Drop)]
+pub struct Checked {
+    /// Where memory comes from.
+    pub alloc: Global,
+    /// The types of the source.
+    pub types: TypeTable,
+    /// What is in scope at its end, with its structs.
+    pub names: Names,
+    /// What is known of the source before it is checked.
+    pub outside: Outside,
+    /// What is found at its nodes.
+    pub records: Records,
+}
+
 /// The state of the checker of a source.
 #[derive(Drop)]
 pub struct Checker {
@@ -82,6 +98,8 @@ pub struct Checker {
     pub types: TypeTable,
     /// What is in scope.
     pub names: Names,
+    /// What is found at the nodes of the source.
+    pub records: Records,
     outside: Outside,
     least: Option<FaultFound>,
     is_broken: bool,
@@ -101,6 +119,7 @@ impl Checker {
             alloc,
             types,
             names: Names::new(alloc),
+            records: Records::new(alloc),
             outside,
             least: None,
             is_broken: false,
@@ -185,6 +204,40 @@ impl Checker {
         let seen = self.is_broken;
         self.is_broken = before || seen;
         seen
+    }
+
+    /// What was checked, where it has no fault; else the refusal by the least fault.
+    pub fn checked(self) -> Result<Checked, Refusal>
+        ensures ok { IfOk result (λ checked. option_map refusal_of (kept_in self).least ≡ None) }
+        ensures err { IfErr result (λ refusal. option_map refusal_of (kept_in self).least ≡ Some refusal) }
+        ensures types { IfOk result (λ checked. checked.types ≡ self.types) }
+        ensures names { IfOk result (λ checked. checked.names ≡ self.names) }
+        ensures outside { IfOk result (λ checked. checked.outside ≡ self.outside) }
+        ensures records { IfOk result (λ checked. checked.records ≡ self.records) }
+    {
+        let Checker {
+            alloc,
+            types,
+            names,
+            records,
+            outside,
+            least,
+            ..
+        } = self;
+        match least {
+            Some(FaultFound { at, code, name }) => Err(Refusal {
+                code,
+                spot: at.spot,
+                name,
+            }),
+            None => Ok(Checked {
+                alloc,
+                types,
+                names,
+                outside,
+                records,
+            }),
+        }
     }
 
     /// The least fault.

@@ -43,7 +43,7 @@ impl Checker {
             IsMeant self.new env (struct_meant_by env (option_copied tag.entry)) s) }
     {
         if !admits(&self.names, TagUse::DefinesStruct, tag) {
-            let s = self.new_struct()?;
+            let s = self.new_struct(tag)?;
             return Ok(s);
         }
         let s = self.struct_for(TagUse::DefinesStruct, tag)?;

@@ -25,6 +25,8 @@ impl Checker {
         ensures operand { IfOk result (λ found. HasOperand self.new.types found) }
     {
         let found = self.judge_form(e, stands)?;
+        let names = self.names_in(e);
+        self.records.put_expression(e, &found, names)?;
         Ok(found)
     }
 

@@ -7,6 +7,7 @@
 
 mod addresses;
 mod arguments;
+mod by_number;
 mod checker;
 mod declarators;
 mod declaring;
@@ -27,6 +28,8 @@ mod names;
 mod naming;
 mod parameters;
 mod passed;
+mod recording;
+mod records;
 mod roles;
 mod ruled;
 mod scoping;
@@ -40,8 +43,9 @@ mod type_names;
 mod walked;
 
 pub use addresses::{Address, Place, is_address, value_address};
-pub use checker::{Checker, Outside};
+pub use checker::{Checked, Checker, Outside};
 pub use declarators::{Asked, DeclaratorFound, DeclaredName, declared_name};
 pub use found::{At, Found, Stands, TypeFound};
 pub use gathered::{Breach, Specified};
 pub use laws::types_follow_forms;
+pub use records::{DeclaredHere, Meant, Records};

@@ -28,8 +28,8 @@ use lk_types::{CType, StructMember, TypeId};
 use std::alloc::Global;
 
 impl Checker {
-    /// The number of a new struct, of whose members nothing is known.
-    pub(crate) fn new_struct(&mut self) -> Result<u32, NoMemory>
+    /// The number of a new struct with this tag, of whose members nothing is known.
+    pub(crate) fn new_struct(&mut self, tag: Option<&Name>) -> Result<u32, NoMemory>
         requires { IsSound self.old }
         ensures number { IfOk result (λ s. s ≡ length self.old.names.structs) }
         ensures structs { OnOk result (self.new.names.structs ≡ self.old.names.structs ++ members.NotYet ∷ []) }
@@ -40,6 +40,8 @@ impl Checker {
         if self.types.structs() == u32::MAX {
             return Err(NoMemory);
         }
+        let is_outside = self.names.is_outermost();
+        self.records.put_tag(tag, is_outside)?;
         let s = self.names.begin_struct()?;
         self.types.begin_struct()?;
         self.types.is_table();
@@ -114,7 +116,7 @@ impl Checker {
         match known_struct(&self.names, wanted, tag) {
             Some(s) => Ok(s),
             None => {
-                let s = self.new_struct()?;
+                let s = self.new_struct(tag)?;
                 self.put_tag(tag, TagMeaning::Struct(s))?;
                 Ok(s)
             }

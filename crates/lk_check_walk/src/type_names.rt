@@ -17,8 +17,21 @@ impl Checker {
     ///
     /// `Err` comes for want of memory.
     #[cycle(walk)]
-    #[tactic(auto, using(crate::proofs::KeepsAll::sound_same, crate::proofs::KeepsAll::known_same))]
     pub fn type_name(&mut self, n: &TypeName, in_size: bool) -> Result<TypeFound, NoMemory>
+        requires { IsSound self.old }
+        ensures named { IfOk result (λ found. NamesType self.old self.new in_size n.now found) }
+        ensures further { OnOk result (IsFurther self.old self.new) }
+        ensures known { IfOk result (λ found. HasKnownType self.new.types found) }
+    {
+        let found = self.named_type(n, in_size)?;
+        self.records.put_named(n.ordinal, found.ty)?;
+        Ok(found)
+    }
+
+    /// The same, before it is recorded.
+    #[cycle(walk)]
+    #[tactic(auto, using(crate::proofs::KeepsAll::sound_same, crate::proofs::KeepsAll::known_same))]
+    fn named_type(&mut self, n: &TypeName, in_size: bool) -> Result<TypeFound, NoMemory>
         requires { IsSound self.old }
         ensures named { IfOk result (λ found. NamesType self.old self.new in_size n.now found) }
         ensures further { OnOk result (IsFurther self.old self.new) }

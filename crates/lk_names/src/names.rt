@@ -1,5 +1,5 @@
 //! The names, tags and structs in scope.
-ghost use Rattle.std.specs.Prelude.{◌≡◌, ◌<◌, ◌++◌, ◌∷◌, [], length, drop, slice_get, slice_set};
+ghost use Rattle.std.specs.Prelude.{◌≡◌, ◌<◌, ◌++◌, ◌∷◌, [], length, drop, nat_eq, slice_get, slice_set};
 ghost use Rattle.std.specs.Prelude.{OnOk, OnErr, IfOk, IfSome};
 ghost use Rattle.std.specs.Option.{option_copied, option_map};
 ghost use Rattle.lk_types.specs.Table.{Table};
@@ -81,6 +81,14 @@ impl Names {
             tag_base: 0,
             structs: Seq::new(Vec::new(alloc)),
         }
+    }
+
+    /// Whether no name stands outside of the innermost scope, as in file scope (C99 6.2.1, 4). In a scope behind a name of
+    /// file scope it doesn't hold.
+    pub fn is_outermost(&self) -> bool
+        ensures { result ≡ nat_eq self.now.base 0 }
+    {
+        self.base == 0
     }
 
     /// The innermost declaration of a name that is no tag (C99 6.2.1, 4).

@@ -23,6 +23,7 @@ use Rattle.lk_check_walk.specs.Walks.{Settles}
 use Rattle.lk_check_walk.proofs.Argued.{AreArgued, argued_then, argument_judged, argument_taken, none_argued, operands_longer}
 use Rattle.lk_check_walk.proofs.Arms.{arm_call, arm_cast, arm_none, arm_one, arm_sizeof_type, arm_three, arm_two, in_role, judged_further, judged_operand, layer_is, sides_judged, two_judged}
 use Rattle.lk_check_walk.proofs.Further.{named_further, operand_further, role_known_further, then_further}
+use Rattle.lk_check_walk.proofs.Recordings.{further_recorded, judged_recorded, named_recorded}
 use Rattle.lk_check_walk.proofs.Walking.{longer_trans, no_walk}
 use Rattle.lk_base.specs.declared.code.Code.TheVariants.{BitField}
 use Rattle.lk_typed.specs.Faults.{breach}
@@ -56,8 +57,14 @@ use Rattle.lk_check_walk.proofs.Finds as finds
 use Rattle.lk_check_walk.proofs.Gathers as gathers
 use Rattle.lk_check_walk.proofs.checker.Checker.+walk.Goals as goal
 
+pub judge-returns-clause-judged : goal.judge-returns-clause-judged
+judge-returns-clause-judged t c =
+    judged_recorded c.args.self.now c.judge_form.new.self c.put_expression.new.self c.args.stands c.args.e.now c.in_ok-found.found c.in_ok-found.ensures
+
 pub judge-returns-clause-further : goal.judge-returns-clause-further
-judge-returns-clause-further t c = judged_further c.args.self.now c.judge_form.new.self c.args.stands c.args.e.now c.in_ok-found.found c.in_ok-found.ensures
+judge-returns-clause-further t c =
+    further_recorded c.args.self.now c.judge_form.new.self c.put_expression.new.self
+    (judged_further c.args.self.now c.judge_form.new.self c.args.stands c.args.e.now c.in_ok-found.found c.in_ok-found.ensures)
 
 pub judge-returns-clause-operand : goal.judge-returns-clause-operand
 judge-returns-clause-operand t c = judged_operand c.args.self.now c.judge_form.new.self c.args.stands c.args.e.now c.in_ok-found.found c.in_ok-found.ensures
@@ -716,8 +723,8 @@ width-returns-clause-fields t c =
     (fields_grow c.args.self.now.types c.judge.new.self.types c.requires.sound.ready.table_is c.in-Ok.ensures.further.longer c.args.out.now c.requires.fields)
     (ap (λ (m : MembersFound). m.fields) put) (ap (λ (m : MembersFound). m.size) put)
 
-pub type_name-returns-in-Some-clause-named : goal.type_name-returns-in-Some-clause-named
-type_name-returns-in-Some-clause-named t c = λ at_end env stands.
+pub named_type-returns-in-Some-clause-named : goal.named_type-returns-in-Some-clause-named
+named_type-returns-in-Some-clause-named t c = λ at_end env stands.
     let old = c.args.self.now in
     let first = c.specifiers.new.self in
     let middle = c.keep_all.new.self in
@@ -733,13 +740,13 @@ type_name-returns-in-Some-clause-named t c = λ at_end env stands.
     (record { ty = found.ty; holds_sizeof = c.either.result }) refl specifies same keeps c.in-Some.is refl c.in_ok-found-in-Some.ensures.further
     (c.in_ok-found-in-Some.ensures.declared at_end (extend env added) (gathers.stands_behind old middle c.args.in_size env added stands (in_same first middle (extend env added) same specifies.walks.behind))) refl c.either.ensures
 
-pub type_name-returns-in-Some-clause-further : goal.type_name-returns-in-Some-clause-further
-type_name-returns-in-Some-clause-further t c =
+pub named_type-returns-in-Some-clause-further : goal.named_type-returns-in-Some-clause-further
+named_type-returns-in-Some-clause-further t c =
     further_then c.args.self.now c.keep_all.new.self c.declarator.new.self
     (same_further c.args.self.now c.specifiers.new.self c.keep_all.new.self c.in_ok-told.ensures.further c.in_ok-keep_all.ensures.same) c.in_ok-found-in-Some.ensures.further
 
-pub type_name-returns-clause-named : goal.type_name-returns-clause-named
-type_name-returns-clause-named t c = λ at_end env stands.
+pub named_type-returns-clause-named : goal.named_type-returns-clause-named
+named_type-returns-clause-named t c = λ at_end env stands.
     let old = c.args.self.now in
     let first = c.specifiers.new.self in
     let middle = c.keep_all.new.self in
@@ -751,13 +758,20 @@ type_name-returns-clause-named t c = λ at_end env stands.
     let same = c.in_ok-keep_all.ensures.same in
     named_alone at_end old first middle env n told at_n (record { ty = told.ty; holds_sizeof = told.holds_sizeof }) refl specifies same keeps c.in-None.is refl refl
 
-pub type_name-returns-clause-further : goal.type_name-returns-clause-further
-type_name-returns-clause-further t c =
+pub named_type-returns-clause-further : goal.named_type-returns-clause-further
+named_type-returns-clause-further t c =
     same_further c.args.self.now c.specifiers.new.self c.keep_all.new.self c.in_ok-told.ensures.further c.in_ok-keep_all.ensures.same
 
-pub type_name-returns-clause-known : goal.type_name-returns-clause-known
-type_name-returns-clause-known t c =
+pub named_type-returns-clause-known : goal.named_type-returns-clause-known
+named_type-returns-clause-known t c =
     subst (λ (table : Table). IfSome c.in_ok-told.told.ty (IsKnown table)) (sym c.in_ok-keep_all.ensures.same.types) c.in_ok-told.ensures.known
+
+pub type_name-returns-clause-named : goal.type_name-returns-clause-named
+type_name-returns-clause-named t c =
+    named_recorded c.args.self.now c.named_type.new.self c.put_named.new.self c.args.in_size c.args.n.now c.in_ok-found.found c.in_ok-found.ensures.named
+
+pub type_name-returns-clause-further : goal.type_name-returns-clause-further
+type_name-returns-clause-further t c = further_recorded c.args.self.now c.named_type.new.self c.put_named.new.self c.in_ok-found.ensures.further
 
 pub enum_defined-end_enum-requires : goal.enum_defined-end_enum-requires
 enum_defined-end_enum-requires t c =

@@ -118,4 +118,7 @@ abbrev pub decreases-item : goal.decreases-item
 decreases-item l = 4 * goal.size-item l
 
 abbrev pub decreases-type_name : goal.decreases-type_name
-decreases-type_name l = 4 * goal.size-type_name l
+decreases-type_name l = 4 * goal.size-type_name l + 1
+
+abbrev pub decreases-named_type : goal.decreases-named_type
+decreases-named_type l = 4 * goal.size-named_type l

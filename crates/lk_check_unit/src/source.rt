@@ -1,16 +1,19 @@
 //! The check of a source.
-ghost use Rattle.std.specs.Prelude.{◌∷◌, [], IfOk, OnOk};
+ghost use Rattle.std.specs.Prelude.{◌∷◌, [], None, IfErr, IfOk, OnOk, option_map};
 ghost use Rattle.lk_tree.specs.declared.statement.Decl.TheVariants as decl;
+ghost use Rattle.lk_typed.specs.Elements.{HasFewElements};
+ghost use Rattle.lk_typed.specs.Meaning.{IsReady};
 ghost use Rattle.lk_typed.specs.Units as spec;
+ghost use Rattle.lk_check_walk.specs.Walks.{kept_in, refusal_of};
 ghost use Rattle.lk_predeclared.specs.Beginning.{IsOutsideOf};
-ghost use Rattle.lk_check_unit.specs.Sources.{IsSetOf, PutsNames, TellsFirst};
+ghost use Rattle.lk_check_unit.specs.Sources.{IsRefused, IsSetOf, PutsNames, TellsFirst};
 
 use crate::at_end::ask_pending;
 use crate::declarations::nothing_pending;
 use crate::externals::externals;
 use indexmap::IndexSet;
-use lk_base::{Name, NoMemory, Refusal};
-use lk_check_walk::{Outside, declared_name};
+use lk_base::{Fault, Name, NoMemory, Refusal};
+use lk_check_walk::{Checked, Checker, Outside, declared_name};
 use lk_predeclared::begin;
 use lk_tree::{Decl, Function, Unit};
 use std::alloc::Global;
@@ -76,6 +79,21 @@ fn outside(alloc: Global, unit: &Unit, externs: &[Name]) -> Result<Outside, NoMe
     })
 }
 
+/// The checker behind a source.
+fn behind(alloc: Global, unit: &Unit, externs: &[Name]) -> Result<Checker, NoMemory>
+    ensures told { IfOk result (λ checker.
+        TellsFirst externs.now unit.now (option_map refusal_of (kept_in checker).least)) }
+    ensures ready { IfOk result (λ checker. IsReady checker.types) }
+    ensures few { IfOk result (λ checker. HasFewElements checker.types) }
+{
+    let outside = outside(alloc, unit, externs)?;
+    let mut checker = begin(alloc, outside)?;
+    let mut pending = nothing_pending(alloc);
+    externals(&mut checker, unit.externals.list(), &mut pending)?;
+    ask_pending(&mut checker, pending.list())?;
+    Ok(checker)
+}
+
 /// The refusal by the least fault of a source, where it has one. `externs` are the names that `--externs`
 /// lists.
 ///
@@ -87,10 +105,22 @@ pub fn check_faults(
 ) -> Result<Option<Refusal>, NoMemory>
     ensures { IfOk result (TellsFirst externs.now unit.now) }
 {
-    let outside = outside(alloc, unit, externs)?;
-    let mut checker = begin(alloc, outside)?;
-    let mut pending = nothing_pending(alloc);
-    externals(&mut checker, unit.externals.list(), &mut pending)?;
-    ask_pending(&mut checker, pending.list())?;
+    let checker = behind(alloc, unit, externs)?;
     Ok(checker.first_fault())
+}
+
+/// A source that is checked, with what is found at its nodes. `externs` are the names that `--externs` lists.
+///
+/// A source with a fault is refused by its least one.
+pub fn check(alloc: Global, unit: &Unit, externs: &[Name]) -> Result<Checked, Fault>
+    ensures ok { OnOk result (TellsFirst externs.now unit.now None) }
+    ensures err { IfErr result (IsRefused externs.now unit.now) }
+    ensures ready { IfOk result (λ checked. IsReady checked.types) }
+    ensures few { IfOk result (λ checked. HasFewElements checked.types) }
+{
+    let checker = behind(alloc, unit, externs)?;
+    match checker.checked() {
+        Ok(checked) => Ok(checked),
+        Err(refusal) => Err(Fault::Refused(refusal)),
+    }
 }
