@@ -1,7 +1,12 @@
 pub mod Chains
 pub mod Distinct
+pub mod Growing
 pub mod Numbering
 pub mod Placing
+pub mod Refusing
 pub mod Relabelling
+pub mod Shaping
 pub mod Symmetry
+pub mod Taking
+pub mod Typing
 pub mod Zips

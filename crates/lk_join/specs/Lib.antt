@@ -1,4 +1,7 @@
 pub mod Classes
+pub mod Forms
 pub mod Labels
 pub mod Numbering
 pub mod Places
+pub mod Program
+pub mod Sources

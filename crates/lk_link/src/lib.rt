@@ -30,6 +30,6 @@ pub use library::library_differs;
 pub use missing::missing_inside;
 pub use names::Names;
 pub use place::{SizeRule, StructOf, StructPair, TypeOf};
-pub use sources::{are_sources, has_main};
+pub use sources::{are_sources, has_main, is_defined};
 pub use structs::{are_declared_alike, have_no_difference};
 pub use tags::resolve;

@@ -80,7 +80,7 @@ fn is_defining(declaration: &Declaration) -> bool
 }
 
 /// Whether a source defines an entity that it declares.
-pub(crate) fn is_defined(entity: &Entity) -> bool
+pub fn is_defined(entity: &Entity) -> bool
     ensures { IsTrue result ↔ IsDefinition entity.now }
 {
     entity

@@ -1,0 +1,79 @@
+-- The types of a program, from those that were put.
+use Rattle.std.proofs.Common.{◌≡◌, ◌∙◌, ℕ, List, [], Option, Some, None, All, refl, sym, ap, subst, map}
+use Rattle.std.proofs.lemmas.Option.{none-some, slice_get-map, slice_get_within}
+use Rattle.std.specs.List.{slice_get}
+use Rattle.std.specs.Option.{option_map}
+use Rattle.std.specs.Prelude.{unwrap_or}
+use Rattle.lk_link.specs.Joining.{HasFormHere, IsTypeHere}
+use Rattle.lk_link.specs.Joining.HasFormHere.{void as void_here, integer as integer_here, thread as thread_here, mutex as mutex_here, condition as condition_here, opaque as opaque_here, pointer as pointer_here, array as array_here, struct as struct_here, function as function_here}
+use Rattle.lk_link.specs.Sources.{Units}
+use Rattle.lk_link.specs.Structs.{struct_in, types_in}
+use Rattle.lk_typed.specs.declared.unit.TypedUnit.{TypedUnit}
+use Rattle.lk_typed.specs.declared.whole.Linked.{Linked}
+use Rattle.lk_typed.specs.declared.whole.Whole.{Whole}
+use Rattle.lk_types.specs.declared.c_type.CType.{CType}
+use Rattle.lk_types.specs.declared.c_type.CType.TheVariants.{Struct}
+use Rattle.lk_types.proofs.GrowLemmas.{get_before}
+use Rattle.lk_types.proofs.SizeLemmas.{all_read}
+use Rattle.lk_join.specs.Forms.{HasForm, HasPointer, IsHere, IsPutAt}
+use Rattle.lk_join.specs.Forms.HasForm.{void, integer, thread, mutex, condition, opaque, pointer, array, struct, function}
+use Rattle.lk_join.specs.Program.{HasTypes, number_in}
+use Rattle.lk_join.specs.Sources.{AreLinked, AreTypesOf}
+use Rattle.lk_join.proofs.Zips.{zip_at, zip_weaker}
+
+unit_at : (units : Units) (s t : ℕ) (form : CType) → slice_get (types_in units s) t ≡ Some form → (unit : TypedUnit) × (slice_get units s ≡ Some unit) × (slice_get unit.types.types t ≡ Some form)
+unit_at units s t form at = of (slice_get units s) refl at
+  where
+    of : (o : Option TypedUnit) → slice_get units s ≡ o → slice_get (unwrap_or (option_map (λ unit. unit.types.types) o) []) t ≡ Some form →
+        (unit : TypedUnit) × (slice_get units s ≡ Some unit) × (slice_get unit.types.types t ≡ Some form)
+    of None is at = absurd (none-some form at)
+    of (Some unit) is at = (unit, is, at)
+
+module _ (whole : Whole) (units : Units) (rows entities : List (List ℕ)) (linked : AreLinked units rows entities whole.sources) where
+  source_at : (s : ℕ) (unit : TypedUnit) → slice_get units s ≡ Some unit → (source : Linked) × (slice_get whole.sources s ≡ Some source)
+  source_at s unit at = of (slice_get whole.sources s) refl (sym (slice_get-map (λ source. source.unit) whole.sources s) ∙ ap (λ us. slice_get us s) linked.units_are ∙ at)
+    where
+      of : (o : Option Linked) → slice_get whole.sources s ≡ o → option_map (λ source. source.unit) (slice_get whole.sources s) ≡ Some unit → (source : Linked) × (slice_get whole.sources s ≡ Some source)
+      of None is mapped = absurd (none-some unit (ap (option_map (λ source. source.unit)) (sym is) ∙ mapped))
+      of (Some source) is mapped = (source, is)
+
+  row_at : (s : ℕ) (source : Linked) → slice_get whole.sources s ≡ Some source → slice_get rows s ≡ Some source.types
+  row_at s source at =
+      let types = map (λ source. source.types) whole.sources in
+      let there = slice_get-map (λ source. source.types) whole.sources s ∙ ap (option_map (λ source. source.types)) at in
+      ap (λ rs. slice_get rs s) linked.types_are.1 ∙ get_before types linked.types_are.0 s (slice_get_within types s source.types there) ∙ there
+
+  module _ (structs : List (List ℕ)) (s : ℕ) (source : Linked) (at : slice_get whole.sources s ≡ Some source) (here : List ℕ) (there : slice_get structs s ≡ Some here) where
+    type_is : (t n : ℕ) → IsHere source.types t n → IsTypeHere whole s t n
+    type_is t n is = (source, at, is)
+
+    number_is : (a b : ℕ) → IsHere here a b → b ≡ number_in structs (struct_in s a)
+    number_is a b is = sym (ap (λ o. unwrap_or (slice_get (unwrap_or o []) a) 0) there ∙ ap (λ o. unwrap_or o 0) is)
+
+    form_is : {a b : CType} → HasForm source.types here a b → HasFormHere whole (number_in structs) s a b
+    form_is void = void_here
+    form_is integer = integer_here
+    form_is thread = thread_here
+    form_is mutex = mutex_here
+    form_is condition = condition_here
+    form_is opaque = opaque_here
+    form_is (pointer {a} {b} is) = pointer_here (type_is a b is)
+    form_is (array {a} {b} is) = array_here (type_is a b is)
+    form_is (struct {a} {b} is) = subst (λ n. HasFormHere whole (number_in structs) s (Struct a) (Struct n)) (sym (number_is a b is)) struct_here
+    form_is (function {a} {b} {ps} {qs} is each) = function_here (type_is a b is) (zip_weaker (IsHere source.types) (IsTypeHere whole s) type_is ps qs each)
+
+  pub has_types : AreTypesOf units whole.types rows → HasTypes units whole
+  has_types h = record {
+    structs = h.structs;
+    count = h.count;
+    numbers = h.numbers;
+    within = h.within;
+    has = λ s t form at.
+        let unit = unit_at units s t form at in
+        let source = source_at s unit.0 unit.1 in
+        let here = h.put.each s unit.0 source.0.types unit.1 (row_at s source.0 source.1) in
+        let one = zip_at (IsPutAt whole.types source.0.types here.0) unit.0.types.types source.0.types here.2 t form unit.2 in
+        (one.0, one.2.form_here, (source.0, source.1, one.1), one.2.at, form_is h.structs s source.0 source.1 here.0 here.1 one.2.is);
+    pointers = λ s t here is.
+        all_read (HasPointer whole.types) is.0.types t here (all_read (All (HasPointer whole.types)) rows s is.0.types h.pointers (row_at s is.0 is.1)) is.2;
+  }

@@ -1,0 +1,5 @@
+use Rattle.std.proofs.Common.{◌≡◌, ◌+◌, length}
+use Rattle.lk_join.proofs.types.begin_structs.Given as goal
+
+abbrev pub invariant-loop-begun : goal.invariant-loop-begun
+invariant-loop-begun l = length l.table.members ≡ length l.fn.table.members + l._begun

@@ -1,0 +1,7 @@
+use Rattle.lk_types.specs.Building.{IsLonger}
+use Rattle.lk_join.specs.Forms.{AreRowsOf}
+use Rattle.lk_join.proofs.types.join_rows.Given as goal
+
+-- the types of the first sources are put
+abbrev pub invariant-loop-unit : goal.invariant-loop-unit
+invariant-loop-unit l = IsLonger l.fn.table l.table × AreRowsOf l.units l.numbers.rows l.table l.rows.items l.unit-index

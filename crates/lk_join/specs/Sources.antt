@@ -1,0 +1,22 @@
+-- The sources of a program with their numbers.
+use Rattle.std.specs.Prelude.{◌≡◌, ◌≤◌, ◌++◌, ℕ, List, All, length, map}
+use Rattle.lk_link.specs.Sources.{Units}
+use Rattle.lk_typed.specs.declared.whole.Linked.{Linked}
+use Rattle.lk_types.specs.Table.{Table}
+use Rattle.lk_join.specs.Classes.{AreNumbers}
+use Rattle.lk_join.specs.Forms.{AreRowsOf, HasPointer}
+
+-- sources with these numbers of their types and entities in the program, of which there may be more
+pub record AreLinked (units : Units) (types entities : List (List ℕ)) (sources : List Linked) : Type 0 where
+  pub units_are : map (λ linked. linked.unit) sources ≡ units
+  pub types_are : (more : List (List ℕ)) × (types ≡ map (λ linked. linked.types) sources ++ more)
+  pub entities_are : (more : List (List ℕ)) × (entities ≡ map (λ linked. linked.entities) sources ++ more)
+
+-- the types of these sources in a table, and the numbers that they have there
+pub record AreTypesOf (units : Units) (table : Table) (rows : List (List ℕ)) : Type 0 where
+  pub structs : List (List ℕ)
+  pub count : ℕ
+  pub numbers : AreNumbers units structs count
+  pub within : count ≤ length table.members
+  pub put : AreRowsOf units structs table rows (length units)
+  pub pointers : All (All (HasPointer table)) rows

@@ -1,0 +1,170 @@
+//! The program that sources make together.
+ghost use Rattle.std.specs.Prelude.{◌≡◌, ◌<◌, ◌^◌, [], IfErr, IfOk, Some, length};
+ghost use Rattle.lk_join.specs.Program.{HasMainAt, HasTypes, IsFault, IsLinked, no_main, refusal_of};
+ghost use Rattle.lk_join.specs.Sources.{AreLinked, AreTypesOf};
+ghost use Rattle.lk_link.specs.Joining.{units_of};
+ghost use Rattle.lk_link.specs.Sources.{AreSources};
+
+use crate::entities::{Joined, join_entities};
+use crate::numbers::number_structs;
+use crate::types::{Types, join_types};
+use lk_base::{Code, Fault, Name, NameFault, NoMemory, Refusal, Seq, Spot};
+use lk_link::{Clash, first_clash, has_main, resolve};
+use lk_typed::{Linked, TypedUnit, Whole};
+use lk_types::TypeId;
+use std::alloc::Global;
+
+/// A name without bytes.
+fn empty_name(alloc: Global) -> Result<Name, NoMemory>
+    ensures { IfOk result (λ name. name ≡ []) }
+{
+    match Name::from_bytes(alloc, b"") {
+        Ok(name) => Ok(name),
+        Err(NameFault::TooLong | NameFault::NoMemory) => Err(NoMemory),
+    }
+}
+
+/// That no source defines `main`: it is told at the beginning of the first source.
+fn no_main(alloc: Global) -> Result<Refusal, NoMemory>
+    ensures { IfOk result (λ refusal. refusal ≡ no_main) }
+{
+    let name = empty_name(alloc)?;
+    Ok(Refusal {
+        code: Code::NoMain,
+        spot: Spot {
+            file: 0,
+            line: 1,
+            col: 1,
+        },
+        name,
+    })
+}
+
+/// What speaks against the sources as a program, as it is told.
+fn refusal_of(clash: Clash) -> Refusal
+    ensures { result ≡ refusal_of clash }
+{
+    let Clash {
+        source: _,
+        ordinal: _,
+        spot,
+        code,
+        name,
+    } = clash;
+    Refusal { code, spot, name }
+}
+
+/// A source with the program's numbers of its types and entities. `NoMemory` where some are absent, which doesn't come: each
+/// source has them.
+fn linked_source(
+    unit: TypedUnit,
+    types: Option<Seq<TypeId>>,
+    entities: Option<Seq<u32>>,
+) -> Result<Linked, NoMemory>
+    ensures unit { IfOk result (λ source. source.unit ≡ unit) }
+    ensures types { IfOk result (λ source. types ≡ Some source.types) }
+    ensures entities { IfOk result (λ source. entities ≡ Some source.entities) }
+{
+    match (types, entities) {
+        (Some(types), Some(entities)) => Ok(Linked {
+            unit,
+            types,
+            entities,
+        }),
+        (None, _) | (Some(_), None) => Err(NoMemory),
+    }
+}
+
+/// The sources with the program's numbers of their types and entities.
+fn linked(
+    alloc: Global,
+    units: Vec<TypedUnit>,
+    types: Vec<Seq<TypeId>>,
+    entities: Vec<Seq<u32>>,
+) -> Result<Seq<Linked>, NoMemory>
+    ensures { IfOk result (AreLinked units.items types.items entities.items) }
+{
+    let mut sources = Vec::new(alloc);
+    let mut rows = types.into_iter();
+    let mut numbers = entities.into_iter();
+    for unit in units {
+        let source = linked_source(unit, rows.next(), numbers.next())?;
+        sources.push(source)?;
+    }
+    Ok(Seq::new(sources))
+}
+
+/// What the program has of the types of the sources.
+fn types_of(alloc: Global, units: &[TypedUnit]) -> Result<Types, NoMemory>
+    requires sources { AreSources units.now }
+    requires few { length units.now < 2 ^ 32 }
+    ensures { IfOk result (λ types. AreTypesOf units.now types.table types.rows.items) }
+{
+    let becomes = resolve(alloc, units)?;
+    let numbers = number_structs(alloc, units, becomes.as_slice())?;
+    let types = join_types(alloc, units, &numbers)?;
+    Ok(types)
+}
+
+/// The program of these sources, types and entities.
+fn whole_of(
+    alloc: Global,
+    units: Vec<TypedUnit>,
+    types: Types,
+    joined: Joined,
+) -> Result<Whole, NoMemory>
+    requires types { AreTypesOf units.items types.table types.rows.items }
+    requires main_at { HasMainAt joined.entities joined.main }
+    ensures sources { IfOk result (λ whole. units_of whole ≡ units.items) }
+    ensures types { IfOk result (HasTypes units.items) }
+    ensures main_at { IfOk result (λ whole. HasMainAt whole.entities whole.main) }
+{
+    let Types { table, rows } = types;
+    let Joined {
+        entities,
+        main,
+        rows: numbers,
+    } = joined;
+    let sources = linked(alloc, units, rows, numbers)?;
+    Ok(Whole {
+        sources,
+        types: table,
+        entities,
+        main,
+    })
+}
+
+/// The program that sources make which speak against nothing.
+fn join(alloc: Global, units: Vec<TypedUnit>) -> Result<Whole, NoMemory>
+    requires sources { AreSources units.items }
+    requires few { length units.items < 2 ^ 32 }
+    ensures sources { IfOk result (λ whole. units_of whole ≡ units.items) }
+    ensures types { IfOk result (HasTypes units.items) }
+    ensures main_at { IfOk result (λ whole. HasMainAt whole.entities whole.main) }
+{
+    let types = types_of(alloc, units.as_slice())?;
+    let joined = join_entities(alloc, units.as_slice(), types.rows.as_slice())?;
+    whole_of(alloc, units, types, joined)
+}
+
+/// The program that checked sources make together, where `externs` has the names that `--externs` lists (C99 5.1.2.2.1,
+/// 6.2.7, 6.9). They are refused with 60 exactly where none of them has a `main`, else with the first of 61 to 63 where
+/// one of these holds.
+pub fn link(alloc: Global, units: Vec<TypedUnit>, externs: &[Name]) -> Result<Whole, Fault>
+    requires sources { AreSources units.items }
+    requires few { length units.items < 2 ^ 32 }
+    ensures ok { IfOk result (IsLinked units.items externs.now) }
+    ensures err { IfErr result (IsFault units.items externs.now) }
+{
+    if !has_main(units.as_slice()) {
+        let refusal = no_main(alloc)?;
+        return Err(Fault::Refused(refusal));
+    }
+    match first_clash(alloc, units.as_slice(), externs)? {
+        Some(clash) => Err(Fault::Refused(refusal_of(clash))),
+        None => {
+            let whole = join(alloc, units)?;
+            Ok(whole)
+        }
+    }
+}

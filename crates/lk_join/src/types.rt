@@ -1,0 +1,179 @@
+//! The program's table of types, made of those of the sources.
+ghost use Rattle.std.specs.Prelude.{◌≡◌, ◌≤◌, ◌+◌, All, IfOk, OnOk, Some, length, slice_get};
+ghost use Rattle.lk_join.specs.Forms.{ArePutAt, AreRowsOf, HasPointer, IsPutAt, KeepsPointers};
+ghost use Rattle.lk_types.specs.Building.{IsLonger};
+ghost use Rattle.lk_types.specs.Table.{IsKnown, type_at};
+
+use crate::forms::Source;
+use crate::numbers::Numbers;
+use lk_base::{NoMemory, Seq};
+use lk_typed::TypedUnit;
+use lk_types::{CType, TypeId, TypeTable};
+use std::alloc::Global;
+
+/// The program's types, and of each type of each source its number among them.
+#[derive(Drop)]
+pub(crate) struct Types {
+    pub(crate) table: TypeTable,
+    pub(crate) rows: Vec<Seq<TypeId>>,
+}
+
+/// Puts a form to a table. `NoMemory` where it can't be put, which doesn't come: it is a form of a source, and within the
+/// bounds of types there.
+fn put(table: &mut TypeTable, form: CType) -> Result<TypeId, NoMemory>
+    ensures known { IfOk result (λ t. slice_get table.new.types t ≡ Some form) }
+    ensures longer { OnOk result (IsLonger table.old table.new) }
+{
+    if !table.is_form(&form) || table.count() == u32::MAX {
+        return Err(NoMemory);
+    }
+    match table.form_size(&form) {
+        Some(_) => table.put(form),
+        None => Err(NoMemory),
+    }
+}
+
+/// Begins so many structs in a table. `NoMemory` over 32 bits.
+fn begin_structs(structs: usize, table: &mut TypeTable) -> Result<(), NoMemory>
+    ensures { OnOk result (length table.new.members ≡ length table.old.members + structs) }
+{
+    for _begun in 0..structs {
+        if table.structs() == u32::MAX {
+            return Err(NoMemory);
+        }
+        table.begin_struct()?;
+    }
+    Ok(())
+}
+
+impl Source<'_> {
+    /// Puts a type of the source to the program's. Answers its number there.
+    fn put_type(&self, row: &[TypeId], t: TypeId, table: &mut TypeTable) -> Result<TypeId, NoMemory>
+        requires { IsKnown self.now.types.now t }
+        ensures put { IfOk result (IsPutAt table.new row.now self.now.structs.now (type_at self.now.types.now t)) }
+        ensures longer { OnOk result (IsLonger table.old table.new) }
+    {
+        self.complete_element(row, t, table)?;
+        let form = self.form_here(row, self.types.get(t))?;
+        let here = put(table, form)?;
+        Ok(here)
+    }
+
+    /// Puts the types of the source to the program's. Answers their numbers there.
+    fn put_types(&self, table: &mut TypeTable) -> Result<Vec<TypeId>, NoMemory>
+        ensures put { IfOk result (λ row. ArePutAt table.new row.items self.now.structs.now self.now.types.now.types) }
+        ensures longer { OnOk result (IsLonger table.old table.new) }
+    {
+        let mut row = Vec::new(self.alloc);
+        for t in 0..self.types.count() {
+            let here = self.put_type(row.as_slice(), TypeId(t), table)?;
+            row.push(here)?;
+        }
+        Ok(row)
+    }
+
+    /// Puts the types of the source to the program's, and completes there what it completes. Answers the types' numbers.
+    fn join(&self, table: &mut TypeTable) -> Result<Seq<TypeId>, NoMemory>
+        ensures put { IfOk result (λ row. ArePutAt table.new row self.now.structs.now self.now.types.now.types) }
+        ensures longer { OnOk result (IsLonger table.old table.new) }
+    {
+        let row = self.put_types(table)?;
+        self.complete_all(row.as_slice(), table)?;
+        Ok(Seq::new(row))
+    }
+}
+
+/// Puts the pointer to a type to a table, where it is within the bounds of types.
+fn put_pointer(t: TypeId, table: &mut TypeTable) -> Result<(), NoMemory>
+    requires { IsKnown table.old t }
+    ensures put { OnOk result (HasPointer table.new t) }
+    ensures keeps { OnOk result (KeepsPointers table.old table.new) }
+{
+    table.is_table();
+    let form = CType::Pointer(t);
+    match table.form_size(&form) {
+        Some(_) => {
+            put(table, form)?;
+            Ok(())
+        }
+        None => Ok(()),
+    }
+}
+
+/// Puts the pointers to these types to a table, where they are within the bounds of types.
+fn put_pointers(row: &[TypeId], table: &mut TypeTable) -> Result<(), NoMemory>
+    requires { All (IsKnown table.old) row.now }
+    ensures put { OnOk result (All (HasPointer table.new) row.now) }
+    ensures keeps { OnOk result (KeepsPointers table.old table.new) }
+{
+    for t in row {
+        put_pointer(*t, table)?;
+    }
+    Ok(())
+}
+
+/// The numbers of the structs of a source. `NoMemory` where there are none, which doesn't come: each source has them.
+fn structs_of(numbers: &Numbers, source: usize) -> Result<&Seq<usize>, NoMemory>
+    ensures { IfOk result (λ structs. slice_get numbers.now.rows source ≡ Some structs.now) }
+{
+    match numbers.rows.get(source) {
+        Some(structs) => Ok(structs),
+        None => Err(NoMemory),
+    }
+}
+
+/// Puts the types of the sources to a table. Answers of each type of each source its number there.
+fn join_rows(
+    alloc: Global,
+    units: &[TypedUnit],
+    numbers: &Numbers,
+    table: &mut TypeTable,
+) -> Result<Vec<Seq<TypeId>>, NoMemory>
+    ensures put { IfOk result (λ rows. AreRowsOf units.now numbers.now.rows table.new rows.items (length units.now)) }
+    ensures longer { OnOk result (IsLonger table.old table.new) }
+{
+    let mut rows = Vec::new(alloc);
+    for unit in units {
+        let structs = structs_of(numbers, rows.len())?;
+        let source = Source {
+            alloc,
+            types: &unit.types,
+            structs: structs.list(),
+        };
+        let row = source.join(table)?;
+        rows.push(row)?;
+    }
+    Ok(rows)
+}
+
+/// Puts the pointers to the types of all sources to a table, where they are within the bounds of types.
+fn put_all_pointers(rows: &[Seq<TypeId>], table: &mut TypeTable) -> Result<(), NoMemory>
+    requires { All (All (IsKnown table.old)) rows.now }
+    ensures put { OnOk result (All (All (HasPointer table.new)) rows.now) }
+    ensures keeps { OnOk result (KeepsPointers table.old table.new) }
+{
+    for row in rows {
+        put_pointers(row.list(), table)?;
+    }
+    Ok(())
+}
+
+/// The types of the program that the sources make: those of each source, in their order, and the pointers to them. Each
+/// has the form that it has in its source, made of the program's types, and a struct is the one of the program that
+/// `numbers` tells (C99 6.2.7).
+pub(crate) fn join_types(
+    alloc: Global,
+    units: &[TypedUnit],
+    numbers: &Numbers,
+) -> Result<Types, NoMemory>
+    ensures structs { IfOk result (λ types. numbers.now.count ≤ length types.table.members) }
+    ensures put { IfOk result (λ types.
+        AreRowsOf units.now numbers.now.rows types.table types.rows.items (length units.now)) }
+    ensures pointers { IfOk result (λ types. All (All (HasPointer types.table)) types.rows.items) }
+{
+    let mut table = TypeTable::new(alloc)?;
+    begin_structs(numbers.count, &mut table)?;
+    let rows = join_rows(alloc, units, numbers, &mut table)?;
+    put_all_pointers(rows.as_slice(), &mut table)?;
+    Ok(Types { table, rows })
+}
