@@ -1,7 +1,7 @@
 -- The program that checked sources become: its functions, roots, slots and points. Each has its number from the node to which it belongs: in the order of the sources, of the nodes, and of the steps.
 use Rattle.std.specs.Prelude.{◌≡◌, ◌<◌, ◌≤◌, ◌+◌, ℕ, suc, nat_eq, Bool, true, false, List, [], ◌∷◌, Option, None, Some, length, slice_get, get_or, if◌then◌else◌}
-use Rattle.std.specs.List.{Contains}
-use Rattle.std.specs.Option.{is_some, option_map_or, option_and_then}
+use Rattle.std.specs.List.{Contains, find}
+use Rattle.std.specs.Option.{is_some, option_map_or, option_and_then, option_or}
 use Rattle.lk_base.specs.declared.cell.CellStep.{CellStep}
 use Rattle.lk_base.specs.declared.spot.Spot.{Spot}
 use Rattle.lk_facts.specs.declared.place.Place.{Place}
@@ -61,17 +61,17 @@ is_whole Nothing = false
 is_whole Tentative = false
 is_whole WholeDefinition = true
 
-abbrev first_of : Option Declaration → Declaration → Option Declaration
-first_of None is = Some is
-first_of (Some found) is = Some found
+abbrev pub is_tentative : Defines → Bool
+is_tentative Nothing = false
+is_tentative Tentative = true
+is_tentative WholeDefinition = false
 
--- of several declarations the one with a body or an initialiser counts, else the first
-abbrev pub counted_among : List Declaration → Option Declaration → Option Declaration
-counted_among [] found = found
-counted_among (is ∷ others) found = if is_whole is.defines then Some is else counted_among others (first_of found is)
+-- of several declarations the one with a body or an initialiser counts, else the first tentative definition, else the first (C99 6.9, 5; 6.9.2, 2)
+abbrev pub counted_among : List Declaration → Option Declaration
+counted_among list = option_or (find (λ is. is_whole is.defines) list) (option_or (find (λ is. is_tentative is.defines) list) (slice_get list 0))
 
 abbrev pub declaration_of : Entity → Option Declaration
-declaration_of entity = counted_among entity.declarations None
+declaration_of entity = counted_among entity.declarations
 
 module _ (whole : Whole) (numbers : Numbers) where
   -- ---- what the numbers of a source stand for

@@ -5,8 +5,10 @@ pub mod AlikeStatements
 pub mod AlikeTrees
 pub mod Counted
 pub mod Ending
+pub mod FewPoints
 pub mod Laying
 pub mod Numbering
+pub mod PlaceNodes
 pub mod PointsOf
 pub mod Sources
 pub mod Steps

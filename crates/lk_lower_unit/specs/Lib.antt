@@ -1,5 +1,6 @@
 pub mod Bodies
 pub mod Counting
+pub mod Lowers
 pub mod PointNumbers
 pub mod Pointers
 pub mod Prefixes

@@ -21,3 +21,5 @@ mod structs;
 mod trees;
 #[cfg(test)]
 mod units;
+#[cfg(test)]
+mod wholes;

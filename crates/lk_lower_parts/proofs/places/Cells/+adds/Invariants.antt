@@ -1,0 +1,15 @@
+use Rattle.std.proofs.Common.{◌+◌, ◌*◌}
+use Rattle.lk_lower_parts.specs.Cells.{AreCells}
+use Rattle.lk_lower_parts.proofs.places.Cells.+adds.Given as goal
+
+abbrev pub invariant-push_members-loop-k : goal.invariant-push_members-loop-k
+invariant-push_members-loop-k l = AreCells l.types l.self.values.items l.self.locks.items
+
+abbrev pub decreases-push : goal.decreases-push
+decreases-push l = 3 * l.part.now.left + 2
+
+abbrev pub decreases-push_members : goal.decreases-push_members
+decreases-push_members l = 3 * l.part.now.left + 1
+
+abbrev pub decreases-push_inner : goal.decreases-push_inner
+decreases-push_inner l = 3 * l.part.now.left

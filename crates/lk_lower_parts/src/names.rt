@@ -1,0 +1,174 @@
+//! What the numbers of a source stand for in the program.
+ghost use Rattle.std.specs.Prelude.{◌≡◌, ◌<◌, ◌^◌, All, IfOk, get_or};
+ghost use Rattle.lk_lower_expr.specs.Naming.{AreFew};
+
+use crate::counts::{FunctionNumbers, declaration_of, definition_here};
+use lk_base::{NoMemory, Seq};
+use lk_lower_expr::SourceNames;
+use lk_typed::{Linked, Whole, WholeEntity};
+use lk_types::TypeId;
+use std::alloc::Global;
+
+/// The numbers that the program has given.
+#[derive(Clone, Copy)]
+pub struct Given<'a> {
+    pub alloc: Global,
+    pub whole: &'a Whole,
+    pub functions: &'a FunctionNumbers,
+    /// Of each node of each source the number of its first point.
+    pub points: &'a [Seq<u32>],
+    /// Of each node of each source the number of its root or slot.
+    pub by_node: &'a [Seq<u32>],
+    /// Of each type of each source the pointer to it.
+    pub pointers: &'a [Seq<TypeId>],
+}
+
+/// Numbers, once more.
+fn copied(alloc: Global, list: &[u32]) -> Result<Seq<u32>, NoMemory>
+    ensures { IfOk result (λ copy. copy ≡ list.now) }
+{
+    Ok(Seq::new(Vec::from_slice(alloc, list)?))
+}
+
+/// The numbers of types, once more.
+fn copied_types(alloc: Global, list: &[TypeId]) -> Result<Seq<TypeId>, NoMemory>
+    ensures { IfOk result (λ copy. copy ≡ list.now) }
+{
+    Ok(Seq::new(Vec::from_slice(alloc, list)?))
+}
+
+/// The number of a node; 0 past the last one.
+pub(crate) fn number_at(by_node: &[u32], node: u32) -> u32
+    ensures { result ≡ get_or by_node.now node 0 }
+{
+    match by_node.get(node as usize) {
+        Some(number) => *number,
+        None => 0,
+    }
+}
+
+/// The first points of the nodes of a source. None has a number from 2 ^ 31 on, since no program has more than 65,536
+/// points.
+fn few(alloc: Global, points: &[u32]) -> Result<Seq<u32>, NoMemory>
+    ensures { IfOk result (λ few. few ≡ points.now × All (λ base. base < 2 ^ 31) few) }
+{
+    let mut few = Vec::new(alloc);
+    for point in points {
+        if *point >= 1 << 31 {
+            return Err(NoMemory);
+        }
+        few.push(*point)?;
+    }
+    Ok(Seq::new(few))
+}
+
+impl<'a> Given<'a> {
+    /// The source of this place.
+    pub(crate) fn linked(&self, source: usize) -> Result<&'a Linked, NoMemory> {
+        self.whole.sources.get(source).ok_or(NoMemory)
+    }
+
+    /// The program's entity of an entity of a source.
+    pub(crate) fn entity_of(&self, linked: &Linked, e: u32) -> Result<&'a WholeEntity, NoMemory> {
+        let here = linked
+            .entities
+            .list()
+            .get(e as usize)
+            .copied()
+            .ok_or(NoMemory)?;
+        self.whole.entities.get(here as usize).ok_or(NoMemory)
+    }
+
+    /// The root of a declared node of a source; 0 past the last one.
+    fn root(&self, source: u32, ordinal: u32) -> u32 {
+        match self.by_node.get(source as usize) {
+            Some(row) => number_at(row.list(), ordinal),
+            None => 0,
+        }
+    }
+
+    /// The root of an entity that a source defines; 0 where it has none.
+    fn root_in(&self, source: u32, e: u32) -> u32 {
+        let Some(linked) = self.whole.sources.get(source as usize) else {
+            return 0;
+        };
+        let Some(entity) = linked.unit.entities.get(e as usize) else {
+            return 0;
+        };
+        match declaration_of(entity) {
+            Some(declaration) => self.root(source, declaration.ordinal),
+            None => 0,
+        }
+    }
+
+    /// The root of an entity by its definition; 0 where no source defines it.
+    pub(crate) fn root_of(&self, definition: Option<(u32, u32)>) -> u32 {
+        match definition {
+            Some((source, e)) => self.root_in(source, e),
+            None => 0,
+        }
+    }
+
+    /// The function of an entity that a source defines; 0 where it has none.
+    fn function_in(&self, source: u32, e: u32) -> u32 {
+        match self.functions.of_entities.get(source as usize) {
+            Some(row) => number_at(row.list(), e),
+            None => 0,
+        }
+    }
+
+    /// The function of an entity by its definition; 0 where no source defines it.
+    pub(crate) fn function_of(&self, definition: Option<(u32, u32)>) -> u32 {
+        match definition {
+            Some((source, e)) => self.function_in(source, e),
+            None => 0,
+        }
+    }
+
+    /// The roots of the entities of a source.
+    fn objects(&self, linked: &Linked) -> Result<Seq<u32>, NoMemory> {
+        let mut objects = Vec::new(self.alloc);
+        for here in linked.entities.list() {
+            objects.push(self.root_of(definition_here(self.whole, *here)))?;
+        }
+        Ok(Seq::new(objects))
+    }
+
+    /// The functions of the entities of a source.
+    fn functions(&self, linked: &Linked) -> Result<Seq<u32>, NoMemory> {
+        let mut functions = Vec::new(self.alloc);
+        for here in linked.entities.list() {
+            functions.push(self.function_of(definition_here(self.whole, *here)))?;
+        }
+        Ok(Seq::new(functions))
+    }
+
+    /// Whether a source of the program defines each of the entities of a source.
+    fn defined(&self, linked: &Linked) -> Result<Seq<bool>, NoMemory> {
+        let mut defined = Vec::new(self.alloc);
+        for here in linked.entities.list() {
+            defined.push(definition_here(self.whole, *here).is_some())?;
+        }
+        Ok(Seq::new(defined))
+    }
+
+    /// What the numbers of the source of this place stand for.
+    pub fn names(&self, source: usize) -> Result<SourceNames, NoMemory>
+        ensures { IfOk result AreFew }
+    {
+        let linked = self.linked(source)?;
+        let points = self.points.get(source).ok_or(NoMemory)?.list();
+        let by_node = self.by_node.get(source).ok_or(NoMemory)?.list();
+        let pointers = self.pointers.get(source).ok_or(NoMemory)?.list();
+        Ok(SourceNames {
+            bases: few(self.alloc, points)?,
+            by_node: copied(self.alloc, by_node)?,
+            types: copied_types(self.alloc, linked.types.list())?,
+            pointers: copied_types(self.alloc, pointers)?,
+            objects: self.objects(linked)?,
+            functions: self.functions(linked)?,
+            defined: self.defined(linked)?,
+            locals: Seq::new(Vec::new(self.alloc)),
+        })
+    }
+}

@@ -1,0 +1,11 @@
+use Rattle.std.proofs.Common.{◌≡◌}
+use Rattle.std.proofs.lemmas.Result.{IfOk-weaker}
+use Rattle.lk_lower_unit.proofs.FewPoints.{no_more}
+use Rattle.lk_lower_unit.specs.Lowers.{ArePlaceNodes}
+use Rattle.lk_lower_unit.specs.PointNumbers.{HasMorePoints}
+use Rattle.lk_lower_unit.proofs.programs.lower.Goals as goal
+
+pub returns-clause-few : goal.returns-clause-few
+returns-clause-few c =
+    IfOk-weaker c.assemble.result ArePlaceNodes (λ points. HasMorePoints c.args.whole.now 65536 → ⊥)
+    (λ points _. no_more c.args.whole.now c.in_ok-bases.bases points c.in_ok-bases.ensures.ok) c.assemble.ensures.nodes
