@@ -1,0 +1,11 @@
+pub mod Both
+pub mod FaultsUpto
+pub mod InOrder
+pub mod Lines
+pub mod Lists
+pub mod Numbered
+pub mod OneReading
+pub mod OneResult
+pub mod SplitsUpto
+pub mod Told
+pub mod TreesUpto

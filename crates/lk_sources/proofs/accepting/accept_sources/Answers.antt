@@ -1,0 +1,12 @@
+use Rattle.std.proofs.Common.{subst}
+use Rattle.lk_sources.specs.Accepting.{AreRefused}
+use Rattle.lk_sources.proofs.Told.{told_in_file}
+use Rattle.lk_sources.proofs.accepting.accept_sources.Goals as goal
+
+pub returns-in-Err-Refused-clause-err : goal.returns-in-Err-Refused-clause-err
+returns-in-Err-Refused-clause-err c =
+    let told = rw c.in-Err-Refused.field-0-is at c.in-Err-Refused.ensures.err in
+    let last = c.judge.new.files in
+    let refusal = c.in-Err-Refused.refusal in
+    told_in_file c.args.files c.args.externs.items c.args.sources.now last refusal c.refused_in.result
+    (subst (λ e. AreRefused c.args.files e c.args.sources.now last refusal) c.deref.ensures.value told) (rw c.in-Err-Refused.field-0-is at c.refused_in.ensures)

@@ -1,0 +1,79 @@
+-- Which commands have sources that are accepted, and why those of the others are refused.
+use Rattle.std.specs.Bool.{⊤}
+use Rattle.std.specs.Prelude.{ℕ, ◌≡◌, List, ◌∷◌, map, Some, None, slice_get}
+use Rattle.lk_base.specs.declared.code.Code.TheVariants.{TooLong, BadExterns}
+use Rattle.lk_base.specs.declared.refusal.Refusal.{Refusal}
+use Rattle.lk_io.specs.Shelf.{Held}
+use Rattle.lk_lex.specs.declared.token.Token.{Token}
+use Rattle.lk_tree.specs.declared.statement.Unit.{Unit}
+use Rattle.lk_typed.specs.Env.{Name}
+use Rattle.lk_words.specs.Words.{Check}
+use Rattle.lk_sources.specs.Externs.{externs_text, listed, Names, BadLine}
+use Rattle.lk_sources.specs.Faults.{AreFaultless, AreFaulty}
+use Rattle.lk_sources.specs.Numbers.{numbered, refusal_at}
+use Rattle.lk_sources.specs.Reading.{IsRead, IsTooLong}
+use Rattle.lk_sources.specs.Splitting.{AreSplit, StopsIn, first_word}
+use Rattle.lk_sources.specs.Trees.{AreTrees, HasNoTree}
+use Rattle.lk_sources.specs.declared.accepting.Accepted.{Accepted}
+use Rattle.lk_sources.specs.declared.fault.SourcesFault.{SourcesFault}
+use Rattle.lk_sources.specs.declared.fault.SourcesFault.TheVariants as told
+use Rattle.lk_sources.specs.declared.checking.AcceptedSource.{AcceptedSource}
+use Rattle.lk_sources.specs.declared.reading.Source.{Source}
+use Rattle.lk_sources.specs.declared.reading.Texts.{Texts}
+
+-- ---- sources, where --externs lists these names, and the names of files grow from the first to the last
+
+-- each is a tree without a fault, and no word in them is unsupported
+pub record AreAccepted (names : List (List ℕ)) (externs : List Name) (sources : List Source) (last : List (List ℕ)) (units : List Unit) : Type 0 where
+  pub lists : List (List Token)
+  pub split : AreSplit names sources lists last
+  pub supported : first_word sources lists ≡ None
+  pub trees : AreTrees sources lists units
+  pub faultless : AreFaultless externs units
+
+-- Why they are refused: in some the split stops, or a word is unsupported, or some has no tree, or some tree has a fault. The first of these that applies tells the refusal, and of the
+-- sources to which it applies the first.
+pub data AreRefused (names : List (List ℕ)) (externs : List Name) (sources : List Source) (last : List (List ℕ)) (refusal : Refusal) : Type 0 where
+  stopped : StopsIn names sources refusal last → AreRefused names externs sources last refusal
+  unsupported : (lists : List (List Token)) → AreSplit names sources lists last → first_word sources lists ≡ Some refusal → AreRefused names externs sources last refusal
+  without_tree : (lists : List (List Token)) → AreSplit names sources lists last → first_word sources lists ≡ None → HasNoTree sources lists refusal →
+      AreRefused names externs sources last refusal
+  faulty : (lists : List (List Token)) (units : List Unit) → AreSplit names sources lists last → first_word sources lists ≡ None → AreTrees sources lists units →
+      AreFaulty externs units refusal → AreRefused names externs sources last refusal
+
+-- ---- the files of a command, whose names have these numbers: that of --externs, if there is one, and its sources
+
+abbrev pub units_of : List AcceptedSource → List Unit
+units_of sources = map (λ s. s.parsed.unit) sources
+
+-- the lines of the externs file are names, and the sources are accepted
+pub record IsAccepted (names : List (List ℕ)) (externs sources : List Source) (accepted : Accepted) : Type 0 where
+  pub names_listed : listed (externs_text externs) ≡ Names accepted.externs.items
+  pub are : AreAccepted names accepted.externs.items sources accepted.files (units_of accepted.sources.items)
+
+-- Why they are refused, and the file in which the place of that stands: a line of the externs file is no name; or the sources are refused.
+pub data IsRefused (names : List (List ℕ)) (externs sources : List Source) (file : List ℕ) (refusal : Refusal) : Type 0 where
+  bad_externs : (first : Source) (others : List Source) (line : ℕ) → externs ≡ first ∷ others → listed first.bytes ≡ BadLine line → file ≡ first.name →
+      refusal ≡ refusal_at names file BadExterns line → IsRefused names externs sources file refusal
+  sources_refused : (listed_names : List Name) (last : List (List ℕ)) → listed (externs_text externs) ≡ Names listed_names →
+      AreRefused names listed_names sources last refusal → slice_get last refusal.spot.file ≡ Some file → IsRefused names externs sources file refusal
+
+-- ---- a command over the files that a shelf holds
+
+pub record IsAcceptedFor (check : Check) (held : Held) (accepted : Accepted) : Type 0 where
+  pub externs : List Source
+  pub sources : List Source
+  pub read : IsRead check held externs sources
+  pub is : IsAccepted (numbered check) externs sources accepted
+
+-- a file is too long, or the files are refused that were read
+pub data IsRefusedFor (check : Check) (held : Held) (file : List ℕ) (refusal : Refusal) : Type 0 where
+  too_long : IsTooLong check held file → refusal ≡ refusal_at (numbered check) file TooLong 1 → IsRefusedFor check held file refusal
+  refused : (externs sources : List Source) → IsRead check held externs sources → IsRefused (numbered check) externs sources file refusal → IsRefusedFor check held file refusal
+
+-- ---- what the call answers
+
+abbrev pub Refuses : Texts → SourcesFault → Type 0
+Refuses texts (told.Refused file refusal) = IsRefused texts.files texts.externs texts.sources file refusal
+Refuses texts (told.Unread name) = ⊥
+Refuses texts told.NoMemory = ⊤

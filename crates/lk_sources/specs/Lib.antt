@@ -1,0 +1,12 @@
+pub mod Accepting
+pub mod Calls
+pub mod Externs
+pub mod Faults
+pub mod Judging
+pub mod Laws
+pub mod Numbers
+pub mod Readable
+pub mod Reading
+pub mod Shelves
+pub mod Splitting
+pub mod Trees

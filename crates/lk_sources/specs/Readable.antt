@@ -1,0 +1,45 @@
+-- What the reading of a command's files answers.
+use Rattle.std.specs.Bool.{⊤}
+use Rattle.std.specs.Prelude.{ℕ, ◌≡◌, ◌≤◌, true, List, length, map}
+use Rattle.std.specs.List.{All}
+use Rattle.std.specs.Option.{ForSome}
+use Rattle.lk_base.specs.Files.{has_name}
+use Rattle.lk_base.specs.declared.code.Code.TheVariants.{TooLong}
+use Rattle.lk_words.specs.Words.{Check}
+use Rattle.lk_sources.specs.Numbers.{numbered, refusal_at}
+use Rattle.lk_sources.specs.Reading.{longest_externs, longest_sources, names_of, IsRead, IsTooLong, ComesTo}
+use Rattle.lk_sources.specs.Shelves.{Shelved, HasRisen, IsAsBefore}
+use Rattle.lk_sources.specs.declared.fault.SourcesFault.{SourcesFault}
+use Rattle.lk_sources.specs.declared.fault.SourcesFault.TheVariants as told
+use Rattle.lk_sources.specs.declared.reading.Source.{Source}
+use Rattle.lk_sources.specs.declared.reading.Texts.{Texts}
+
+-- each has at most so many bytes
+abbrev pub AreShort : ℕ → List Source → Type 0
+AreShort most sources = All (λ s. length s.bytes ≤ most) sources
+
+-- the name of each is among the names
+abbrev pub AreNamed : List (List ℕ) → List Source → Type 0
+AreNamed names sources = All (λ s. has_name names s.name ≡ true) sources
+
+-- what is read is no longer than it may be, and the sources' names have numbers
+pub record IsReadable (texts : Texts) : Type 0 where
+  pub short_externs : AreShort longest_externs texts.externs
+  pub short : AreShort longest_sources texts.sources
+  pub named : AreNamed texts.files texts.sources
+
+-- the files of a command
+pub record Reads (check : Check) (shelf : Shelved) (texts : Texts) : Type 0 where
+  pub calm : IsAsBefore shelf.faults
+  pub files : texts.files ≡ numbered check
+  pub externs_names : map (λ s. s.name) texts.externs ≡ names_of check.externs
+  pub names : map (λ s. s.name) texts.sources ≡ check.files
+  pub readable : IsReadable texts
+  pub read : ForSome shelf.files (λ held. IsRead check held texts.externs texts.sources)
+
+-- a file is too long; or one can't be read to which the reading comes; or want of memory
+abbrev pub FailsToRead : Check → Shelved → SourcesFault → Type 0
+FailsToRead check shelf (told.Refused file refusal) =
+    IsAsBefore shelf.faults × (refusal ≡ refusal_at (numbered check) file TooLong 1) × ForSome shelf.files (λ held. IsTooLong check held file)
+FailsToRead check shelf (told.Unread name) = HasRisen shelf.faults × ForSome shelf.bad (λ bad. bad ≡ name) × ForSome shelf.files (λ held. ComesTo check held name)
+FailsToRead check shelf told.NoMemory = ⊤

@@ -1,0 +1,66 @@
+//! Why the sources of a command are not accepted.
+ghost use Rattle.lk_sources.specs.Calls.{IsInFile, IsRefusedAt};
+ghost use Rattle.lk_sources.specs.Numbers as numbers;
+
+use crate::numbers::refusal_at;
+use lk_base::{Code, Files, Name, NoMemory, Refusal};
+use std::alloc::Global;
+
+/// Why the sources of a command are not accepted.
+#[derive(Drop)]
+pub enum SourcesFault {
+    /// They are refused, at a place in this file.
+    Refused {
+        /// The name of the file.
+        file: Name,
+        /// The refusal.
+        refusal: Refusal,
+    },
+    /// The file of this name can't be read.
+    Unread {
+        /// The name of the file.
+        name: Name,
+    },
+    /// No memory was found.
+    NoMemory,
+}
+
+impl From<NoMemory> for SourcesFault {
+    ghost use Rattle.std.specs.Prelude.{◌≡◌};
+    ghost use Rattle.lk_sources.specs.declared.fault.SourcesFault.TheVariants.{NoMemory};
+
+    ghost from_gives = { λ _ fault. fault ≡ NoMemory };
+
+    fn from(_error: NoMemory) -> SourcesFault {
+        SourcesFault::NoMemory
+    }
+}
+
+/// A refusal with the name of the file in which its place stands. Each place stands in one of the files.
+pub(crate) fn refused_in(files: &Files, refusal: Refusal) -> SourcesFault
+    ensures { IsInFile files.now refusal result }
+{
+    match files.get(refusal.spot.file) {
+        Some(file) => match file.copy() {
+            Ok(file) => SourcesFault::Refused { file, refusal },
+            Err(NoMemory) => SourcesFault::NoMemory,
+        },
+        None => SourcesFault::NoMemory,
+    }
+}
+
+/// The refusal with this code at a line of the file of this name.
+pub(crate) fn refused_at(
+    alloc: Global,
+    files: &mut Files,
+    file: Name,
+    code: Code,
+    line: u32,
+) -> SourcesFault
+    ensures { IsRefusedAt file (numbers.refusal_at files.old file code line) result }
+{
+    match refusal_at(alloc, files, file.bytes(), code, line) {
+        Ok(refusal) => SourcesFault::Refused { file, refusal },
+        Err(NoMemory) => SourcesFault::NoMemory,
+    }
+}
