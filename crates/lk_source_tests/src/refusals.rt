@@ -1,8 +1,8 @@
 //! How commands are refused, and in which order.
 
 use crate::runs::{accept_over, shelf_of};
-use lk_base::{Code, Spot};
-use lk_sources::SourcesFault;
+use lk_base::Code;
+use lk_sources::{Accepted, SourcesFault};
 use std::process::Abort;
 use std::test::Fail;
 
@@ -34,6 +34,25 @@ const REFUSALS: &[([&str; 3], Code, &str, [u32; 3])] = &[
     (["", GOOD, "# 7 \"n.h\"\n@"], Code::Byte, "n.h", [3, 7, 1]),
 ];
 
+/// Whether they are refused with this code in the file of this name, and there: the file's number, the line, the column.
+fn is_refused(
+    answer: &Result<Accepted, SourcesFault>,
+    code: &Code,
+    name: &str,
+    place: &[u32; 3],
+) -> bool {
+    match answer {
+        Err(SourcesFault::Refused { file, refusal }) => {
+            refusal.code == *code
+                && file.bytes() == name.as_bytes()
+                && refusal.spot.file == place[0]
+                && refusal.spot.line == place[1]
+                && refusal.spot.col == place[2]
+        }
+        Ok(_) | Err(SourcesFault::Unread { .. } | SourcesFault::NoMemory) => false,
+    }
+}
+
 #[test]
 fn the_first_refusal_that_applies_is_told(rt: HostRuntime) -> Result<(), Fail> {
     for (texts, code, name, place) in REFUSALS {
@@ -42,24 +61,8 @@ fn the_first_refusal_that_applies_is_told(rt: HostRuntime) -> Result<(), Fail> {
             &[("x.txt", texts[0]), ("a.c", texts[1]), ("b.c", texts[2])],
         )?;
         let words = ["check", "a.c", "--externs=x.txt", "b.c"];
-        match accept_over(rt.alloc(), &words, &mut shelf)? {
-            Err(SourcesFault::Refused { file, refusal }) => {
-                let [number, line, col] = *place;
-                assert!(rt; refusal.code == *code);
-                assert!(rt; file.bytes() == name.as_bytes());
-                assert!(rt;
-                    refusal.spot
-                        == Spot {
-                            file: number,
-                            line,
-                            col
-                        }
-                );
-            }
-            Ok(_) | Err(SourcesFault::Unread { .. } | SourcesFault::NoMemory) => {
-                assert!(rt; false, "not refused")
-            }
-        }
+        let answer = accept_over(rt.alloc(), &words, &mut shelf)?;
+        assert!(rt; is_refused(&answer, code, name, place));
     }
     Ok(())
 }
@@ -74,31 +77,40 @@ const LISTS: &[(&str, u32)] = &[
     ("a\nb\r\n", 2),
 ];
 
+/// The line of a refusal, 0 where there is none, and 99 where it is of another kind.
+fn line_of(answer: &Result<Accepted, SourcesFault>) -> u32 {
+    match answer {
+        Ok(_) => 0,
+        Err(SourcesFault::Refused { refusal, .. }) => refusal.spot.line,
+        Err(SourcesFault::Unread { .. } | SourcesFault::NoMemory) => 99,
+    }
+}
+
 #[test]
 fn each_line_of_the_externs_file_is_empty_or_a_name(rt: HostRuntime) -> Result<(), Fail> {
     for (text, bad) in LISTS {
         let mut shelf = shelf_of(rt.alloc(), &[("x.txt", *text), ("a.c", GOOD)])?;
         let words = ["check", "--externs=x.txt", "a.c"];
-        let line = match accept_over(rt.alloc(), &words, &mut shelf)? {
-            Ok(_) => 0,
-            Err(SourcesFault::Refused { file: _, refusal }) => refusal.spot.line,
-            Err(SourcesFault::Unread { .. } | SourcesFault::NoMemory) => 99,
-        };
-        assert!(rt; line == *bad);
+        let answer = accept_over(rt.alloc(), &words, &mut shelf)?;
+        assert!(rt; line_of(&answer) == *bad);
     }
     Ok(())
+}
+
+/// Whether the file of this name can't be read.
+fn is_unread(answer: &Result<Accepted, SourcesFault>, file: &str) -> bool {
+    match answer {
+        Err(SourcesFault::Unread { name }) => name.bytes() == file.as_bytes(),
+        Ok(_) | Err(SourcesFault::Refused { .. } | SourcesFault::NoMemory) => false,
+    }
 }
 
 #[test]
 fn a_file_that_is_missing_is_told_before_what_is_refused(rt: HostRuntime) -> Result<(), Fail> {
     let mut shelf = shelf_of(rt.alloc(), &[("x.txt", "?"), ("a.c", BYTE)])?;
     let words = ["check", "a.c", "b.c", "--externs=x.txt"];
-    match accept_over(rt.alloc(), &words, &mut shelf)? {
-        Err(SourcesFault::Unread { name }) => assert!(rt; name.bytes() == b"b.c".as_slice()),
-        Ok(_) | Err(SourcesFault::Refused { .. } | SourcesFault::NoMemory) => {
-            assert!(rt; false, "read")
-        }
-    }
+    let answer = accept_over(rt.alloc(), &words, &mut shelf)?;
+    assert!(rt; is_unread(&answer, "b.c"));
     Ok(())
 }
 
@@ -107,11 +119,7 @@ fn the_externs_file_is_read_first(rt: HostRuntime) -> Result<(), Fail> {
     let mut shelf = shelf_of(rt.alloc(), &[("x.txt", ""), ("a.c", GOOD)])?;
     shelf.fail_at(1)?;
     let words = ["check", "a.c", "--externs=x.txt"];
-    match accept_over(rt.alloc(), &words, &mut shelf)? {
-        Err(SourcesFault::Unread { name }) => assert!(rt; name.bytes() == b"x.txt".as_slice()),
-        Ok(_) | Err(SourcesFault::Refused { .. } | SourcesFault::NoMemory) => {
-            assert!(rt; false, "read")
-        }
-    }
+    let answer = accept_over(rt.alloc(), &words, &mut shelf)?;
+    assert!(rt; is_unread(&answer, "x.txt"));
     Ok(())
 }
