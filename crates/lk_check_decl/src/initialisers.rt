@@ -219,7 +219,7 @@ fn is_text(types: &TypeTable, element: TypeId, text: Option<u32>) -> bool
 
 /// Whether a list that is a text alone initialises an object of this type, as the text would without the braces
 /// (C99 6.7.8, 14).
-fn is_text_for(types: &TypeTable, t: TypeId, text: Option<u32>) -> bool
+pub fn is_text_for(types: &TypeTable, t: TypeId, text: Option<u32>) -> bool
     requires { IsKnown types.now t }
     ensures { result ≡ spec.is_text_for (meaning types.now t) text }
 {

@@ -26,8 +26,8 @@ pub use declarators::{
 };
 pub use enumerators::{next_code, next_value, written_code, written_value};
 pub use initialisers::{
-    Braces, Seen, Target, entry_target, entry_type, expression_code, list_code, list_size,
-    size_code, text_size,
+    Braces, Seen, Target, entry_target, entry_type, expression_code, is_text_for, list_code,
+    list_size, size_code, text_size,
 };
 pub use making::{adjusted, array_of, function_of, pointer_to};
 pub use members::{has_bit_field, member_code, with_member};

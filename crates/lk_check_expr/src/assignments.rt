@@ -19,7 +19,7 @@ use lk_typed::{
 use lk_types::{CType, TypeId, TypeTable};
 
 /// The operator with which an assignment computes.
-fn operator_of(op: AssignOperator) -> Option<BinaryOperator>
+pub fn operator_of(op: AssignOperator) -> Option<BinaryOperator>
     ensures { result ≡ spec.operator_of op }
 {
     match op {

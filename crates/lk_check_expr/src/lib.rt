@@ -20,15 +20,15 @@ mod sizes;
 mod texts;
 mod words;
 
-pub use assignments::{assign, cast, converted};
+pub use assignments::{assign, cast, converted, operator_of};
 pub use calls::{Argument, call, passing};
 pub use choices::{choice, comma};
 pub use fields::{arrow, dot};
 pub use library::{Asks, LibraryFunction, Parameter, Passing};
 pub use literals::{character, number};
 pub use looks::Look;
-pub use operators::binary;
+pub use operators::{binary, is_scalar, row_of};
 pub use places::{index, prefix, step};
 pub use sizes::size_of;
 pub use texts::text;
-pub use words::{NameUse, word};
+pub use words::{NameUse, is_extern, word};

@@ -32,7 +32,7 @@ pub(crate) fn is_condition(types: &TypeTable, ty: &ExprType) -> bool
 }
 
 /// Whether it is a scalar type (C99 6.2.5, 21), thread ids among them.
-fn is_scalar(types: &TypeTable, ty: &ExprType) -> bool
+pub fn is_scalar(types: &TypeTable, ty: &ExprType) -> bool
     requires { IsKnownType types.now ty.now }
     ensures { result ≡ spec.is_scalar (meaning_of types.now ty.now) }
 {
@@ -102,7 +102,7 @@ pub(crate) fn is_steppable(types: &TypeTable, structs: &[Members], ty: &ExprType
 }
 
 /// The row of each operator.
-pub(crate) fn row_of(op: BinaryOperator) -> BinaryRow
+pub fn row_of(op: BinaryOperator) -> BinaryRow
     ensures value { result ≡ spec.row_of op }
     ensures shifts { IsOfShifts result }
 {

@@ -140,7 +140,7 @@ pub(crate) fn is_library(name: &Name) -> bool
 }
 
 /// Whether it is a function that `--externs` names and the source doesn't define.
-pub(crate) fn is_extern(name: &Name, used: &NameUse) -> bool
+pub fn is_extern(name: &Name, used: &NameUse) -> bool
     ensures { (table : Table) (env : Env) → IsUse table env name.now used.now → result ≡ spec.is_extern env name.now }
 {
     used.is_listed && !used.is_defined && !is_library(name) && !is_main(name)
