@@ -1,0 +1,90 @@
+//! Arguments of calls (C99 6.5.2.2).
+
+use crate::elaborator::Elaborator;
+use crate::expressions::part_node;
+use crate::found::{found_of, typing_at};
+use crate::operators::promoted_at;
+use crate::parts::{Part, converted_operand, given};
+use crate::unreached::nowhere;
+use lk_base::{NoMemory, Seq};
+use lk_check_expr::{Argument, Passing, passing};
+use lk_tree::Expr;
+use lk_typed::TypedExpr;
+
+/// How the argument with an index is passed to the function with a number, where that has a parameter for it.
+fn passing_at(walk: &Elaborator, function: u32, index: usize) -> Result<Option<Passing>, NoMemory> {
+    let look = found_of(walk, function)?.look;
+    let typing = typing_at(walk, function)?;
+    let function = Argument { typing, look };
+    Ok(passing(walk.types.table(), &function, index))
+}
+
+/// What stands for an argument behind those that have a parameter: it is promoted (C99 6.5.2.2, 7).
+fn further(walk: &mut Elaborator, argument: u32) -> Result<Part, NoMemory> {
+    let target = promoted_at(walk, argument)?;
+    converted_operand(walk, argument, &target)
+}
+
+/// What stands for the argument with a number, which is passed so, where it computes something. It is converted to its
+/// parameter (C99 6.5.2.2, 7). The size of an allocation is none here.
+fn passed_as(
+    walk: &mut Elaborator,
+    pass: Option<Passing>,
+    argument: u32,
+) -> Result<Option<Part>, NoMemory> {
+    match pass {
+        Some(Passing::Converted(target)) => Ok(Some(given(walk, argument, &target)?)),
+        Some(Passing::NullFor(_) | Passing::Routine) => Ok(None),
+        Some(Passing::Size) => Err(nowhere()),
+        None => Ok(Some(further(walk, argument)?)),
+    }
+}
+
+/// What stands for the argument with an index and a number of the function with that number, where it computes
+/// something.
+fn argument_part(
+    walk: &mut Elaborator,
+    function: u32,
+    index: usize,
+    argument: u32,
+) -> Result<Option<Part>, NoMemory> {
+    match passing_at(walk, function, index) {
+        Ok(pass) => passed_as(walk, pass, argument),
+        Err(NoMemory) => Err(NoMemory),
+    }
+}
+
+/// Puts the argument with an index of the function with a number, where it computes something.
+#[cycle(walk)]
+fn put_argument(
+    walk: &mut Elaborator,
+    function: u32,
+    index: usize,
+    e: &Expr,
+    folded: bool,
+    out: &mut Seq<TypedExpr>,
+) -> Result<(), NoMemory> {
+    match argument_part(walk, function, index, e.ordinal) {
+        Ok(Some(part)) => {
+            let node = part_node(walk, e, part, folded)?;
+            out.push(node)
+        }
+        Ok(None) => Ok(()),
+        Err(NoMemory) => Err(NoMemory),
+    }
+}
+
+/// Those arguments of the function with a number that compute something, in the order of the text (`ArePassed`).
+#[cycle(walk)]
+pub(crate) fn passed_arguments(
+    walk: &mut Elaborator,
+    function: u32,
+    arguments: &[Expr],
+    folded: bool,
+) -> Result<Seq<TypedExpr>, NoMemory> {
+    let mut out = Seq::new(Vec::new(walk.alloc));
+    for (index, e) in arguments.iter().enumerate() {
+        put_argument(walk, function, index, e, folded, &mut out)?;
+    }
+    Ok(out)
+}

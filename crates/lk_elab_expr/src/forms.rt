@@ -1,0 +1,88 @@
+//! Expressions by the operands that they have: what they are of these, and what stands for each.
+
+use crate::parts::Part;
+use lk_arith::{Op, UnaryOp};
+use lk_base::Boxed;
+use lk_tree::StepOperator;
+use lk_typed::{Change, TypedExpr, TypedForm};
+use lk_types::TypeId;
+
+/// What an expression is of one operand.
+#[derive(Clone, Copy)]
+pub(crate) enum OneForm {
+    Paren,
+    Member(u32),
+    Arrow(u32),
+    Address,
+    Indirection,
+    Unary(UnaryOp),
+    Step(StepOperator, Change, TypeId),
+    Discard,
+    Convert,
+}
+
+/// An expression with one operand.
+#[derive(Clone, Copy)]
+pub(crate) enum One {
+    /// A null pointer, whose operand computes nothing.
+    Null,
+    /// This of what stands for the operand.
+    Of(OneForm, Part),
+}
+
+/// What an expression is of two operands.
+#[derive(Clone, Copy)]
+pub(crate) enum TwoForm {
+    Index,
+    Binary(Op),
+    And,
+    Or,
+    Comma,
+    Assign,
+    Compound(Op, TypeId),
+}
+
+/// An expression with two operands.
+#[derive(Clone, Copy)]
+pub(crate) struct Two {
+    pub(crate) form: TwoForm,
+    /// What stands for the operands.
+    pub(crate) left: Part,
+    pub(crate) right: Part,
+}
+
+/// What stands for the operands of `?:`.
+#[derive(Clone, Copy)]
+pub(crate) struct Three {
+    pub(crate) condition: Part,
+    pub(crate) taken: Part,
+    pub(crate) other: Part,
+}
+
+/// An expression of one operand.
+pub(crate) fn form_of_one(form: OneForm, a: Boxed<TypedExpr>) -> TypedForm {
+    match form {
+        OneForm::Paren => TypedForm::Paren(a),
+        OneForm::Member(number) => TypedForm::Member(a, number),
+        OneForm::Arrow(number) => TypedForm::Arrow(a, number),
+        OneForm::Address => TypedForm::Address(a),
+        OneForm::Indirection => TypedForm::Indirection(a),
+        OneForm::Unary(op) => TypedForm::Unary(op, a),
+        OneForm::Step(op, change, at) => TypedForm::Step(op, change, a, at),
+        OneForm::Discard => TypedForm::Discard(a),
+        OneForm::Convert => TypedForm::Convert(a),
+    }
+}
+
+/// An expression of two operands.
+pub(crate) fn form_of_two(form: TwoForm, a: Boxed<TypedExpr>, b: Boxed<TypedExpr>) -> TypedForm {
+    match form {
+        TwoForm::Index => TypedForm::Index(a, b),
+        TwoForm::Binary(op) => TypedForm::Binary(op, a, b),
+        TwoForm::And => TypedForm::And(a, b),
+        TwoForm::Or => TypedForm::Or(a, b),
+        TwoForm::Comma => TypedForm::Comma(a, b),
+        TwoForm::Assign => TypedForm::Assign(a, b),
+        TwoForm::Compound(op, at) => TypedForm::Compound(op, a, b, at),
+    }
+}

@@ -1,0 +1,127 @@
+//! What the checker found at the nodes of expressions.
+ghost use Rattle.std.specs.Prelude.{◌↔◌, IfOk, IsTrue};
+ghost use Rattle.lk_types.specs.Table.{IsKnown};
+ghost use Rattle.lk_typed.specs.Typings.{IsOperand};
+ghost use Rattle.lk_check_walk.specs.Judging.{HasOperand};
+
+use crate::elaborator::Elaborator;
+use crate::type_numbers::{is_number, known, node_type};
+use crate::unreached::nowhere;
+use lk_base::NoMemory;
+use lk_check_expr::LibraryFunction;
+use lk_check_walk::{Found, Meant};
+use lk_typed::{Constant, ExprType, Typed, TypedExpr, value};
+use lk_types::{TypeId, TypeTable};
+
+/// Whether it is what is known of an operand.
+fn is_operand(types: &TypeTable, typing: &Typed) -> bool
+    ensures { IsTrue result ↔ IsOperand types.now typing.now }
+{
+    match typing.ty {
+        ExprType::Listed(t) => is_number(types, t),
+        ExprType::PointerTo(t) => is_number(types, t) && !typing.is_place,
+    }
+}
+
+/// What is known of the expression with a number. Each has a type where no fault holds.
+pub fn typing_at(walk: &Elaborator, ordinal: u32) -> Result<Typed, NoMemory>
+    ensures { IfOk result (IsOperand walk.now.types) }
+{
+    let found = found_of(walk, ordinal)?;
+    match found.typing {
+        Some(typing) => Ok(typing),
+        None => Err(nowhere()),
+    }
+}
+
+/// Whether what is found of an expression is of the types of the source, as the checker keeps it.
+fn is_of_source(types: &TypeTable, found: &Found) -> bool
+    ensures { IsTrue result ↔ HasOperand types.now found.now }
+{
+    match &found.typing {
+        Some(typing) => is_operand(types, typing),
+        None => true,
+    }
+}
+
+/// What was found of the expression with a number. Each was judged.
+pub fn found_of(walk: &Elaborator, ordinal: u32) -> Result<Found, NoMemory>
+    ensures { IfOk result (HasOperand walk.now.types) }
+{
+    match walk.records.found(ordinal) {
+        Some(found) => {
+            if is_of_source(walk.types.table(), &found) {
+                Ok(found)
+            } else {
+                Err(nowhere())
+            }
+        }
+        None => Err(nowhere()),
+    }
+}
+
+/// What the expression with a number is as an integer constant expression.
+pub(crate) fn constant_at(walk: &Elaborator, ordinal: u32) -> Result<Constant, NoMemory> {
+    match typing_at(walk, ordinal) {
+        Ok(typing) => Ok(typing.constant),
+        Err(NoMemory) => Err(NoMemory),
+    }
+}
+
+/// The function of the library whose name the expression with a number is, perhaps in parentheses.
+pub(crate) fn called_at(
+    walk: &Elaborator,
+    ordinal: u32,
+) -> Result<Option<LibraryFunction>, NoMemory> {
+    match found_of(walk, ordinal) {
+        Ok(found) => Ok(found.look.called),
+        Err(NoMemory) => Err(NoMemory),
+    }
+}
+
+/// Whether a `sizeof` stands in the expression with a number.
+pub(crate) fn holds_sizeof(walk: &Elaborator, ordinal: u32) -> Result<bool, NoMemory> {
+    match found_of(walk, ordinal) {
+        Ok(found) => Ok(found.look.holds_sizeof),
+        Err(NoMemory) => Err(NoMemory),
+    }
+}
+
+/// What is known of the expression whose node this is.
+pub fn typing_of(walk: &Elaborator, node: &TypedExpr) -> Result<Typed, NoMemory>
+    ensures { IfOk result (IsOperand walk.now.types) }
+{
+    typing_at(walk, node.ordinal)
+}
+
+/// What is known of the value of the expression with a number.
+pub fn value_at(walk: &Elaborator, ordinal: u32) -> Result<Typed, NoMemory>
+    ensures { IfOk result (IsOperand walk.now.types) }
+{
+    let typing = typing_at(walk, ordinal)?;
+    Ok(value(walk.types.table(), &typing))
+}
+
+/// What the name with a number stands for. Each was declared.
+pub(crate) fn meant_at(walk: &Elaborator, ordinal: u32) -> Result<Meant, NoMemory> {
+    match walk.records.meant(ordinal) {
+        Some(meant) => Ok(meant),
+        None => Err(nowhere()),
+    }
+}
+
+/// The type that the type name with a number names. Each names one where no fault holds.
+pub(crate) fn type_named_at(walk: &Elaborator, ordinal: u32) -> Result<TypeId, NoMemory>
+    ensures { IfOk result (IsKnown walk.now.types) }
+{
+    match walk.records.type_named(ordinal) {
+        Some(t) => known(walk.types.table(), t),
+        None => Err(nowhere()),
+    }
+}
+
+/// The type of the node of the expression with a number.
+pub(crate) fn node_type_at(walk: &mut Elaborator, ordinal: u32) -> Result<TypeId, NoMemory> {
+    let typing = typing_at(walk, ordinal)?;
+    node_type(&mut walk.types, &typing.ty)
+}

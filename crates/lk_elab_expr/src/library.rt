@@ -1,0 +1,235 @@
+//! Calls of the library, by those of their arguments that compute something (POSIX, `pthread.h`; C99 7.19, 7.20).
+
+use crate::elaborator::Elaborator;
+use crate::names::entity_at;
+use crate::unreached::nowhere;
+use lk_base::{Boxed, NoMemory, Seq};
+use lk_check_expr::LibraryFunction;
+use lk_tree::{Expr, ExprForm, PrefixOperator};
+use lk_typed::{LibraryCall, TypedExpr};
+use std::alloc::Global;
+
+/// A call with one argument that computes something.
+#[derive(Clone, Copy)]
+enum OneValue {
+    Join,
+    Detach,
+    ExitThread,
+    Init,
+    Destroy,
+    Lock,
+    Unlock,
+    Signal,
+    Free,
+    Exit,
+    Scan,
+}
+
+/// A call with two arguments that compute something.
+#[derive(Clone, Copy)]
+enum TwoValues {
+    Equal,
+    Wait,
+}
+
+/// A call with no argument that computes something.
+#[derive(Clone, Copy)]
+enum NoValue {
+    SelfId,
+    Abort,
+}
+
+/// What is made of the arguments of a call that compute something.
+#[derive(Clone, Copy)]
+enum Making {
+    OfNone(NoValue),
+    OfOne(OneValue),
+    OfTwo(TwoValues),
+    /// Nothing more of all of them.
+    OfAll,
+    /// A format, and those behind it.
+    Print,
+    /// It has a rule of its own.
+    Apart,
+}
+
+/// What is made of the arguments of a function (`call_rows`).
+fn making_of(function: LibraryFunction) -> Making {
+    match function {
+        LibraryFunction::Join => Making::OfOne(OneValue::Join),
+        LibraryFunction::Detach => Making::OfOne(OneValue::Detach),
+        LibraryFunction::ExitThread => Making::OfOne(OneValue::ExitThread),
+        LibraryFunction::SelfId => Making::OfNone(NoValue::SelfId),
+        LibraryFunction::Equal => Making::OfTwo(TwoValues::Equal),
+        LibraryFunction::MutexInit | LibraryFunction::CondInit => Making::OfOne(OneValue::Init),
+        LibraryFunction::MutexDestroy | LibraryFunction::CondDestroy => {
+            Making::OfOne(OneValue::Destroy)
+        }
+        LibraryFunction::MutexLock => Making::OfOne(OneValue::Lock),
+        LibraryFunction::MutexUnlock => Making::OfOne(OneValue::Unlock),
+        LibraryFunction::CondSignal | LibraryFunction::CondBroadcast => {
+            Making::OfOne(OneValue::Signal)
+        }
+        LibraryFunction::CondWait => Making::OfTwo(TwoValues::Wait),
+        LibraryFunction::Free => Making::OfOne(OneValue::Free),
+        LibraryFunction::Exit => Making::OfOne(OneValue::Exit),
+        LibraryFunction::Abort => Making::OfNone(NoValue::Abort),
+        LibraryFunction::Puts | LibraryFunction::Perror | LibraryFunction::Atoi => {
+            Making::OfOne(OneValue::Scan)
+        }
+        LibraryFunction::Putchar
+        | LibraryFunction::Getchar
+        | LibraryFunction::Rand
+        | LibraryFunction::Sleep => Making::OfAll,
+        LibraryFunction::Printf => Making::Print,
+        LibraryFunction::Create | LibraryFunction::Malloc | LibraryFunction::Calloc => {
+            Making::Apart
+        }
+    }
+}
+
+/// A call of no argument.
+fn of_none(making: NoValue) -> LibraryCall {
+    match making {
+        NoValue::SelfId => LibraryCall::SelfId,
+        NoValue::Abort => LibraryCall::Exit(None),
+    }
+}
+
+/// A call of one argument.
+fn of_one(making: OneValue, a: Boxed<TypedExpr>) -> LibraryCall {
+    match making {
+        OneValue::Join => LibraryCall::Join(a),
+        OneValue::Detach => LibraryCall::Detach(a),
+        OneValue::ExitThread => LibraryCall::ExitThread(a),
+        OneValue::Init => LibraryCall::Init(a),
+        OneValue::Destroy => LibraryCall::Destroy(a),
+        OneValue::Lock => LibraryCall::Lock(a),
+        OneValue::Unlock => LibraryCall::Unlock(a),
+        OneValue::Signal => LibraryCall::Signal(a),
+        OneValue::Free => LibraryCall::Free(a),
+        OneValue::Exit => LibraryCall::Exit(Some(a)),
+        OneValue::Scan => LibraryCall::Scan(a),
+    }
+}
+
+/// A call of two arguments.
+fn of_two(making: TwoValues, a: Boxed<TypedExpr>, b: Boxed<TypedExpr>) -> LibraryCall {
+    match making {
+        TwoValues::Equal => LibraryCall::Equal(a, b),
+        TwoValues::Wait => LibraryCall::Wait(a, b),
+    }
+}
+
+/// The last argument. There are as many as the function has parameters that compute something.
+fn last(alloc: Global, values: &mut Seq<TypedExpr>) -> Result<Boxed<TypedExpr>, NoMemory> {
+    match values.pop() {
+        Some(value) => Boxed::new(alloc, value),
+        None => Err(nowhere()),
+    }
+}
+
+/// A call of the one argument that is given.
+fn call_of_one(
+    alloc: Global,
+    making: OneValue,
+    mut values: Seq<TypedExpr>,
+) -> Result<LibraryCall, NoMemory> {
+    let a = last(alloc, &mut values)?;
+    Ok(of_one(making, a))
+}
+
+/// The two arguments that are given.
+fn two(
+    alloc: Global,
+    mut values: Seq<TypedExpr>,
+) -> Result<(Boxed<TypedExpr>, Boxed<TypedExpr>), NoMemory> {
+    let b = last(alloc, &mut values)?;
+    let a = last(alloc, &mut values)?;
+    Ok((a, b))
+}
+
+/// A call of the two arguments that are given.
+fn call_of_two(
+    alloc: Global,
+    making: TwoValues,
+    values: Seq<TypedExpr>,
+) -> Result<LibraryCall, NoMemory> {
+    let (a, b) = two(alloc, values)?;
+    Ok(of_two(making, a, b))
+}
+
+/// `printf`: the format, and the later arguments in their order.
+fn print(alloc: Global, values: Seq<TypedExpr>) -> Result<LibraryCall, NoMemory> {
+    let mut values = values.into_vec();
+    if values.is_empty() {
+        return Err(nowhere());
+    }
+    let format = Boxed::new(alloc, values.remove(0))?;
+    Ok(LibraryCall::Print(format, Seq::new(values)))
+}
+
+/// A call of a function of the library that has no rule of its own, but for `printf` (`IsCallBy`).
+pub(crate) fn library_call(
+    alloc: Global,
+    function: LibraryFunction,
+    values: Seq<TypedExpr>,
+) -> Result<LibraryCall, NoMemory> {
+    match making_of(function) {
+        Making::OfNone(making) => Ok(of_none(making)),
+        Making::OfOne(making) => call_of_one(alloc, making, values),
+        Making::OfTwo(making) => call_of_two(alloc, making, values),
+        Making::OfAll => Ok(LibraryCall::Compute(values)),
+        Making::Print => print(alloc, values),
+        Making::Apart => Err(nowhere()),
+    }
+}
+
+/// The number of the name that a start routine is, perhaps with parentheses and `&` round it.
+fn routine_word(e: &Expr) -> Option<u32> {
+    match &e.form {
+        ExprForm::Word(_) => Some(e.ordinal),
+        ExprForm::Paren(inner) | ExprForm::Prefix(PrefixOperator::Address, inner) => {
+            routine_word(inner.get())
+        }
+        ExprForm::Comma(_, _)
+        | ExprForm::Assign(_, _, _)
+        | ExprForm::Choice(_, _, _)
+        | ExprForm::Binary(_, _, _)
+        | ExprForm::Cast(_, _)
+        | ExprForm::Pre(_, _)
+        | ExprForm::Prefix(_, _)
+        | ExprForm::SizeofExpr(_)
+        | ExprForm::SizeofType(_)
+        | ExprForm::Index(_, _)
+        | ExprForm::Call(_, _)
+        | ExprForm::Member(_, _)
+        | ExprForm::Arrow(_, _)
+        | ExprForm::Post(_, _)
+        | ExprForm::Number(_, _)
+        | ExprForm::Char(_)
+        | ExprForm::Text(_) => None,
+    }
+}
+
+/// The entity of a start routine. It is a name, and the third argument of `pthread_create`.
+pub(crate) fn routine_of(walk: &Elaborator, arguments: &[Expr]) -> Result<u32, NoMemory> {
+    let word = match arguments.get(2) {
+        Some(routine) => routine_word(routine),
+        None => None,
+    };
+    match word {
+        Some(word) => entity_at(walk, word),
+        None => Err(nowhere()),
+    }
+}
+
+/// `pthread_create`, with the number of the start routine among the entities.
+pub(crate) fn create(
+    alloc: Global,
+    routine: u32,
+    values: Seq<TypedExpr>,
+) -> Result<LibraryCall, NoMemory> {
+    let (id, argument) = two(alloc, values)?;
+    Ok(LibraryCall::Create(id, routine, argument))
+}

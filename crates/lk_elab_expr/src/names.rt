@@ -1,0 +1,75 @@
+//! Names as expressions (C99 6.5.1, 2).
+
+use crate::elaborator::Elaborator;
+use crate::found::meant_at;
+use crate::unreached::nowhere;
+use lk_base::{Name, NoMemory};
+use lk_tree::{Expr, ExprForm};
+use lk_typed::{Duration, Meaning, Storage, TypedForm};
+
+/// A name that an expression is, and the number of that expression.
+#[derive(Clone, Copy)]
+pub(crate) struct NamedWord<'a> {
+    pub(crate) name: &'a Name,
+    pub(crate) ordinal: u32,
+}
+
+/// The name that an expression is, perhaps in parentheses.
+pub(crate) fn word_in(e: &Expr) -> Option<NamedWord<'_>> {
+    match &e.form {
+        ExprForm::Word(name) => Some(NamedWord {
+            name,
+            ordinal: e.ordinal,
+        }),
+        ExprForm::Paren(inner) => word_in(inner.get()),
+        ExprForm::Comma(_, _)
+        | ExprForm::Assign(_, _, _)
+        | ExprForm::Choice(_, _, _)
+        | ExprForm::Binary(_, _, _)
+        | ExprForm::Cast(_, _)
+        | ExprForm::Pre(_, _)
+        | ExprForm::Prefix(_, _)
+        | ExprForm::SizeofExpr(_)
+        | ExprForm::SizeofType(_)
+        | ExprForm::Index(_, _)
+        | ExprForm::Call(_, _)
+        | ExprForm::Member(_, _)
+        | ExprForm::Arrow(_, _)
+        | ExprForm::Post(_, _)
+        | ExprForm::Number(_, _)
+        | ExprForm::Char(_)
+        | ExprForm::Text(_) => None,
+    }
+}
+
+/// The entity for which the name with a number stands.
+pub(crate) fn entity_at(walk: &Elaborator, ordinal: u32) -> Result<u32, NoMemory> {
+    match meant_at(walk, ordinal) {
+        Ok(meant) => walk.entities.declared_at(meant.ordinal),
+        Err(NoMemory) => Err(NoMemory),
+    }
+}
+
+/// The object of a name, by how long it lasts and the node that declares it.
+fn storage_of(walk: &Elaborator, lasts: Duration, ordinal: u32) -> Result<Storage, NoMemory> {
+    match lasts {
+        Duration::Static => Ok(Storage::Entity(walk.entities.declared_at(ordinal)?)),
+        Duration::Automatic => Ok(Storage::Local(walk.locals.number_of(ordinal)?)),
+    }
+}
+
+/// The name with a number. It is an object, a function or an enumerator: other names are no expressions.
+pub(crate) fn word(walk: &Elaborator, ordinal: u32) -> Result<TypedForm, NoMemory> {
+    let meant = meant_at(walk, ordinal)?;
+    match meant.meaning {
+        Meaning::Object(_, lasts) => {
+            Ok(TypedForm::Object(storage_of(walk, lasts, meant.ordinal)?))
+        }
+        Meaning::Function(_) => {
+            let entity = walk.entities.declared_at(meant.ordinal)?;
+            Ok(TypedForm::Function(entity))
+        }
+        Meaning::Enumerator(value) => Ok(TypedForm::Number(value)),
+        Meaning::Typedef(_) | Meaning::InitialiserWord(_) | Meaning::Faulty => Err(nowhere()),
+    }
+}

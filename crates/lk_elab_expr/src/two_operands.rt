@@ -1,0 +1,41 @@
+//! Expressions with two operands.
+
+use crate::elaborator::Elaborator;
+use crate::forms::Two;
+use crate::operators::{binary, comma};
+use crate::places::index;
+use crate::sides::assign;
+use crate::unreached::nowhere;
+use lk_base::NoMemory;
+use lk_tree::ExprForm;
+
+/// An expression of this form, with two operands, which have these numbers.
+pub(crate) fn two_of(
+    walk: &mut Elaborator,
+    form: &ExprForm,
+    left: u32,
+    right: u32,
+    folded: bool,
+) -> Result<Two, NoMemory> {
+    match form {
+        ExprForm::Comma(_, _) => comma(walk, left, right),
+        ExprForm::Assign(op, _, _) => assign(walk, *op, left, right),
+        ExprForm::Binary(op, _, _) => binary(walk, *op, left, right, folded),
+        ExprForm::Index(_, _) => index(walk, left, right, folded),
+        ExprForm::Choice(_, _, _)
+        | ExprForm::Cast(_, _)
+        | ExprForm::Pre(_, _)
+        | ExprForm::Prefix(_, _)
+        | ExprForm::SizeofExpr(_)
+        | ExprForm::SizeofType(_)
+        | ExprForm::Call(_, _)
+        | ExprForm::Member(_, _)
+        | ExprForm::Arrow(_, _)
+        | ExprForm::Post(_, _)
+        | ExprForm::Word(_)
+        | ExprForm::Number(_, _)
+        | ExprForm::Char(_)
+        | ExprForm::Text(_)
+        | ExprForm::Paren(_) => Err(nowhere()),
+    }
+}

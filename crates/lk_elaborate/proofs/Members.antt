@@ -1,0 +1,18 @@
+-- Members of structs in a table of types.
+use Rattle.std.proofs.Common.{ℕ, ◌≡◌, ◌<◌, ◌∙◌, All, Some, List, ap, get_or, length, slice_get, subst, sym}
+use Rattle.std.proofs.lemmas.Option.{get_or_from_slice_get, slice_get-get_or, slice_get-map, slice_get_within}
+use Rattle.std.specs.Option.{option_map}
+use Rattle.lk_types.specs.Building.{types_of}
+use Rattle.lk_types.specs.Table.{Table, members_of}
+use Rattle.lk_types.specs.declared.member.StructMember.{StructMember}
+
+-- the type of a member stands among those of the struct
+pub member_at : (table : Table) (s k : ℕ) (members : List StructMember) (member : StructMember) → members ≡ members_of table s → k < length members → member ≡ get_or members k member →
+    slice_get (types_of (members_of table s)) k ≡ Some member.ty
+member_at table s k members member is within got =
+    let at : slice_get members k ≡ Some member = slice_get-get_or members k member within ∙ ap Some (sym got) in
+    slice_get-map (λ m. m.ty) (members_of table s) k ∙ ap (option_map (λ m. m.ty)) (ap (λ ms. slice_get ms k) (sym is) ∙ at)
+
+-- what holds of each element holds of one that was got
+pub all_got : {X : Type 0} (P : X → Type 0) (xs : List X) (k : ℕ) (x : X) → All P xs → slice_get xs k ≡ Some x → P x
+all_got P xs k x all got = subst P (get_or_from_slice_get xs k x x got) (all k x (slice_get_within xs k x got))

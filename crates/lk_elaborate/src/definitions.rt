@@ -1,0 +1,85 @@
+//! Definitions of functions (C99 6.9.1).
+
+use crate::declarations::{declared_type, name_in, put_name};
+use crate::labels::labels_of;
+use crate::parameters::put_parameters;
+use crate::statements::{Around, block_items};
+use crate::type_forms::result_type;
+use lk_base::{NoMemory, Seq};
+use lk_check_unit::items_of;
+use lk_elab_expr::{Elaborator, Locals};
+use lk_tree::{Function, Stmt};
+use lk_typed::{Body, Local, TypedStmt, TypedStmtForm};
+use lk_types::TypeId;
+use std::mem;
+
+/// The head of a definition.
+#[derive(Clone, Copy)]
+struct Head {
+    /// The function's number among the entities.
+    entity: u32,
+    /// Its type.
+    ty: TypeId,
+}
+
+/// The head of a definition, whose name is put among the entities.
+fn begin_definition(walk: &mut Elaborator, node: &Function) -> Result<Head, NoMemory> {
+    let named = name_in(&node.declarator)?;
+    put_name(walk, &named)?;
+    let entity = walk.entities.declared_at(named.at.ordinal)?;
+    let ty = declared_type(walk, named.at.ordinal)?;
+    Ok(Head { entity, ty })
+}
+
+/// What stands round the statements of the body of a function of this type.
+fn around_in(walk: &Elaborator, body: &Stmt, t: TypeId) -> Result<Around, NoMemory> {
+    let returned = result_type(walk.types.table(), t)?;
+    let labels = labels_of(walk.alloc, body)?;
+    Ok(Around { labels, returned })
+}
+
+/// The block of the body of a function of this type.
+fn body_block(walk: &mut Elaborator, body: &Stmt, t: TypeId) -> Result<TypedStmt, NoMemory> {
+    let around = around_in(walk, body, t)?;
+    let items = block_items(walk, items_of(body), &around)?;
+    Ok(TypedStmt {
+        spot: body.spot,
+        ordinal: body.ordinal,
+        form: TypedStmtForm::Block(items),
+    })
+}
+
+/// Takes the locals of the body that was made.
+fn take_locals(walk: &mut Elaborator) -> Vec<Local> {
+    let none = Locals::new(walk.alloc);
+    let locals = mem::replace(&mut walk.locals, none);
+    locals.into_list()
+}
+
+/// Puts the body of the function with this number among the entities, whose locals begin with so many parameters.
+fn put_body(
+    walk: &mut Elaborator,
+    node: &Function,
+    entity: u32,
+    parameters: u32,
+    block: TypedStmt,
+) -> Result<(), NoMemory> {
+    let locals = take_locals(walk);
+    walk.bodies.push(Body {
+        spot: node.spot,
+        ordinal: node.ordinal,
+        entity,
+        parameters,
+        locals: Seq::new(locals),
+        block,
+    })?;
+    Ok(())
+}
+
+/// A definition of a function (`IsBody`).
+pub(crate) fn definition(walk: &mut Elaborator, node: &Function) -> Result<(), NoMemory> {
+    let Head { entity, ty } = begin_definition(walk, node)?;
+    let parameters = put_parameters(walk, &node.declarator, ty)?;
+    let block = body_block(walk, &node.body, ty)?;
+    put_body(walk, node, entity, parameters, block)
+}
