@@ -1,5 +1,5 @@
 -- What the reading of both kinds of files says of a command.
-use Rattle.std.proofs.Common.{◌≡◌, ◌∙◌, ◌≤◌, ◌&&◌, ℕ, Bool, true, false, List, [], ◌∷◌, Option, Some, None, Bor, length, map, nat_le, refl, sym, ap, subst, arith}
+use Rattle.std.proofs.Common.{inl, inr, ◌≡◌, ◌∙◌, ◌≤◌, ◌&&◌, ℕ, Bool, true, false, List, [], ◌∷◌, Option, Some, None, Bor, length, map, nat_le, refl, sym, ap, subst, arith}
 use Rattle.std.specs.List.{All, AllByRecursion, list_all}
 use Rattle.std.specs.Option.{ForSome, option_map_or}
 use Rattle.std.proofs.lemmas.Bool.{leb-true}
@@ -70,7 +70,7 @@ no_files most shelf calm = record { calm = calm; named = refl; short = All-nil _
 
 pub externs_fail : (check : Check) (shelf : Shelved) (fault : ReadingFault) → AreNoFiles (names_of check.externs) longest_externs shelf fault → AreNotBoth check shelf fault
 externs_fail check shelf (unread.TooLong name) (calm, passes) = (calm, λ held there. long_externs (passes held there))
-externs_fail check shelf (unread.Unread name) (rose, bad, reaches) = (rose, bad, λ held there. at_externs (reaches held there))
+externs_fail check shelf (unread.Unread name) (rose, named, bad, reaches) = (rose, inl named, bad, λ held there. at_externs (reaches held there))
 externs_fail check shelf unread.NoMemory none = tt
 
 module _ (check : Check) (h0 h1 : Option Held) (bad1 bad2 : Option (List ℕ)) (f0 f1 f2 : ℕ) (externs : List Source) (same : h1 ≡ h0)
@@ -78,8 +78,8 @@ module _ (check : Check) (h0 h1 : Option Held) (bad1 bad2 : Option (List ℕ)) (
   pub sources_fail : (fault : ReadingFault) → AreNoFiles check.files longest_sources (telling h1 bad2 f1 f2) fault → AreNotBoth check (telling h0 bad2 f0 f2) fault
   sources_fail (unread.TooLong name) (calm, passes) =
       (calm ∙ first.calm, λ held there. long_sources externs (first.read held there).0 (first.read held there).1 (passes held (same ∙ there)))
-  sources_fail (unread.Unread name) (rose, bad, reaches) =
-      (subst (λ f. Rose f f2) first.calm rose, bad, λ held there. at_sources externs (first.read held there).0 (first.read held there).1 (reaches held (same ∙ there)))
+  sources_fail (unread.Unread name) (rose, named, bad, reaches) =
+      (subst (λ f. Rose f f2) first.calm rose, inr named, bad, λ held there. at_sources externs (first.read held there).0 (first.read held there).1 (reaches held (same ∙ there)))
   sources_fail unread.NoMemory none = tt
 
   pub both : (sources : List Source) → AreFiles check.files longest_sources (telling h1 bad2 f1 f2) sources → AreBoth check (telling h0 bad2 f0 f2) (record { externs = externs; sources = sources })

@@ -46,6 +46,7 @@ fails_behind h0 h1 bad f0 f1 f2 most left before after name sources (unread.TooL
     (as_before ∙ calm, λ held there. subst (λ n. Passes held most (before ++ name ∷ after) n) (sym is) (passes_behind held (read held there) (here (longer held (same ∙ there)))))
 fails_behind h0 h1 bad f0 f1 f2 most left before after name sources (unread.Unread told) same calm read (rose, is, bad_is) = (
   subst (λ f. Rose f f2) calm rose,
+  (before, after, ap (λ n. before ++ n ∷ after) (sym is)),
   (λ b e. bad_is b e ∙ sym is),
   λ held there. record { before = before; after = after; whole = ap (λ n. before ++ n ∷ after) (sym is); sources = sources; left = left; read = read held there },
 )

@@ -6,7 +6,9 @@ use Rattle.lk_base.specs.declared.refusal.Refusal.{Refusal}
 use Rattle.lk_io.specs.Shelf.{Held}
 use Rattle.lk_lex.specs.declared.token.Token.{Token}
 use Rattle.lk_tree.specs.declared.statement.Unit.{Unit}
+use Rattle.lk_typed.specs.Elements.{HasFewElements}
 use Rattle.lk_typed.specs.Env.{Name}
+use Rattle.lk_typed.specs.Meaning.{IsReady}
 use Rattle.lk_words.specs.Words.{Check}
 use Rattle.lk_sources.specs.Externs.{externs_text, listed, Names, BadLine}
 use Rattle.lk_sources.specs.Faults.{AreFaultless, AreFaulty}
@@ -45,6 +47,11 @@ pub data AreRefused (names : List (List ℕ)) (externs : List Name) (sources : L
 
 abbrev pub units_of : List AcceptedSource → List Unit
 units_of sources = map (λ s. s.parsed.unit) sources
+
+-- a source's types are as its typed tree asks for them
+pub record HasReadyTypes (source : AcceptedSource) : Type 0 where
+  pub ready : IsReady source.checked.types
+  pub few : HasFewElements source.checked.types
 
 -- the lines of the externs file are names, and the sources are accepted
 pub record IsAccepted (names : List (List ℕ)) (externs sources : List Source) (accepted : Accepted) : Type 0 where

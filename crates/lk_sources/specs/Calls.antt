@@ -15,7 +15,7 @@ use Rattle.lk_lex.specs.declared.token.Token.{Token}
 use Rattle.lk_words.specs.Words.{Check}
 use Rattle.lk_sources.specs.Externs.{Listed, Names, BadLine, is_identifier}
 use Rattle.lk_sources.specs.Numbers.{refusal_at}
-use Rattle.lk_sources.specs.Reading.{longest_externs, longest_sources, names_of, AreRead, Passes, Reaches, IsRead, IsTooLong, ComesTo}
+use Rattle.lk_sources.specs.Reading.{longest_externs, longest_sources, names_of, AreRead, Passes, IsAmong, Reaches, IsRead, IsNamed, IsTooLong, ComesTo}
 use Rattle.lk_sources.specs.Shelves.{Shelved, HasRisen, IsAsBefore}
 use Rattle.lk_sources.specs.Splitting.{AreSplit, StopsIn, word_in, first_word}
 use Rattle.lk_sources.specs.Readable.{AreShort}
@@ -53,7 +53,7 @@ pub record AreFiles (names : List (List ℕ)) (most : ℕ) (shelf : Shelved) (so
 
 abbrev pub AreNoFiles : List (List ℕ) → ℕ → Shelved → ReadingFault → Type 0
 AreNoFiles names most shelf (unread.TooLong name) = IsAsBefore shelf.faults × ForSome shelf.files (λ held. Passes held most names name)
-AreNoFiles names most shelf (unread.Unread name) = HasRisen shelf.faults × ForSome shelf.bad (λ bad. bad ≡ name) × ForSome shelf.files (λ held. Reaches held most names name)
+AreNoFiles names most shelf (unread.Unread name) = HasRisen shelf.faults × IsAmong names name × ForSome shelf.bad (λ bad. bad ≡ name) × ForSome shelf.files (λ held. Reaches held most names name)
 AreNoFiles names most shelf unread.NoMemory = ⊤
 
 -- the files of a command
@@ -67,7 +67,7 @@ pub record AreBoth (check : Check) (shelf : Shelved) (files : Both) : Type 0 whe
 
 abbrev pub AreNotBoth : Check → Shelved → ReadingFault → Type 0
 AreNotBoth check shelf (unread.TooLong name) = IsAsBefore shelf.faults × ForSome shelf.files (λ held. IsTooLong check held name)
-AreNotBoth check shelf (unread.Unread name) = HasRisen shelf.faults × ForSome shelf.bad (λ bad. bad ≡ name) × ForSome shelf.files (λ held. ComesTo check held name)
+AreNotBoth check shelf (unread.Unread name) = HasRisen shelf.faults × IsNamed check name × ForSome shelf.bad (λ bad. bad ≡ name) × ForSome shelf.files (λ held. ComesTo check held name)
 AreNotBoth check shelf unread.NoMemory = ⊤
 
 -- ---- the file of --externs

@@ -7,7 +7,7 @@ use Rattle.lk_base.specs.Files.{has_name}
 use Rattle.lk_base.specs.declared.code.Code.TheVariants.{TooLong}
 use Rattle.lk_words.specs.Words.{Check}
 use Rattle.lk_sources.specs.Numbers.{numbered, refusal_at}
-use Rattle.lk_sources.specs.Reading.{longest_externs, longest_sources, names_of, IsRead, IsTooLong, ComesTo}
+use Rattle.lk_sources.specs.Reading.{longest_externs, longest_sources, names_of, IsRead, IsNamed, IsTooLong, ComesTo}
 use Rattle.lk_sources.specs.Shelves.{Shelved, HasRisen, IsAsBefore}
 use Rattle.lk_sources.specs.declared.fault.SourcesFault.{SourcesFault}
 use Rattle.lk_sources.specs.declared.fault.SourcesFault.TheVariants as told
@@ -37,9 +37,10 @@ pub record Reads (check : Check) (shelf : Shelved) (texts : Texts) : Type 0 wher
   pub readable : IsReadable texts
   pub read : ForSome shelf.files (λ held. IsRead check held texts.externs texts.sources)
 
--- a file is too long; or one can't be read to which the reading comes; or want of memory
+-- a file is too long; or one of the command's can't be read, to which the reading comes; or want of memory
 abbrev pub FailsToRead : Check → Shelved → SourcesFault → Type 0
 FailsToRead check shelf (told.Refused file refusal) =
     IsAsBefore shelf.faults × (refusal ≡ refusal_at (numbered check) file TooLong 1) × ForSome shelf.files (λ held. IsTooLong check held file)
-FailsToRead check shelf (told.Unread name) = HasRisen shelf.faults × ForSome shelf.bad (λ bad. bad ≡ name) × ForSome shelf.files (λ held. ComesTo check held name)
+FailsToRead check shelf (told.Unread name) =
+    HasRisen shelf.faults × IsNamed check name × ForSome shelf.bad (λ bad. bad ≡ name) × ForSome shelf.files (λ held. ComesTo check held name)
 FailsToRead check shelf told.NoMemory = ⊤

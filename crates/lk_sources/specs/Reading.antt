@@ -1,5 +1,5 @@
 -- The reading of a command's files: that of --externs first, then each FILE in the order of the words. A FILE that is named twice is read twice, and counts twice.
-use Rattle.std.specs.Prelude.{ℕ, ◌≡◌, ◌-◌, ◌≤◌, List, [], ◌∷◌, ◌++◌, length, Option, Some, None}
+use Rattle.std.specs.Prelude.{ℕ, ◌≡◌, ◌-◌, ◌≤◌, ◌⊎◌, List, [], ◌∷◌, ◌++◌, length, Option, Some, None}
 use Rattle.lk_io.specs.Shelf.{Held, IsLonger}
 use Rattle.lk_words.specs.Words.{Check}
 use Rattle.lk_sources.specs.declared.reading.Source.{Source}
@@ -31,6 +31,10 @@ pub data Passes (held : Held) : ℕ → List (List ℕ) → List ℕ → Type 0 
   behind : {most : ℕ} {name bytes other : List ℕ} {names : List (List ℕ)} → held name ≡ Some bytes → length bytes ≤ most →
       Passes held (most - length bytes) names other → Passes held most (name ∷ names) other
 
+-- the name is one of these
+abbrev pub IsAmong : List (List ℕ) → List ℕ → Type 0
+IsAmong names name = (before : List (List ℕ)) × (after : List (List ℕ)) × (names ≡ before ++ name ∷ after)
+
 -- The reading comes to this file: each before it is there, and with none they pass that number.
 pub record Reaches (held : Held) (most : ℕ) (names : List (List ℕ)) (name : List ℕ) : Type 0 where
   pub before : List (List ℕ)
@@ -47,6 +51,10 @@ pub record IsRead (check : Check) (held : Held) (externs sources : List Source) 
   pub externs_read : AreRead held longest_externs (names_of check.externs) externs externs_left
   pub sources_left : ℕ
   pub sources_read : AreRead held longest_sources check.files sources sources_left
+
+-- the command names this file
+abbrev pub IsNamed : Check → List ℕ → Type 0
+IsNamed check name = IsAmong (names_of check.externs) name ⊎ IsAmong check.files name
 
 -- the first file that is too long
 pub data IsTooLong (check : Check) (held : Held) (name : List ℕ) : Type 0 where
