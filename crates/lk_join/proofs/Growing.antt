@@ -138,7 +138,7 @@ all_put_known table row structs (here ∷ rest) [] put = absurd put
 all_put_known table row structs (here ∷ rest) (form ∷ forms) put =
     All-cons (IsKnown table) here rest (slice_get_within table.types here put.0.form_here put.0.at) (all_put_known table row structs rest forms put.1)
 
-got : {X : Type 0} (xs : List X) (i : ℕ) → i < length xs → (x : X) × (slice_get xs i ≡ Some x)
+pub got : {X : Type 0} (xs : List X) (i : ℕ) → i < length xs → (x : X) × (slice_get xs i ≡ Some x)
 got [] i less = absurd (omega (arith, less))
 got (x ∷ xs) zero less = (x, refl)
 got (x ∷ xs) (suc i) less = got xs i (omega (arith, less))

@@ -1,10 +1,14 @@
 pub mod Chains
 pub mod Distinct
+pub mod Entering
 pub mod Growing
+pub mod Joined
+pub mod Named
 pub mod Numbering
 pub mod Placing
 pub mod Refusing
 pub mod Relabelling
+pub mod Saying
 pub mod Shaping
 pub mod Symmetry
 pub mod Taking

@@ -30,18 +30,24 @@ unit_at units s t form at = of (slice_get units s) refl at
     of (Some unit) is at = (unit, is, at)
 
 module _ (whole : Whole) (units : Units) (rows entities : List (List ℕ)) (linked : AreLinked units rows entities whole.sources) where
-  source_at : (s : ℕ) (unit : TypedUnit) → slice_get units s ≡ Some unit → (source : Linked) × (slice_get whole.sources s ≡ Some source)
+  pub source_at : (s : ℕ) (unit : TypedUnit) → slice_get units s ≡ Some unit → (source : Linked) × (slice_get whole.sources s ≡ Some source)
   source_at s unit at = of (slice_get whole.sources s) refl (sym (slice_get-map (λ source. source.unit) whole.sources s) ∙ ap (λ us. slice_get us s) linked.units_are ∙ at)
     where
       of : (o : Option Linked) → slice_get whole.sources s ≡ o → option_map (λ source. source.unit) (slice_get whole.sources s) ≡ Some unit → (source : Linked) × (slice_get whole.sources s ≡ Some source)
       of None is mapped = absurd (none-some unit (ap (option_map (λ source. source.unit)) (sym is) ∙ mapped))
       of (Some source) is mapped = (source, is)
 
-  row_at : (s : ℕ) (source : Linked) → slice_get whole.sources s ≡ Some source → slice_get rows s ≡ Some source.types
+  pub row_at : (s : ℕ) (source : Linked) → slice_get whole.sources s ≡ Some source → slice_get rows s ≡ Some source.types
   row_at s source at =
       let types = map (λ source. source.types) whole.sources in
       let there = slice_get-map (λ source. source.types) whole.sources s ∙ ap (option_map (λ source. source.types)) at in
       ap (λ rs. slice_get rs s) linked.types_are.1 ∙ get_before types linked.types_are.0 s (slice_get_within types s source.types there) ∙ there
+
+  pub entities_at : (s : ℕ) (source : Linked) → slice_get whole.sources s ≡ Some source → slice_get entities s ≡ Some source.entities
+  entities_at s source at =
+      let numbers = map (λ source. source.entities) whole.sources in
+      let there = slice_get-map (λ source. source.entities) whole.sources s ∙ ap (option_map (λ source. source.entities)) at in
+      ap (λ rs. slice_get rs s) linked.entities_are.1 ∙ get_before numbers linked.entities_are.0 s (slice_get_within numbers s source.entities there) ∙ there
 
   module _ (structs : List (List ℕ)) (s : ℕ) (source : Linked) (at : slice_get whole.sources s ≡ Some source) (here : List ℕ) (there : slice_get structs s ≡ Some here) where
     type_is : (t n : ℕ) → IsHere source.types t n → IsTypeHere whole s t n

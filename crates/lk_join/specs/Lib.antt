@@ -1,4 +1,5 @@
 pub mod Classes
+pub mod Entities
 pub mod Forms
 pub mod Labels
 pub mod Numbering

@@ -5,7 +5,7 @@ use Rattle.lk_base.specs.declared.fault.Fault.{Fault}
 use Rattle.lk_base.specs.declared.fault.Fault.TheVariants as fault
 use Rattle.lk_base.specs.declared.refusal.Refusal.{Refusal}
 use Rattle.lk_link.specs.Clashes.{HasMain, IsClash, IsFirstClash}
-use Rattle.lk_link.specs.Joining.{HasFormHere, IsTypeHere, units_of}
+use Rattle.lk_link.specs.Joining.{AreEntities, HasFormHere, IsTypeHere, units_of}
 use Rattle.lk_link.specs.Sources.{Units}
 use Rattle.lk_link.specs.Structs.{types_in}
 use Rattle.lk_link.specs.declared.place.StructOf.{StructOf}
@@ -62,10 +62,11 @@ module _ (units : Units) (externs : List (List ℕ)) where
   IsFault (fault.Refused refusal) = IsRefusal refusal
   IsFault fault.NoMemory = Unit {0}
 
-  -- nothing speaks against the sources, and the program has them, their types, and a `main`
+  -- nothing speaks against the sources, and the program has them, their types, their entities, and a `main`
   pub record IsLinked (whole : Whole) : Type 0 where
     pub has_main : HasMain units
     pub no_clash : (clash : Clash) → IsClash units externs clash → ⊥
     pub sources : units_of whole ≡ units
     pub types : HasTypes units whole
+    pub entities : AreEntities whole
     pub main_at : HasMainAt whole.entities whole.main

@@ -1,7 +1,10 @@
 //! The functions and objects of static storage of the program.
-ghost use Rattle.std.specs.Prelude.{◌↔◌, ◌<◌, ◌^◌, IfOk, IsTrue, length};
+ghost use Rattle.std.specs.Prelude.{◌≡◌, ◌↔◌, ◌<◌, ◌^◌, [], IfOk, IsTrue, OnOk, length};
+ghost use Rattle.lk_join.specs.Entities.{AreEntityRows, AreNamed, ArePut, IsListed, IsPushed, IsPushedNamed, IsSaid, IsToldAt, number_named};
 ghost use Rattle.lk_join.specs.Program.{HasMainAt, IsMainFunction};
+ghost use Rattle.lk_typed.specs.declared.entity.Linkage.TheVariants as linkage;
 
+use crate::forms::here;
 use crate::narrow::narrow;
 use indexmap::IndexMap;
 use lk_base::{Name, NoMemory, Seq};
@@ -9,6 +12,7 @@ use lk_link::is_defined;
 use lk_typed::{Entity, EntityKind, Linkage, TypedUnit, WholeEntity};
 use lk_types::TypeId;
 use std::alloc::Global;
+use std::marker::Model;
 
 /// The program's entities while those of the sources are put to them.
 #[derive(Drop)]
@@ -18,23 +22,26 @@ struct Entities {
     list: Vec<WholeEntity>,
 }
 
-/// An entity of a source, as the program has it where no other source defines it. `NoMemory` where its type has no number
-/// in the program, which doesn't come.
-fn entity_here(
-    entity: &Entity,
-    place: (u32, u32),
-    row: &[TypeId],
-) -> Result<WholeEntity, NoMemory> {
-    let ty = match row.get(entity.ty.index()) {
-        Some(here) => *here,
-        None => return Err(NoMemory),
-    };
+impl Model for Entities {
+    ghost use Rattle.lk_join.specs.Entities.{Gathered};
+
+    ghost Value = { Gathered };
+
+    ghost view = { λ entities. record { list = entities.list.items; names = entities.by_name.entries } };
+}
+
+/// What a source says of an entity, with the program's type. `NoMemory` where that has no number in the program, which
+/// doesn't come.
+fn entity_here(entity: &Entity, place: (u32, u32), row: &[TypeId]) -> Result<WholeEntity, NoMemory>
+    ensures { IfOk result (IsSaid row.now place entity.now) }
+{
+    let ty = here(row, entity.ty)?;
+    let name = entity.name.copy()?;
     let defined = if is_defined(entity) {
         Some(place)
     } else {
         None
     };
-    let name = entity.name.copy()?;
     Ok(WholeEntity {
         name,
         linkage: entity.linkage,
@@ -42,6 +49,16 @@ fn entity_here(
         ty,
         defined,
     })
+}
+
+/// Whether two entities are both functions, or both objects.
+fn are_of_one_kind(a: EntityKind, b: EntityKind) -> bool
+    ensures { IsTrue result ↔ (a ≡ b) }
+{
+    match a {
+        EntityKind::Function => matches!(b, EntityKind::Function),
+        EntityKind::Object => matches!(b, EntityKind::Object),
+    }
 }
 
 /// Whether an entity is a function `main` of external linkage.
@@ -68,7 +85,10 @@ fn main_of(entities: &[WholeEntity]) -> Result<u32, NoMemory>
 
 impl Entities {
     /// No entities.
-    fn new(alloc: Global) -> Entities {
+    fn new(alloc: Global) -> Entities
+        ensures list { result.list ≡ [] }
+        ensures names { result.names ≡ [] }
+    {
         Entities {
             by_name: IndexMap::new(alloc),
             list: Vec::new(alloc),
@@ -76,58 +96,93 @@ impl Entities {
     }
 
     /// Puts an entity behind the others.
-    fn push(&mut self, is: WholeEntity) -> Result<u32, NoMemory> {
+    fn push(&mut self, is: WholeEntity) -> Result<u32, NoMemory>
+        ensures { IfOk result (IsPushed self.old self.new is) }
+    {
         let number = narrow(self.list.len())?;
         self.list.push(is)?;
         Ok(number)
     }
 
-    /// Tells of an entity that is there what a source says of it: where that defines it, its type there.
-    fn tell(&mut self, number: u32, is: &WholeEntity) {
-        if is.defined.is_none() || number as usize >= self.list.len() {
-            return;
-        }
+    /// Tells of an entity that is there what a source says of it: where that defines it, the source and its type there.
+    /// `NoMemory` where one is a function and the other an object, or both are defined, which doesn't come: the sources
+    /// would clash (C99 6.2.7, 2; 6.9, 5).
+    fn tell(&mut self, number: u32, is: &WholeEntity) -> Result<(), NoMemory>
+        requires { number < length self.old.list }
+        ensures { OnOk result (IsToldAt self.old self.new number is.now) }
+    {
         let there = &mut self.list[number as usize];
+        if !are_of_one_kind(there.kind, is.kind) {
+            return Err(NoMemory);
+        }
+        if is.defined.is_none() {
+            return Ok(());
+        }
+        if there.defined.is_some() {
+            return Err(NoMemory);
+        }
         there.defined = is.defined;
         there.ty = is.ty;
+        Ok(())
     }
 
-    /// Puts an entity under its name.
-    fn push_named(&mut self, is: WholeEntity) -> Result<u32, NoMemory> {
+    /// Puts an entity behind the others, under its name.
+    fn push_named(&mut self, is: WholeEntity) -> Result<u32, NoMemory>
+        ensures { IfOk result (IsPushedNamed self.old self.new is) }
+    {
         let name = is.name.copy()?;
         let number = self.push(is)?;
         self.by_name.insert(name, number)?;
         Ok(number)
     }
 
+    /// The number of the entity of external linkage that has a name, where there is one.
+    fn find(&self, name: &Name) -> Option<u32>
+        ensures { result ≡ number_named self.now.names name.now }
+    {
+        self.by_name.get(name).copied()
+    }
+
     /// Puts an entity of external linkage: each name has one (C99 6.2.2, 2).
-    fn put_external(&mut self, is: WholeEntity) -> Result<u32, NoMemory> {
-        match self.by_name.get(&is.name).copied() {
+    fn put_external(&mut self, is: WholeEntity) -> Result<u32, NoMemory>
+        requires named { AreNamed self.old }
+        requires external { is.linkage ≡ linkage.External }
+        ensures listed { IfOk result (IsListed self.old.list self.new.list is) }
+        ensures named { OnOk result (AreNamed self.new) }
+    {
+        match self.find(&is.name) {
             Some(number) => {
-                self.tell(number, &is);
+                self.tell(number, &is)?;
                 Ok(number)
             }
-            None => self.push_named(is),
+            None => {
+                let number = self.push_named(is)?;
+                Ok(number)
+            }
         }
+    }
+
+    /// Puts an entity that has a name in its source alone.
+    fn put_inside(&mut self, is: WholeEntity) -> Result<u32, NoMemory>
+        requires named { AreNamed self.old }
+        requires inside { is.linkage ≡ linkage.External → ⊥ }
+        ensures listed { IfOk result (IsListed self.old.list self.new.list is) }
+        ensures named { OnOk result (AreNamed self.new) }
+    {
+        let number = self.push(is)?;
+        Ok(number)
     }
 
     /// Puts an entity of a source. Answers its number in the program.
-    fn put(&mut self, is: WholeEntity) -> Result<u32, NoMemory> {
+    fn put(&mut self, is: WholeEntity) -> Result<u32, NoMemory>
+        requires { AreNamed self.old }
+        ensures listed { IfOk result (IsListed self.old.list self.new.list is) }
+        ensures named { OnOk result (AreNamed self.new) }
+    {
         match is.linkage {
             Linkage::External => self.put_external(is),
-            Linkage::Internal | Linkage::None => self.push(is),
+            Linkage::Internal | Linkage::None => self.put_inside(is),
         }
-    }
-
-    /// Puts an entity of a source, at its place there. Answers its number in the program.
-    fn put_entity(
-        &mut self,
-        entity: &Entity,
-        place: (u32, u32),
-        row: &[TypeId],
-    ) -> Result<u32, NoMemory> {
-        let is = entity_here(entity, place, row)?;
-        self.put(is)
     }
 
     /// Puts the entities of a source. Answers their numbers in the program.
@@ -137,25 +192,35 @@ impl Entities {
         source: u32,
         entities: &[Entity],
         row: &[TypeId],
-    ) -> Result<Seq<u32>, NoMemory> {
+    ) -> Result<Seq<u32>, NoMemory>
+        requires { AreNamed self.old }
+        ensures put { IfOk result (λ numbers.
+            ArePut source row.now self.old.list entities.now numbers self.new.list) }
+        ensures named { OnOk result (AreNamed self.new) }
+    {
         let mut numbers = Vec::new(alloc);
         for entity in entities {
-            let place = (source, narrow(numbers.len())?);
-            let number = self.put_entity(entity, place, row)?;
+            let place = narrow(numbers.len())?;
+            let said = entity_here(entity, (source, place), row)?;
+            let number = self.put(said)?;
             numbers.push(number)?;
         }
         Ok(Seq::new(numbers))
     }
 
-    /// Puts the entities of the sources. Answers of each entity of each source its number in the program. `NoMemory` where a
-    /// source has no numbers of types, which doesn't come: each has them.
+    /// Puts the entities of the sources, where none are put yet. Answers of each entity of each source its number in the
+    /// program. `NoMemory` where a source has no numbers of types, which doesn't come: each has them.
     fn put_sources(
         &mut self,
         alloc: Global,
         units: &[TypedUnit],
         types: &[Seq<TypeId>],
     ) -> Result<Vec<Seq<u32>>, NoMemory>
-        requires { length units.now < 2 ^ 32 }
+        requires few { length units.now < 2 ^ 32 }
+        requires empty { self.old.list ≡ [] }
+        requires named { AreNamed self.old }
+        ensures { IfOk result (λ rows.
+            AreEntityRows units.now types.now rows.items self.new.list (length units.now)) }
     {
         let mut rows = Vec::new(alloc);
         for source in 0..units.len() as u32 {
@@ -186,7 +251,9 @@ pub(crate) fn join_entities(
     types: &[Seq<TypeId>],
 ) -> Result<Joined, NoMemory>
     requires { length units.now < 2 ^ 32 }
-    ensures { IfOk result (λ joined. HasMainAt joined.entities joined.main) }
+    ensures main_at { IfOk result (λ joined. HasMainAt joined.entities joined.main) }
+    ensures rows { IfOk result (λ joined.
+        AreEntityRows units.now types.now joined.rows.items joined.entities (length units.now)) }
 {
     let mut entities = Entities::new(alloc);
     let rows = entities.put_sources(alloc, units, types)?;

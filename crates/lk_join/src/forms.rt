@@ -20,7 +20,7 @@ pub(crate) struct Source<'a> {
 
 /// The program's number of a type of a source. `NoMemory` where it has none yet, which doesn't come: what a type is made
 /// of stands before it in the table of its source.
-fn here(row: &[TypeId], t: TypeId) -> Result<TypeId, NoMemory>
+pub(crate) fn here(row: &[TypeId], t: TypeId) -> Result<TypeId, NoMemory>
     ensures { IfOk result (IsHere row.now t) }
 {
     match row.get(t.index()) {

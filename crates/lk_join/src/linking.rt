@@ -1,8 +1,9 @@
 //! The program that sources make together.
 ghost use Rattle.std.specs.Prelude.{◌≡◌, ◌<◌, ◌^◌, [], IfErr, IfOk, Some, length};
+ghost use Rattle.lk_join.specs.Entities.{AreEntityRows};
 ghost use Rattle.lk_join.specs.Program.{HasMainAt, HasTypes, IsFault, IsLinked, no_main, refusal_of};
 ghost use Rattle.lk_join.specs.Sources.{AreLinked, AreTypesOf};
-ghost use Rattle.lk_link.specs.Joining.{units_of};
+ghost use Rattle.lk_link.specs.Joining.{AreEntities, units_of};
 ghost use Rattle.lk_link.specs.Sources.{AreSources};
 
 use crate::entities::{Joined, join_entities};
@@ -114,9 +115,12 @@ fn whole_of(
     joined: Joined,
 ) -> Result<Whole, NoMemory>
     requires types { AreTypesOf units.items types.table types.rows.items }
+    requires entities { AreEntityRows units.items types.rows.items joined.rows.items joined.entities
+        (length units.items) }
     requires main_at { HasMainAt joined.entities joined.main }
     ensures sources { IfOk result (λ whole. units_of whole ≡ units.items) }
     ensures types { IfOk result (HasTypes units.items) }
+    ensures entities { IfOk result AreEntities }
     ensures main_at { IfOk result (λ whole. HasMainAt whole.entities whole.main) }
 {
     let Types { table, rows } = types;
@@ -140,6 +144,7 @@ fn join(alloc: Global, units: Vec<TypedUnit>) -> Result<Whole, NoMemory>
     requires few { length units.items < 2 ^ 32 }
     ensures sources { IfOk result (λ whole. units_of whole ≡ units.items) }
     ensures types { IfOk result (HasTypes units.items) }
+    ensures entities { IfOk result AreEntities }
     ensures main_at { IfOk result (λ whole. HasMainAt whole.entities whole.main) }
 {
     let types = types_of(alloc, units.as_slice())?;

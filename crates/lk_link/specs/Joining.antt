@@ -67,7 +67,7 @@ module _ (whole : Whole) where
     same : s ≡ z → e ≡ d → AreOneEntity s e z d
     external : {a b : Entity} → IsEntity units_of s e a → IsEntity units_of z d b → a.linkage ≡ linkage.External → b.linkage ≡ linkage.External → a.name ≡ b.name → AreOneEntity s e z d
 
-  -- what the program keeps of an entity of a source: where that defines it, its type there, and else one that some source gives it
+  -- what the program keeps of an entity of a source: where that defines it, its type there
   pub record IsWholeEntity (s e : ℕ) (entity : Entity) (here : WholeEntity) : Type 0 where
     pub name : here.name ≡ entity.name
     pub linkage : here.linkage ≡ entity.linkage
@@ -75,7 +75,11 @@ module _ (whole : Whole) where
     pub defined : IsDefinition entity → here.defined ≡ Some (s, e)
     pub type : IsDefinition entity → IsTypeHere s entity.ty here.ty
 
-  -- what it keeps comes from some source: from the one that defines the entity, where it tells one
+  -- no entity of a source that stands before this one is it
+  abbrev pub IsFirst : (here s e : ℕ) → Type 0
+  IsFirst here s e = (z d : ℕ) → IsEntityHere z d here → ComesBefore z d s e → ⊥
+
+  -- what it keeps comes from some source: from the one that defines the entity, or from the first that declares it, where none does
   pub record IsOfSource (here : ℕ) (is : WholeEntity) : Type 0 where
     pub source : ℕ
     pub number : ℕ
@@ -83,12 +87,12 @@ module _ (whole : Whole) where
     pub of : IsEntity units_of source number entity
     pub at : IsEntityHere source number here
     pub type : IsTypeHere source entity.ty is.ty
-    pub defined : (is.defined ≡ None) ⊎ ((is.defined ≡ Some (source, number)) × IsDefinition entity)
+    pub defined : ((is.defined ≡ None) × IsFirst here source number) ⊎ ((is.defined ≡ Some (source, number)) × IsDefinition entity)
 
   -- the first entity of a source that is this one
   pub record IsFirstPlace (here s e : ℕ) : Type 0 where
     pub at : IsEntityHere s e here
-    pub first : (z d : ℕ) → IsEntityHere z d here → ComesBefore z d s e → ⊥
+    pub first : IsFirst here s e
 
   pub record AreEntities : Type 0 where
     pub one : (s e z d here there : ℕ) → IsEntityHere s e here → IsEntityHere z d there → (here ≡ there) ↔ AreOneEntity s e z d

@@ -20,5 +20,6 @@ returns-in_ok-whole-in-None-clause-ok c =
       no_clash = nothing_clashes units c.as_slice-2.result.now c.as_slice-2.ensures.value c.args.externs.now c.in_ok-clash.field-0 c.in_ok-clash.ensures c.in-None.is;
       sources = whole.sources;
       types = whole.types;
+      entities = whole.entities;
       main_at = whole.main_at;
     }
