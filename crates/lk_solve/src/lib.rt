@@ -1,17 +1,22 @@
 //! The whole analysis of a program, from what is known of it to a verdict for each location.
 #![tactic(auto)]
 
+mod fault;
+mod points;
+
 ghost use Rattle.std.specs.Prelude.{IfOk};
 ghost use Rattle.lk_facts.specs.Analysis.{AreVerdictsOf};
 ghost use Rattle.lk_facts.specs.Facts.{basis_of};
 ghost use Rattle.lk_graph.specs.Single.{ArePlaceNodes};
 
+pub use fault::SolveFault;
 use lk_base::NoMemory;
 use lk_conflict::{conflicts, verdicts};
 use lk_facts::{Facts, Verdict};
 use lk_graph::{after, linear, many};
 use lk_held::held;
 use lk_items::items;
+pub use points::verdicts_of;
 use std::alloc::Global;
 
 /// The verdict of each location of a program, in their order. Each location and lock place is a node of the program's types.
