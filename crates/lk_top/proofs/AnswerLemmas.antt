@@ -1,96 +1,174 @@
 -- What the parts of an answer say of the whole.
-use Rattle.std.proofs.Common.{inl, inr, Vec, Global, ℕ, ◌≡◌, ◌<◌, ◌≤◌, List, [], ◌∷◌, Option, Some, None, length, drop, refl, sym, subst, arith}
-use Rattle.std.proofs.lemmas.List.Elements.{All-drop}
-use Rattle.std.specs.List.{All}
-use Rattle.std.specs.Option.{ForSome}
-use Rattle.lk_base.specs.declared.code.Code.TheVariants.{TooLong, Form}
-use Rattle.lk_base.specs.declared.fault.Fault.{Fault}
-use Rattle.lk_base.specs.declared.fault.Fault.TheVariants as fault
-use Rattle.lk_lex.specs.Answer.{AreTokens, Extends}
-use Rattle.lk_io.specs.Shelf.{Held, IsLonger}
-use Rattle.lk_base.specs.declared.refusal.Refusal.{Refusal as BaseRefusal}
-use Rattle.lk_lex.specs.declared.token.Token.{Token}
-use Rattle.lk_parse_expr.specs.Input.{spot_of}
-use Rattle.lk_parse_unit.specs.Parsing as parsing
-use Rattle.lk_tree.specs.declared.statement.Unit as tree
-use Rattle.lk_check_unit.specs.Sources.{TellsFirst}
-use Rattle.lk_form.specs.declared.tree.Program.{Program}
+use Rattle.std.proofs.Common.{inl, inr, ℕ, ◌≡◌, ◌∙◌, ◌<◌, ◌≤◌, Bool, true, false, if◌then◌else◌, List, [], ◌∷◌, Option, Some, None, length, refl, sym, ap, subst, arith}
+use Rattle.std.specs.Prelude.{MatchOption, slice_index_or}
+use Rattle.lk_base.specs.declared.refusal.Refusal as base
+use Rattle.lk_base.specs.declared.status.Status.{Status}
+use Rattle.lk_base.specs.declared.status.Status.TheVariants as status
+use Rattle.lk_facts.specs.declared.program.Program.{Program as Points}
+use Rattle.lk_facts.specs.declared.verdict.Verdict.{Verdict}
 use Rattle.lk_form.specs.Form.{IsOfForm}
+use Rattle.lk_form.specs.declared.tree.Program.{Program}
+use Rattle.lk_io.specs.Shelf.{Held}
+use Rattle.lk_join.specs.Program as linking
+use Rattle.lk_lower_unit.specs.PointNumbers.{HasMorePoints}
+use Rattle.lk_sources.specs.Accepting.{IsAccepted, Refuses}
+use Rattle.lk_sources.specs.Numbers.{numbered}
+use Rattle.lk_sources.specs.Readable.{Reads, FailsToRead}
+use Rattle.lk_sources.specs.Reading.{IsRead}
+use Rattle.lk_sources.specs.Shelves.{Shelved}
+use Rattle.lk_sources.specs.declared.accepting.Accepted as code
+use Rattle.lk_sources.specs.declared.fault.SourcesFault.{SourcesFault}
+use Rattle.lk_sources.specs.declared.fault.SourcesFault.TheVariants as told
+use Rattle.lk_sources.specs.declared.reading.Source.{Source}
+use Rattle.lk_sources.specs.declared.reading.Texts.{Texts}
+use Rattle.lk_typed.specs.declared.unit.TypedUnit.{TypedUnit}
+use Rattle.lk_typed.specs.declared.whole.Whole.{Whole}
+use Rattle.lk_words.specs.Words.{Check}
+use Rattle.lk_top.specs.Analysis.{unlinked, too_many_points, too_many_labels}
+use Rattle.lk_top.specs.Answer.{Reported, JudgesPoints, JudgesWhole, JudgesUnits, Analyses, ShowsFault, Judges, Answers}
+use Rattle.lk_top.specs.Outcome as outcome
+use Rattle.lk_top.specs.Outcome.{Refused, IsProgram, lone, HasNoProgram, Becomes, Follows}
+use Rattle.lk_top.specs.Report.{has_suspect}
+use Rattle.lk_top.specs.Results as results
+use Rattle.lk_top.specs.Results.{IsReport, IsRefusal, status_of, is_report}
 use Rattle.lk_top.specs.declared.answer.Answer.{Answer}
 use Rattle.lk_top.specs.declared.answer.Answer.TheVariants.{Report, Refusal, Unread}
-use Rattle.lk_top.specs.Outcome.{Refused, Judged, IsTreeOf, HasNoTree, no_tree, IsTreeFault, IsFirst, without_tree, faulty, faultless, too_long, not_of_form, of_form, refusal_of}
-use Rattle.lk_top.specs.Run.{Shelved, IsAsBefore}
-use Rattle.lk_top.specs.Answer.{Checks, HasFaultsIn, IsLineIn, Reported, Refuses, Unforms, Judges, Answers}
+use Rattle.lk_top.specs.declared.answer.Formed.{Formed}
 
-pub judged_program : (name source : List ℕ) (program : Program) (answer : Answer) → length source ≤ 1048576 → IsOfForm 0 source program → Reported name program answer → Judges name source answer
-judged_program name source program (Report text status) short form (verdicts, are, text_is, status_is) =
-    (program, verdicts, of_form program verdicts short form are, text_is, status_is)
-judged_program name source program (Refusal line) short form reported = absurd reported
-judged_program name source program (Unread line) short form reported = absurd reported
+-- ---- a lone source of the form
 
-pub judged_form : (name source : List ℕ) (answer : Answer) → length source ≤ 1048576 → ((program : Program) → IsOfForm 0 source program → ⊥) → Unforms name source answer → Judges name source answer
-judged_form name source (Report text status) short none refuses = absurd refuses
-judged_form name source (Refusal line) short none (file, refusal, is, line_is) = (file, refusal, not_of_form file refusal short none is, line_is)
-judged_form name source (Unread line) short none refuses = absurd refuses
+form_of : {source : Source} {name : List ℕ} {program : Program} → IsProgram [] (source ∷ []) name program → IsOfForm 0 source.bytes program
+form_of (lone form) = form
 
--- a source with a tree, with the line of its refusal
-pub tree_checked : (name source : List ℕ) (last : List (List ℕ)) (unit : tree.Unit) (answer : Answer) → IsTreeOf (name ∷ []) source last unit → Checks name last unit answer →
-    Unforms name source answer
-tree_checked name source last unit (Report text status) is checks = absurd checks
-tree_checked name source last unit (Refusal line) is (inl (refusal, first, (file, at, line_is))) = (file, refusal, faulty unit last is first at, line_is)
-tree_checked name source last unit (Refusal line) is (inr (none, line_is)) = (name, refusal_of Form, faultless unit last is none refl refl, line_is)
-tree_checked name source last unit (Unread line) is checks = absurd checks
+-- a program of the form is a lone source, without a file of --externs
+stands_alone : {externs sources : List Source} {name : List ℕ} {program : Program} → IsProgram externs sources name program → (externs ≡ []) × (length sources ≡ 1)
+stands_alone (lone form) = (refl, refl)
 
--- the place of the first fault stands in one of the files
-pub first_in_files : (files : ℕ) (unit : tree.Unit) (refusal : BaseRefusal) → HasFaultsIn files unit → TellsFirst [] unit (Some refusal) → refusal.spot.file < files
-first_in_files files unit refusal filed (fault, first, told) = subst (λ r. r.spot.file < files) (sym told) (filed fault first.holds)
+pub none_beside_externs : (externs sources : List Source) → 0 < length externs → HasNoProgram externs sources
+none_beside_externs [] sources some = absurd (omega arith)
+none_beside_externs (first ∷ others) sources some = λ name program is. let clash = (stands_alone is).0 in cc
 
-pub first_told : (unit : tree.Unit) (refusal : BaseRefusal) → TellsFirst [] unit (Some refusal) → IsFirst unit refusal
-first_told unit refusal (fault, first, told) = record { fault = fault; first = first; told = told }
+pub none_of_several : (externs sources : List Source) → (length sources ≡ 1 → ⊥) → HasNoProgram externs sources
+none_of_several externs sources several name program is = several (stands_alone is).1
 
-pub checked_faulty : (name : List ℕ) (files : List (List ℕ)) (unit : tree.Unit) (refusal : BaseRefusal) (line : Vec ℕ Global) → TellsFirst [] unit (Some refusal) → IsLineIn files refusal line.items →
-    Checks name files unit (Refusal line)
-checked_faulty name files unit refusal line tells is = inl (refusal, first_told unit refusal tells, is)
+no_externs : (externs : List Source) → (0 < length externs → ⊥) → externs ≡ []
+no_externs [] none = refl
+no_externs (first ∷ others) none = absurd (none (omega arith))
 
-pub checked_faultless : (name : List ℕ) (files : List (List ℕ)) (unit : tree.Unit) (answer : Answer) → TellsFirst [] unit None → Refuses name Form answer → Checks name files unit answer
-checked_faultless name files unit (Report text status) none refuses = absurd refuses
-checked_faultless name files unit (Refusal line) none refuses = inr (none, refuses)
-checked_faultless name files unit (Unread line) none refuses = absurd refuses
+one_source : (sources : List Source) (source : Source) → 1 ≤ length sources → length sources < 2 → source ≡ slice_index_or sources 0 source → sources ≡ source ∷ []
+one_source [] source some few is = absurd (omega arith)
+one_source (first ∷ []) source some few is = ap (λ s. s ∷ []) (sym is)
+one_source (first ∷ second ∷ others) source some few is = absurd (omega arith)
 
-longer : (name : List ℕ) (file : Option (List ℕ)) → IsLonger file 1048576 → (source : List ℕ) × (file ≡ Some source) × Judged name source (Refused name (refusal_of TooLong))
-longer name None long = absurd long
-longer name (Some source) long = (source, refl, too_long long)
+found_alone : (source : Source) (found : Option Formed) →
+    MatchOption found ((program : Program) → IsOfForm 0 source.bytes program → ⊥) (λ formed. (formed.name ≡ source.name) × IsOfForm 0 source.bytes formed.program) →
+    MatchOption found (HasNoProgram [] (source ∷ [])) (λ formed. IsProgram [] (source ∷ []) formed.name formed.program)
+found_alone source None none = λ name program is. none program (form_of is)
+found_alone source (Some formed) (named, form) = subst (λ name. IsProgram [] (source ∷ []) name formed.program) (sym named) (lone form)
 
-where_told : (name : List ℕ) (held : Option Held) → ForSome held (λ files. IsLonger (files name) 1048576) → ForSome held (λ files. (source : List ℕ) × (files name ≡ Some source) × Judged name source (Refused name (refusal_of TooLong)))
-where_told name held long files e = longer name (files name) (long files e)
+-- what is found of the one source of a command
+pub found_in : (externs sources : List Source) (source : Source) (found : Option Formed) → (0 < length externs → ⊥) → 1 ≤ length sources → length sources < 2 →
+    source ≡ slice_index_or sources 0 source →
+    MatchOption found ((program : Program) → IsOfForm 0 source.bytes program → ⊥) (λ formed. (formed.name ≡ source.name) × IsOfForm 0 source.bytes formed.program) →
+    MatchOption found (HasNoProgram externs sources) (λ formed. IsProgram externs sources formed.name formed.program)
+found_in externs sources source found none some few is exact =
+    subst (λ e. MatchOption found (HasNoProgram e sources) (λ formed. IsProgram e sources formed.name formed.program)) (sym (no_externs externs none))
+    (subst (λ s. MatchOption found (HasNoProgram [] s) (λ formed. IsProgram [] s formed.name formed.program)) (sym (one_source sources source some few is)) (found_alone source found exact))
 
-pub answered_too_long : (name : List ℕ) (shelf : Shelved) (answer : Answer) → IsAsBefore shelf.faults → ForSome shelf.files (λ files. IsLonger (files name) 1048576) → Refuses name TooLong answer → Answers name shelf answer
-answered_too_long name shelf (Report text status) calm long refuses = absurd refuses
-answered_too_long name shelf (Refusal line) calm long refuses =
-    (calm, (name, refusal_of TooLong, refuses, where_told name shelf.files long))
-answered_too_long name shelf (Unread line) calm long refuses = absurd refuses
+-- ---- what accepted sources come to
 
--- a source without a tree, with the line of that
-pub tree_refused : (name source : List ℕ) (last : List (List ℕ)) (refusal : BaseRefusal) (line : Vec ℕ Global) → HasNoTree (name ∷ []) source last refusal → IsLineIn last refusal line.items → Unforms name source (Refusal line)
-tree_refused name source last refusal line none (file, at, line_is) = (file, refusal, without_tree last none at, line_is)
+pub judged_points : (files : List (List ℕ)) (whole : Whole) (points : Points) (answer : Answer) → (HasMorePoints whole 65536 → ⊥) → JudgesPoints files points answer → JudgesWhole files whole answer
+judged_points files whole points answer few (inl (verdicts, has, shows)) = inl (few, (points, verdicts, has, shows))
+judged_points files whole points answer few (inr tells) = inr (inr tells)
 
--- the file of the place of a token that is left is among so many; with none left it is the first
-pub in_files : (count left : ℕ) (tokens : List Token) → 0 < count → All (λ token. token.spot.file < count) tokens → (spot_of (drop left tokens)).file < count
-in_files count left tokens some all = first_of (drop left tokens) (All-drop (λ token. token.spot.file < count) left tokens all)
-  where
-    first_of : (rest : List Token) → All (λ token. token.spot.file < count) rest → (spot_of rest).file < count
-    first_of [] all = some
-    first_of (first ∷ others) all = all 0 first (omega arith)
+pub analysed : (sources : code.Accepted) (units : List TypedUnit) (answer : Answer) → JudgesUnits sources.files sources.externs.items units answer → Analyses sources answer
+analysed sources units (Report text ends) (inl (whole, joined, inl (few, (points, verdicts, has, (text_is, status_is))))) =
+    (verdicts, record { whole = whole; is_whole = record { units = units; linked = joined }; few = few; points = points; verdicts_are = has; text_is = text_is }, status_is)
+analysed sources units (Report text ends) (inl (whole, joined, inr (inl (more, (refusal, code_is, name_is, tells))))) = absurd tells
+analysed sources units (Report text ends) (inl (whole, joined, inr (inr (refusal, code_is, name_is, tells)))) = absurd tells
+analysed sources units (Report text ends) (inr (refusal, is, tells)) = absurd tells
+analysed sources units (Refusal line) (inl (whole, joined, inl (few, (points, verdicts, has, shows)))) = absurd shows
+analysed sources units (Refusal line) (inl (whole, joined, inr (inl (more, (refusal, code_is, name_is, (file, at, line_is)))))) =
+    (file, refusal, record { why = too_many_points whole (record { units = units; linked = joined }) more code_is name_is; at = at }, line_is)
+analysed sources units (Refusal line) (inl (whole, joined, inr (inr (refusal, code_is, name_is, (file, at, line_is))))) =
+    (file, refusal, record { why = too_many_labels whole (record { units = units; linked = joined }) code_is name_is; at = at }, line_is)
+analysed sources units (Refusal line) (inr (refusal, is, (file, at, line_is))) = (file, refusal, record { why = unlinked units is; at = at }, line_is)
+analysed sources units (Unread line) (inl (whole, joined, inl (few, (points, verdicts, has, shows)))) = absurd shows
+analysed sources units (Unread line) (inl (whole, joined, inr (inl (more, (refusal, code_is, name_is, tells))))) = absurd tells
+analysed sources units (Unread line) (inl (whole, joined, inr (inr (refusal, code_is, name_is, tells)))) = absurd tells
+analysed sources units (Unread line) (inr (refusal, is, tells)) = absurd tells
 
--- the names of files don't become fewer
-pub some_file : (before last : List (List ℕ)) → length before ≡ 1 → Extends before last → 0 < length last
-some_file [] last one extends = absurd (omega (arith, one))
-some_file (first ∷ others) last one (more, is) = subst (λ names. 0 < length names) (sym is) (omega arith)
+-- ---- what files come to that are read
 
--- what a parser answers for the tokens of a source
-pub parse_refused : (names : List (List ℕ)) (source : List ℕ) (last : List (List ℕ)) (tokens : List Token) (fault : Fault) → 0 < length last → AreTokens names 0 source last tokens →
-    All (λ token. token.spot.file < length last) tokens → parsing.IsRefused 200 source tokens fault → IsTreeFault names source last fault
-parse_refused names source last tokens fault.NoMemory some are filed refused = refused
-parse_refused names source last tokens (fault.Refused refusal) some are filed refused =
-    let place = refused.place in
-    (no_tree tokens are refused, subst (λ spot. spot.file < length last) (sym place.1) (in_files (length last) place.0 tokens some filed))
+by_suspect : (suspect : Bool) → is_report (if suspect then status.Suspects else status.Clean) ≡ true
+by_suspect true = refl
+by_suspect false = refl
+
+of_verdicts : (verdicts : List Verdict) → is_report (status_of verdicts) ≡ true
+of_verdicts verdicts = by_suspect (has_suspect verdicts)
+
+module _ (names : List (List ℕ)) (externs sources : List Source) where
+  pub judged_program : (name : List ℕ) (program : Program) (answer : Answer) → IsProgram externs sources name program → Reported name program answer → Judges names externs sources answer
+  judged_program name program (Report text ends) is (verdicts, are, text_is, status_is) = (
+    ap is_report status_is ∙ of_verdicts verdicts,
+    subst (λ t. IsReport (Becomes names externs sources) t ends) (sym text_is)
+        (subst (λ s. IsReport (Becomes names externs sources) (outcome.report_of name program verdicts) s) (sym status_is)
+        (results.of_form name program verdicts (outcome.of_form name program verdicts is are))),
+  )
+  judged_program name program (Refusal line) is reported = absurd reported
+  judged_program name program (Unread line) is reported = absurd reported
+
+  pub judged_accepted : (result : code.Accepted) (answer : Answer) → HasNoProgram externs sources → IsAccepted names externs sources result → Analyses result answer → Judges names externs sources answer
+  judged_accepted result (Report text ends) none is (verdicts, are, status_is) = (
+    ap is_report status_is ∙ of_verdicts verdicts,
+    subst (λ s. IsReport (Becomes names externs sources) text.items s) (sym status_is) (results.analysed result text.items verdicts (outcome.accepted result none is) are),
+  )
+  judged_accepted result (Refusal line) none is (file, refusal, why, line_is) = (file, refusal, line_is, results.of_program result (outcome.accepted result none is) why)
+  judged_accepted result (Unread line) none is analyses = absurd analyses
+
+pub judged_refused : (texts : Texts) (fault : SourcesFault) (answer : Answer) → HasNoProgram texts.externs texts.sources → Refuses texts fault → ShowsFault fault answer →
+    Judges texts.files texts.externs texts.sources answer
+judged_refused texts (told.Refused file refusal) (Report text ends) none refuses shows = absurd shows
+judged_refused texts (told.Refused file refusal) (Refusal line) none refuses line_is = (file, refusal, line_is, results.of_sources (outcome.refused file refusal none refuses))
+judged_refused texts (told.Refused file refusal) (Unread line) none refuses shows = absurd shows
+judged_refused texts (told.Unread name) answer none refuses shows = absurd refuses
+judged_refused texts told.NoMemory answer none refuses shows = absurd shows
+
+-- ---- what a command comes to
+
+module _ (check : Check) (held : Held) (externs sources : List Source) (read : IsRead check held externs sources) where
+  follows_report : {text : List ℕ} {ends : Status} → IsReport (Becomes (numbered check) externs sources) text ends → IsReport (Follows check held) text ends
+  follows_report (results.of_form name program verdicts becomes) = results.of_form name program verdicts (outcome.read externs sources _ read becomes)
+  follows_report (results.analysed result text verdicts becomes are) = results.analysed result text verdicts (outcome.read externs sources _ read becomes) are
+
+  follows_refusal : (file : List ℕ) (refusal : base.Refusal) → IsRefusal (Becomes (numbered check) externs sources) file refusal → IsRefusal (Follows check held) file refusal
+  follows_refusal file refusal (results.of_sources becomes) = results.of_sources (outcome.read externs sources _ read becomes)
+  follows_refusal file refusal (results.of_program result becomes why) = results.of_program result (outcome.read externs sources _ read becomes) why
+
+module _ (check : Check) (shelf : Shelved) where
+  pub answered : (texts : Texts) (answer : Answer) → Reads check shelf texts → Judges texts.files texts.externs texts.sources answer → Answers check shelf answer
+  answered texts (Report text ends) reads (reporting, is) = (
+    reads.calm,
+    reporting,
+    λ held there. follows_report check held texts.externs texts.sources (reads.read held there) (subst (λ names. IsReport (Becomes names texts.externs texts.sources) text.items ends) reads.files is),
+  )
+  answered texts (Refusal line) reads (file, refusal, line_is, is) = (
+    reads.calm,
+    (
+      file,
+      refusal,
+      line_is,
+      λ held there. follows_refusal check held texts.externs texts.sources (reads.read held there) file refusal (subst (λ names. IsRefusal (Becomes names texts.externs texts.sources) file refusal) reads.files is),
+    ),
+  )
+  answered texts (Unread line) reads judges = absurd judges
+
+  pub not_read : (fault : SourcesFault) (answer : Answer) → FailsToRead check shelf fault → ShowsFault fault answer → Answers check shelf answer
+  not_read (told.Refused file refusal) (Report text ends) fails shows = absurd shows
+  not_read (told.Refused file refusal) (Refusal line) (calm, is, long) line_is =
+      (calm, (file, refusal, line_is, λ held there. results.of_sources (subst (λ r. Follows check held (Refused file r)) (sym is) (outcome.too_long file (long held there)))))
+  not_read (told.Refused file refusal) (Unread line) fails shows = absurd shows
+  not_read (told.Unread name) (Report text ends) fails shows = absurd shows
+  not_read (told.Unread name) (Refusal line) fails shows = absurd shows
+  not_read (told.Unread name) (Unread line) (rose, named, bad, reaches) line_is = (rose, (name, named, bad, reaches, line_is))
+  not_read told.NoMemory answer fails shows = absurd shows

@@ -1,58 +1,88 @@
--- Words come to one outcome, but that several refusals may be right.
+-- Words come to one outcome, but that several refusals may be right, and that accepted sources are told apart by what their trees show alone.
 use Rattle.std.specs.Bool.{⊤}
-use Rattle.std.proofs.Common.{ℕ, ◌≡◌, ◌∙◌, List, refl, sym, ap, subst, arith}
+use Rattle.std.proofs.Common.{ℕ, ◌≡◌, ◌∙◌, List, Some, sym, subst}
 use Rattle.lk_io.specs.Shelf.{Held}
+use Rattle.lk_facts.specs.declared.verdict.Verdict.{Verdict}
 use Rattle.lk_form.specs.declared.tree.Program.{Program}
 use Rattle.lk_form.specs.Form.{IsOfForm}
-use Rattle.lk_laws.proofs.OneAnalysis.{one_analysis}
-use Rattle.lk_facts.specs.declared.verdict.Verdict.{Verdict}
-use Rattle.lk_top.specs.Outcome.{AreVerdictsOf, Outcome, Usage, Missing, Refused, Verdicts, Judged, too_long, not_of_form, of_form, ComesTo, no_command, missing, judged}
+use Rattle.lk_laws.specs.Laws.{VerdictsAreOne}
+use Rattle.lk_sources.specs.Laws.{HasOneReading, NeverRefused, NeverTooLong}
+use Rattle.lk_sources.specs.Numbers.{numbered}
+use Rattle.lk_sources.specs.declared.reading.Source.{Source}
+use Rattle.lk_words.specs.Words.{Check, command}
+use Rattle.lk_top.specs.Outcome.{AreVerdictsOf, Outcome, Usage, Missing, Refused, Verdicts, Accepted, IsProgram, lone, Becomes, of_form, refused, accepted, Follows, missing, too_long, read, ComesTo, no_command, checks}
 
 abbrev pub HasOneProgram : Type 0
-HasOneProgram =
-    (own : ℕ) (source : List ℕ) (a b : Program) → IsOfForm own source a → IsOfForm own source b → a ≡ b
+HasOneProgram = (own : ℕ) (source : List ℕ) (a b : Program) → IsOfForm own source a → IsOfForm own source b → a ≡ b
 
--- one outcome, or two refusals
+-- the laws by which words come to one outcome
+pub record AreLaws : Type 0 where
+  pub program : HasOneProgram
+  pub analysis : VerdictsAreOne
+  pub reading : HasOneReading
+  pub never_long : NeverTooLong
+  pub never_refused : NeverRefused
+
+-- what one says of the other: verdicts are one list, and verdicts, a refusal and accepted sources exclude one another
 abbrev pub IsAlike : Outcome → Outcome → Type 0
-IsAlike Usage other = Usage ≡ other
-IsAlike (Missing name) other = Missing name ≡ other
-IsAlike (Verdicts name program verdicts) other = Verdicts name program verdicts ≡ other
-IsAlike (Refused file refusal) Usage = ⊥
-IsAlike (Refused file refusal) (Missing name) = ⊥
+IsAlike Usage other = ⊤
+IsAlike (Missing name) other = ⊤
+IsAlike (Verdicts name program verdicts) Usage = ⊤
+IsAlike (Verdicts name program verdicts) (Missing other) = ⊤
+IsAlike (Verdicts name program verdicts) (Verdicts other second found) = verdicts ≡ found
+IsAlike (Verdicts name program verdicts) (Refused file refusal) = ⊥
+IsAlike (Verdicts name program verdicts) (Accepted sources) = ⊥
+IsAlike (Refused file refusal) Usage = ⊤
+IsAlike (Refused file refusal) (Missing name) = ⊤
 IsAlike (Refused file refusal) (Verdicts name program verdicts) = ⊥
 IsAlike (Refused file refusal) (Refused other second) = ⊤
+IsAlike (Refused file refusal) (Accepted sources) = ⊥
+IsAlike (Accepted sources) Usage = ⊤
+IsAlike (Accepted sources) (Missing name) = ⊤
+IsAlike (Accepted sources) (Verdicts name program verdicts) = ⊥
+IsAlike (Accepted sources) (Refused file refusal) = ⊥
+IsAlike (Accepted sources) (Accepted other) = ⊤
 
-module _ (one_program : HasOneProgram) where
-  same_verdicts : (name : List ℕ) (p q : Program) (vs ws : List Verdict) → p ≡ q → AreVerdictsOf p vs → AreVerdictsOf q ws → Verdicts name p vs ≡ Verdicts name q ws
-  same_verdicts name p q vs ws e a b =
-      let b' = subst (λ r. AreVerdictsOf r ws) (sym e) b in
-      let same = one_analysis _ vs ws a b' in
-      cc
+beside_missing : (outcome : Outcome) (name : List ℕ) → IsAlike outcome (Missing name)
+beside_missing Usage name = tt
+beside_missing (Missing other) name = tt
+beside_missing (Refused file refusal) name = tt
+beside_missing (Verdicts other program verdicts) name = tt
+beside_missing (Accepted sources) name = tt
 
-  one_judgement : {name source : List ℕ} {a b : Outcome} → Judged name source a → Judged name source b → IsAlike a b
-  one_judgement (too_long l) (too_long m) = tt
-  one_judgement (too_long l) (not_of_form file refusal m none why) = tt
-  one_judgement (too_long l) (of_form p vs m form are) = absurd (omega arith)
-  one_judgement (not_of_form file refusal l none why) (too_long m) = tt
-  one_judgement (not_of_form file refusal l none why) (not_of_form other second m none2 why2) = tt
-  one_judgement (not_of_form file refusal l none why) (of_form p vs m form are) = absurd (none p form)
-  one_judgement (of_form p vs l form are) (too_long m) = absurd (omega arith)
-  one_judgement (of_form p vs l form are) (not_of_form file refusal m none why) = absurd (none p form)
-  one_judgement {name = name} {source = source} (of_form p vs l form are) (of_form q ws m form' are') =
-      same_verdicts name p q vs ws (one_program 0 source p q form form') are are'
+module _ (laws : AreLaws) where
+  same_verdicts : {p q : Program} {vs ws : List Verdict} → p ≡ q → AreVerdictsOf p vs → AreVerdictsOf q ws → vs ≡ ws
+  same_verdicts {vs = vs} {ws = ws} e a b = laws.analysis _ vs ws a (subst (λ r. AreVerdictsOf r ws) (sym e) b)
 
-  pub one_outcome : {words : List (List ℕ)} {files : Held} {a b : Outcome} → ComesTo words files a → ComesTo words files b → IsAlike a b
-  one_outcome (no_command e) (no_command d) = refl
-  one_outcome (no_command e) (missing name d f) = let clash = sym e ∙ d in cc
-  one_outcome (no_command e) (judged name source o d f j) = absurd (let clash = sym e ∙ d in cc)
-  one_outcome (missing name e f) (no_command d) = let clash = sym e ∙ d in cc
-  one_outcome (missing name e f) (missing other d g) = let same = sym e ∙ d in cc
-  one_outcome {files = files} (missing name e f) (judged other source o d g j) =
-      absurd (let same : name ≡ other = cc in let clash = sym f ∙ (ap files same ∙ g) in cc)
-  one_outcome (judged name source o e f j) (no_command d) = absurd (let clash = sym e ∙ d in cc)
-  one_outcome {files = files} (judged name source o e f j) (missing other d g) =
-      absurd (let same : name ≡ other = cc in let clash = sym f ∙ (ap files same ∙ g) in cc)
-  one_outcome {files = files} {b = b} (judged name source o e f j) (judged other text o' d g k) =
-      let same : name ≡ other = cc in
-      let one : source ≡ text = let both = sym f ∙ (ap files same ∙ g) in cc in
-      one_judgement j (subst (λ n. Judged n source b) (sym same) (subst (λ t. Judged other t b) (sym one) k))
+  one_formed : {externs sources : List Source} {n m : List ℕ} {p q : Program} → IsProgram externs sources n p → IsProgram externs sources m q → p ≡ q
+  one_formed (lone {source = s} {program = p} form) (lone {program = q} other) = laws.program 0 s.bytes p q form other
+
+  one_becoming : {names : List (List ℕ)} {externs sources : List Source} {a b : Outcome} → Becomes names externs sources a → Becomes names externs sources b → IsAlike a b
+  one_becoming (of_form n p vs form are) (of_form m q ws other found) = same_verdicts (one_formed form other) are found
+  one_becoming (of_form n p vs form are) (refused file refusal none why) = none n p form
+  one_becoming (of_form n p vs form are) (accepted result none is) = none n p form
+  one_becoming (refused file refusal none why) (of_form n p vs form are) = none n p form
+  one_becoming (refused file refusal none why) (refused other second none2 why2) = tt
+  one_becoming (refused file refusal none why) (accepted result none2 is) = laws.never_refused _ _ _ result file refusal is why
+  one_becoming (accepted result none is) (of_form n p vs form are) = none n p form
+  one_becoming (accepted result none is) (refused file refusal none2 why) = laws.never_refused _ _ _ result file refusal is why
+  one_becoming (accepted result none is) (accepted other none2 is2) = tt
+
+  one_following : {check : Check} {held : Held} {a b : Outcome} → Follows check held a → Follows check held b → IsAlike a b
+  one_following (missing name reached none) other = tt
+  one_following (too_long file long) (missing name reached none) = tt
+  one_following (too_long file long) (too_long other longer) = tt
+  one_following (too_long file long) (read externs sources outcome is becomes) = absurd (laws.never_long _ _ externs sources file is long)
+  one_following (read externs sources outcome is becomes) (missing name reached none) = beside_missing outcome name
+  one_following (read externs sources outcome is becomes) (too_long file long) = absurd (laws.never_long _ _ externs sources file is long)
+  one_following {check = check} (read externs sources outcome is becomes) (read others second found is2 becomes2) =
+      let names = numbered check in
+      let same = laws.reading _ _ externs sources others second is is2 in
+      one_becoming becomes (subst (λ e. Becomes names e sources found) (sym same.0) (subst (λ s. Becomes names others s found) (sym same.1) becomes2))
+
+  pub one_outcome : {words : List (List ℕ)} {held : Held} {a b : Outcome} → ComesTo words held a → ComesTo words held b → IsAlike a b
+  one_outcome (no_command e) other = tt
+  one_outcome (checks check outcome e follows) (no_command d) = absurd (let clash = sym e ∙ d in cc)
+  one_outcome {held = held} (checks check outcome e follows) (checks other second d follows2) =
+      let same : check ≡ other = let both = sym e ∙ d in cc in
+      one_following follows (subst (λ c. Follows c held second) (sym same) follows2)

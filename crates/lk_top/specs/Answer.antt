@@ -1,68 +1,103 @@
 -- What an answer says of the words, the shelf's files and its count of faults.
-use Rattle.std.specs.Prelude.{ℕ, ◌≡◌, ◌<◌, ◌⊎◌, true, List, Some, slice_get}
+use Rattle.std.specs.Prelude.{ℕ, ◌≡◌, ◌⊎◌, true, List, [], Some, slice_get}
 use Rattle.std.specs.Option.{ForSome}
-use Rattle.lk_base.specs.declared.code.Code.{Code}
-use Rattle.lk_base.specs.declared.code.Code.TheVariants.{Form}
 use Rattle.lk_base.specs.declared.refusal.Refusal.{Refusal}
-use Rattle.lk_tree.specs.declared.statement.Unit.{Unit}
-use Rattle.lk_typed.specs.Faults.{Fault as TypeFault}
-use Rattle.lk_form.specs.declared.tree.Program.{Program}
+use Rattle.lk_base.specs.declared.status.Status.{Status}
 use Rattle.lk_facts.specs.declared.verdict.Verdict.{Verdict}
-use Rattle.lk_top.specs.declared.answer.Answer.{Answer}
-use Rattle.lk_top.specs.declared.answer.Answer.TheVariants.{Report, Refusal as Refuse, Unread}
+use Rattle.lk_form.specs.declared.tree.Program.{Program}
+use Rattle.lk_base.specs.declared.code.Code.{Code}
+use Rattle.lk_base.specs.declared.code.Code.TheVariants.{TooManyPoints, TooManyLabels}
+use Rattle.lk_facts.specs.declared.program.Program.{Program as Points}
+use Rattle.lk_join.specs.Program as linking
+use Rattle.lk_join.specs.Program.{IsLinked}
+use Rattle.lk_lower_unit.specs.PointNumbers.{HasMorePoints}
+use Rattle.lk_report.specs.Report.{report_text}
+use Rattle.lk_solve.specs.Verdicts.{HasVerdicts}
+use Rattle.lk_typed.specs.Env.{Name}
+use Rattle.lk_typed.specs.declared.unit.TypedUnit.{TypedUnit}
+use Rattle.lk_typed.specs.declared.whole.Whole.{Whole}
+use Rattle.lk_sources.specs.declared.accepting.Accepted as code
+use Rattle.lk_sources.specs.Reading as reading
+use Rattle.lk_sources.specs.Shelves.{Shelved, HasRisen, IsAsBefore}
+use Rattle.lk_sources.specs.declared.fault.SourcesFault.{SourcesFault}
+use Rattle.lk_sources.specs.declared.fault.SourcesFault.TheVariants as fault
+use Rattle.lk_sources.specs.declared.reading.Source.{Source}
+use Rattle.lk_words.specs.Words.{Check}
+use Rattle.lk_top.specs.Analysis.{IsAnalysed, IsNoProgramIn}
+use Rattle.lk_top.specs.Outcome.{Becomes, Follows, AreVerdictsOf, report_of}
+use Rattle.lk_top.specs.Results.{IsReport, IsRefusal, status_of, is_report}
 use Rattle.lk_top.specs.Texts.{refused_line, unread_line}
-use Rattle.lk_top.specs.Outcome.{Refused, Verdicts, Judged, HasNoFault, IsFault, IsFirst, IsUnformed, AreVerdictsOf, refusal_of, report_of}
-use Rattle.lk_top.specs.Run.{Shelved, HasRisen, IsAsBefore, status_of, is_report}
+use Rattle.lk_top.specs.declared.answer.Answer.{Answer}
+use Rattle.lk_top.specs.declared.answer.Answer.TheVariants as answer
 
--- the report of the program's verdicts
+-- ---- a report, or the line of a refusal
+
+-- the report of a program of the form
 abbrev pub Reported : List ℕ → Program → Answer → Type 0
-Reported name program (Report text status) =
+Reported name program (answer.Report text status) =
     (verdicts : List Verdict) × AreVerdictsOf program verdicts × (text.items ≡ report_of name program verdicts) × (status ≡ status_of verdicts)
-Reported name program (Refuse line) = ⊥
-Reported name program (Unread line) = ⊥
+Reported name program (answer.Refusal line) = ⊥
+Reported name program (answer.Unread line) = ⊥
 
--- the line of a refusal at the file's first byte
-abbrev pub Refuses : List ℕ → Code → Answer → Type 0
-Refuses name code (Report text status) = ⊥
-Refuses name code (Refuse line) = line.items ≡ refused_line name (refusal_of code)
-Refuses name code (Unread line) = ⊥
+-- the line of a refusal, for the file of its place
+abbrev pub Tells : List (List ℕ) → Refusal → Answer → Type 0
+Tells files refusal (answer.Report text status) = ⊥
+Tells files refusal (answer.Refusal line) = (file : List ℕ) × (slice_get files refusal.spot.file ≡ Some file) × (line.items ≡ refused_line file refusal)
+Tells files refusal (answer.Unread line) = ⊥
 
--- the line of a refusal, with the name of the file in which its place stands
-abbrev pub IsLineIn : List (List ℕ) → Refusal → List ℕ → Type 0
-IsLineIn files refusal line = (file : List ℕ) × (slice_get files refusal.spot.file ≡ Some file) × (line ≡ refused_line file refusal)
+-- of one with this code that tells no name
+abbrev pub TellsCode : List (List ℕ) → Code → Answer → Type 0
+TellsCode files code shown = (refusal : Refusal) × (refusal.code ≡ code) × (refusal.name ≡ []) × Tells files refusal shown
 
--- each fault of a tree stands in one of so many files
-abbrev pub HasFaultsIn : ℕ → Unit → Type 0
-HasFaultsIn files unit = (fault : TypeFault) → IsFault unit fault → fault.spot.file < files
+-- the report of verdicts
+abbrev pub ShowsVerdicts : List (List ℕ) → Points → List Verdict → Answer → Type 0
+ShowsVerdicts files points verdicts (answer.Report text status) = (text.items ≡ report_text files points verdicts) × (status ≡ status_of verdicts)
+ShowsVerdicts files points verdicts (answer.Refusal line) = ⊥
+ShowsVerdicts files points verdicts (answer.Unread line) = ⊥
 
--- the line of the refusal of a tree: for the first of its faults, in the file of its place, or, where it has none, for its form
-abbrev pub Checks : List ℕ → List (List ℕ) → Unit → Answer → Type 0
-Checks name files unit (Report text status) = ⊥
-Checks name files unit (Refuse line) =
-    ((refusal : Refusal) × IsFirst unit refusal × IsLineIn files refusal line.items) ⊎ (HasNoFault unit × (line.items ≡ refused_line name (refusal_of Form)))
-Checks name files unit (Unread line) = ⊥
+-- what points, a program and typed trees come to
+abbrev pub JudgesPoints : List (List ℕ) → Points → Answer → Type 0
+JudgesPoints files points shown = ((verdicts : List Verdict) × HasVerdicts points verdicts × ShowsVerdicts files points verdicts shown) ⊎ TellsCode files TooManyLabels shown
 
--- the line of the refusal of a source that is not of the form
-abbrev pub Unforms : List ℕ → List ℕ → Answer → Type 0
-Unforms name source (Report text status) = ⊥
-Unforms name source (Refuse line) = (file : List ℕ) × (refusal : Refusal) × IsUnformed name source file refusal × (line.items ≡ refused_line file refusal)
-Unforms name source (Unread line) = ⊥
+abbrev pub JudgesWhole : List (List ℕ) → Whole → Answer → Type 0
+JudgesWhole files whole shown =
+    ((HasMorePoints whole 65536 → ⊥) × ((points : Points) × (verdicts : List Verdict) × HasVerdicts points verdicts × ShowsVerdicts files points verdicts shown))
+    ⊎ (HasMorePoints whole 65536 × TellsCode files TooManyPoints shown) ⊎ TellsCode files TooManyLabels shown
 
--- what the source of this name comes to
-abbrev pub Judges : List ℕ → List ℕ → Answer → Type 0
-Judges name source (Report text status) =
-    (program : Program) × (verdicts : List Verdict) × Judged name source (Verdicts name program verdicts) × (text.items ≡ report_of name program verdicts) × (status ≡ status_of verdicts)
-Judges name source (Refuse line) =
-    (file : List ℕ) × (refusal : Refusal) × Judged name source (Refused file refusal) × (line.items ≡ refused_line file refusal)
-Judges name source (Unread line) = ⊥
+abbrev pub JudgesUnits : List (List ℕ) → List Name → List TypedUnit → Answer → Type 0
+JudgesUnits files externs units shown =
+    ((whole : Whole) × IsLinked units externs whole × JudgesWhole files whole shown) ⊎ ((refusal : Refusal) × linking.IsRefusal units externs refusal × Tells files refusal shown)
 
--- what the file of this name comes to
-abbrev pub Answers : List ℕ → Shelved → Answer → Type 0
-Answers name shelf (Report text status) =
-    IsAsBefore shelf.faults × (is_report status ≡ true)
-    × ForSome shelf.files (λ files. (source : List ℕ) × (files name ≡ Some source) × Judges name source (Report text status))
-Answers name shelf (Refuse line) =
-    IsAsBefore shelf.faults
-    × ((file : List ℕ) × (refusal : Refusal) × (line.items ≡ refused_line file refusal) × ForSome shelf.files (λ files. (source : List ℕ) × (files name ≡ Some source) × Judged name source (Refused file refusal)))
-Answers name shelf (Unread line) =
-    HasRisen shelf.faults × ForSome shelf.bad (λ told. told ≡ name) × (line.items ≡ unread_line name)
+-- the report of sources that are accepted, or the line of why they make no program
+abbrev pub Analyses : code.Accepted → Answer → Type 0
+Analyses sources (answer.Report text status) = (verdicts : List Verdict) × IsAnalysed sources text.items verdicts × (status ≡ status_of verdicts)
+Analyses sources (answer.Refusal line) = (file : List ℕ) × (refusal : Refusal) × IsNoProgramIn sources file refusal × (line.items ≡ refused_line file refusal)
+Analyses sources (answer.Unread line) = ⊥
+
+-- the line of why files are not read or not accepted; for want of memory there is none
+abbrev pub ShowsFault : SourcesFault → Answer → Type 0
+ShowsFault (fault.Refused file refusal) (answer.Report text status) = ⊥
+ShowsFault (fault.Refused file refusal) (answer.Refusal line) = line.items ≡ refused_line file refusal
+ShowsFault (fault.Refused file refusal) (answer.Unread line) = ⊥
+ShowsFault (fault.Unread name) (answer.Report text status) = ⊥
+ShowsFault (fault.Unread name) (answer.Refusal line) = ⊥
+ShowsFault (fault.Unread name) (answer.Unread line) = line.items ≡ unread_line name
+ShowsFault fault.NoMemory shown = ⊥
+
+-- ---- files that are read, where these are the names of files so far
+
+abbrev pub Judges : List (List ℕ) → List Source → List Source → Answer → Type 0
+Judges names externs sources (answer.Report text status) = (is_report status ≡ true) × IsReport (Becomes names externs sources) text.items status
+Judges names externs sources (answer.Refusal line) =
+    (file : List ℕ) × (refusal : Refusal) × (line.items ≡ refused_line file refusal) × IsRefusal (Becomes names externs sources) file refusal
+Judges names externs sources (answer.Unread line) = ⊥
+
+-- ---- a command over a shelf
+
+abbrev pub Answers : Check → Shelved → Answer → Type 0
+Answers check shelf (answer.Report text status) =
+    IsAsBefore shelf.faults × (is_report status ≡ true) × ForSome shelf.files (λ held. IsReport (Follows check held) text.items status)
+Answers check shelf (answer.Refusal line) =
+    IsAsBefore shelf.faults × ((file : List ℕ) × (refusal : Refusal) × (line.items ≡ refused_line file refusal) × ForSome shelf.files (λ held. IsRefusal (Follows check held) file refusal))
+Answers check shelf (answer.Unread line) =
+    HasRisen shelf.faults × ((name : List ℕ) × reading.IsNamed check name × ForSome shelf.bad (λ told. told ≡ name) × ForSome shelf.files (λ held. reading.ComesTo check held name) × (line.items ≡ unread_line name))

@@ -1,6 +1,7 @@
+pub mod Analysis
 pub mod Answer
 pub mod Outcome
 pub mod Report
 pub mod Run
 pub mod Texts
-pub mod Words
+pub mod Results

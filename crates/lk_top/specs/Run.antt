@@ -1,45 +1,26 @@
 -- What a run of a command leaves, by the status that it ends with.
-use Rattle.std.specs.Prelude.{ℕ, ◌≡◌, ◌⊎◌, Bool, true, false, if◌then◌else◌, List, Option, Some, None, take}
+use Rattle.std.specs.Prelude.{ℕ, ◌≡◌, ◌⊎◌, Bool, true, false, List, Option, Some, None, take}
 use Rattle.std.specs.Option.{ForSome}
 use Rattle.lk_base.specs.declared.refusal.Refusal.{Refusal}
 use Rattle.lk_base.specs.declared.status.Status.{Status}
 use Rattle.lk_base.specs.declared.status.Status.TheVariants as status
-use Rattle.lk_io.specs.Counts.{Rose}
 use Rattle.lk_io.specs.Shelf.{Held}
 use Rattle.lk_io.specs.Sink.{Takes}
 use Rattle.lk_form.specs.declared.tree.Program.{Program}
 use Rattle.lk_facts.specs.declared.verdict.Verdict.{Verdict}
-use Rattle.lk_top.specs.Words.{command}
+use Rattle.lk_words.specs.Words.{Check, command}
+use Rattle.lk_sources.specs.declared.accepting.Accepted as code
+use Rattle.lk_sources.specs.Reading as reading
+use Rattle.lk_sources.specs.Shelves.{Count, Shelved, HasRisen, IsAsBefore}
 use Rattle.lk_top.specs.Texts.{refused_line, usage_line, unread_line, unwritten_line, no_memory_line}
-use Rattle.lk_top.specs.Report.{has_suspect}
-use Rattle.lk_top.specs.Outcome.{Refused, Verdicts, ComesTo, report_of}
-
--- a count before a call and after it
-pub record Count : Type 0 where
-  pub before : ℕ
-  pub now : ℕ
-
-abbrev pub HasRisen : Count → Type 0
-HasRisen count = Rose count.before count.now
-
-abbrev pub IsAsBefore : Count → Type 0
-IsAsBefore count = count.now ≡ count.before
-
--- what a shelf tells: its files, the name of its last failed read, and its count of faults
-pub record Shelved : Type 0 where
-  pub files : Option Held
-  pub bad : Option (List ℕ)
-  pub faults : Count
+use Rattle.lk_top.specs.Results.{IsReport, IsRefusal, status_of, is_report}
+use Rattle.lk_top.specs.Outcome.{Accepted, Refused, Verdicts, ComesTo}
 
 -- what a sink tells: what it has taken before a call and after it, and its count of faults
 pub record Sunk : Type 0 where
   pub before : Option (List ℕ)
   pub now : Option (List ℕ)
   pub faults : Count
-
-abbrev pub shelved : {F : Type 0} → (F → Option Held) → (F → Option (List ℕ)) → (F → ℕ) → F → F → Shelved
-shelved held bad faults old new =
-    record { files = held old; bad = bad new; faults = record { before = faults old; now = faults new } }
 
 abbrev pub sunk : {S : Type 0} → (S → Option (List ℕ)) → (S → ℕ) → S → S → Sunk
 sunk gone faults old new =
@@ -57,53 +38,46 @@ GotFront sink text = (count : ℕ) × Takes sink.before sink.now (take count tex
 abbrev pub GotNothing : Sunk → Type 0
 GotNothing sink = (sink.now ≡ sink.before) × IsAsBefore sink.faults
 
--- the status of verdicts
-abbrev pub status_of : List Verdict → Status
-status_of verdicts = if has_suspect verdicts then status.Suspects else status.Clean
-
 -- no count of faults has risen
 pub record NoneHasRisen (shelf : Shelved) (out err : Sunk) : Type 0 where
   pub shelf_faults : HasRisen shelf.faults → ⊥
   pub out_faults : HasRisen out.faults → ⊥
   pub err_faults : HasRisen err.faults → ⊥
 
--- The words come to verdicts of this status, and the output has the whole report.
-pub record Reports (words : List (List ℕ)) (files : Held) (out : Sunk) (ends : Status) : Type 0 where
-  pub name : List ℕ
-  pub program : Program
-  pub verdicts : List Verdict
-  pub outcome : ComesTo words files (Verdicts name program verdicts)
-  pub status : ends ≡ status_of verdicts
-  pub report : Got out (report_of name program verdicts)
+-- The words come to a report with this status, and the output has it, whole.
+pub record Reports (words : List (List ℕ)) (held : Held) (out : Sunk) (ends : Status) : Type 0 where
+  pub text : List ℕ
+  pub is : IsReport (ComesTo words held) text ends
+  pub report : Got out text
 
 -- The words come to a refusal, and the error output has its line.
-pub record Refuses (words : List (List ℕ)) (files : Held) (err : Sunk) : Type 0 where
+pub record Refuses (words : List (List ℕ)) (held : Held) (err : Sunk) : Type 0 where
   pub file : List ℕ
   pub refusal : Refusal
-  pub outcome : ComesTo words files (Refused file refusal)
+  pub is : IsRefusal (ComesTo words held) file refusal
   pub line : Got err (refused_line file refusal)
 
--- The file of the command can't be read: the shelf's count rose, a told bad name is the file's, and the
--- error output has the line with its name.
+-- A file of the command can't be read: the shelf's count rose, a told bad name is that file's, the reading of told files comes to it, and the error output has the line with its name.
 pub record Misses (words : List (List ℕ)) (shelf : Shelved) (err : Sunk) : Type 0 where
+  pub check : Check
+  pub command : command words ≡ Some check
   pub name : List ℕ
-  pub file : command words ≡ Some name
+  pub named : reading.IsNamed check name
   pub rose : HasRisen shelf.faults
   pub bad : ForSome shelf.bad (λ told. told ≡ name)
+  pub reached : ForSome shelf.files (λ held. reading.ComesTo check held name)
   pub line : Got err (unread_line name)
 
 -- the lines that the error output may get where the output did not fail
 pub data Line (words : List (List ℕ)) (shelf : Shelved) : List ℕ → Type 0 where
   usage : command words ≡ None → Line words shelf usage_line
-  refused : (file : List ℕ) (refusal : Refusal) → ForSome shelf.files (λ files. ComesTo words files (Refused file refusal)) → Line words shelf (refused_line file refusal)
-  unread : (name : List ℕ) → command words ≡ Some name → HasRisen shelf.faults → Line words shelf (unread_line name)
+  refused : (file : List ℕ) (refusal : Refusal) → ForSome shelf.files (λ held. IsRefusal (ComesTo words held) file refusal) → Line words shelf (refused_line file refusal)
+  unread : (check : Check) (name : List ℕ) → command words ≡ Some check → reading.IsNamed check name → HasRisen shelf.faults → Line words shelf (unread_line name)
   no_memory : Line words shelf no_memory_line
 
 -- The output got a front of the report, or nothing.
 abbrev pub GotReportFront : List (List ℕ) → Option Held → Sunk → Type 0
-GotReportFront words files out =
-    GotNothing out
-    ⊎ ForSome files (λ files. (name : List ℕ) × (program : Program) × (verdicts : List Verdict) × ComesTo words files (Verdicts name program verdicts) × GotFront out (report_of name program verdicts))
+GotReportFront words files out = GotNothing out ⊎ ForSome files (λ held. (text : List ℕ) × (ends : Status) × IsReport (ComesTo words held) text ends × GotFront out text)
 
 -- The line of which the error output got a front is that of failed output only where the output's count
 -- rose, and another only where it is as before.
@@ -124,25 +98,18 @@ pub record Fails (words : List (List ℕ)) (shelf : Shelved) (out err : Sunk) : 
 abbrev pub IsOrNoMemory : Status → Status → Type 0
 IsOrNoMemory ends wanted = (ends ≡ wanted) ⊎ (ends ≡ status.NoMemory)
 
--- verdicts are reported, but for want of memory
+-- verdicts of a source of the form are reported, but for want of memory
 abbrev pub AlwaysReports : List (List ℕ) → Held → Status → Type 0
-AlwaysReports words files ends =
-    (name : List ℕ) (program : Program) (verdicts : List Verdict) → ComesTo words files (Verdicts name program verdicts) → IsOrNoMemory ends (status_of verdicts)
+AlwaysReports words held ends =
+    (name : List ℕ) (program : Program) (verdicts : List Verdict) → ComesTo words held (Verdicts name program verdicts) → IsOrNoMemory ends (status_of verdicts)
 
--- a refusal is told, but for want of memory
+-- a refusal of the sources is told, but for want of memory
 abbrev pub AlwaysRefuses : List (List ℕ) → Held → Status → Type 0
-AlwaysRefuses words files ends =
-    (file : List ℕ) (refusal : Refusal) → ComesTo words files (Refused file refusal) → IsOrNoMemory ends status.Refused
+AlwaysRefuses words held ends = (file : List ℕ) (refusal : Refusal) → ComesTo words held (Refused file refusal) → IsOrNoMemory ends status.Refused
 
--- the report is written
-abbrev pub is_report : Status → Bool
-is_report status.Clean = true
-is_report status.Suspects = true
-is_report status.Refused = false
-is_report status.Usage = false
-is_report status.ReadFault = false
-is_report status.WriteFault = false
-is_report status.NoMemory = false
+-- sources that are accepted are reported or refused, but for want of memory
+abbrev pub AlwaysAnswers : List (List ℕ) → Held → Status → Type 0
+AlwaysAnswers words held ends = (sources : code.Accepted) → ComesTo words held (Accepted sources) → (is_report ends ≡ true) ⊎ IsOrNoMemory ends status.Refused
 
 -- the output is never written to
 abbrev pub leaves_output : Status → Bool

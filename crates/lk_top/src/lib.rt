@@ -1,10 +1,11 @@
 //! The one top call of `lsrace`: from the words of a command to its report.
 #![tactic(auto)]
 
+mod analysis;
 mod answer;
+mod form;
 mod report;
 mod texts;
 mod top;
-mod words;
 
 pub use top::run;

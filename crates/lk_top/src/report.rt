@@ -164,7 +164,8 @@ fn push_accesses(
     labels: &Labels,
     accesses: &[Racing],
 ) -> Result<(), NoMemory>
-    ensures { OnOk result (out.new.items ≡ out.old.items ++ flat_map (access_text file.now points.now labels.now) accesses.now) }
+    ensures { OnOk result (out.new.items
+        ≡ out.old.items ++ flat_map (access_text file.now points.now labels.now) accesses.now) }
 {
     for racing in accesses {
         push_access(alloc, out, file, points, labels, racing)?;

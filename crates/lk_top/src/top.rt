@@ -1,14 +1,19 @@
 //! The top call.
 ghost use Rattle.std.specs.Prelude.{◌≡◌, ◌≢◌, ◌≤◌, None, map, IsTrue, string_bytes};
 ghost use Rattle.std.specs.Option.{ForSome};
-ghost use Rattle.lk_top.specs.Words.{command};
+ghost use Rattle.lk_words.specs.Words.{command};
+ghost use Rattle.lk_sources.specs.Shelves.{shelved, HasRisen, IsAsBefore};
 ghost use Rattle.lk_top.specs.Texts.{usage_line, unwritten_line, no_memory_line};
-ghost use Rattle.lk_top.specs.Run.{shelved, sunk, Got, HasRisen, IsAsBefore, NoneHasRisen, Reports, Refuses, Misses, Fails, AlwaysReports, AlwaysRefuses, Told, Published, is_report, leaves_output};
+ghost use Rattle.lk_top.specs.Results.{is_report};
+ghost use Rattle.lk_top.specs.Run.{sunk, Got, NoneHasRisen, Reports, Refuses, Misses, Fails, AlwaysAnswers, AlwaysReports, AlwaysRefuses, IsOrNoMemory, Told, Published, leaves_output};
 
 use crate::answer::{Answer, examine};
-use crate::words::command;
 use lk_base::{NoMemory, Status};
+use lk_form::one_program;
 use lk_io::{Failed, Shelf, Sink, write_whole};
+use lk_laws::verdicts_are_one;
+use lk_sources::{commands_are_in_bounds, one_reading, one_result};
+use lk_words::{WordsFault, command};
 use std::alloc::Global;
 
 const USAGE_LINE: &[u8] = b"usage: lsrace check [--externs FILE] FILE...\n";
@@ -29,7 +34,8 @@ fn tell<E: Sink>(err: &mut E, line: &[u8], status: Status) -> Status
 
 /// Writes the report to the output, and answers its status. Where that fails, the error output is told.
 fn publish<S: Sink, E: Sink>(out: &mut S, err: &mut E, text: &[u8], status: Status) -> Status
-    ensures published { Published status text.now (sunk S.gone S.faults out.old out.new) (sunk E.gone E.faults err.old err.new) result }
+    ensures published { Published status text.now
+        (sunk S.gone S.faults out.old out.new) (sunk E.gone E.faults err.old err.new) result }
     ensures quiet { IsTrue (is_report result) → err.new ≡ err.old }
 {
     match write_whole(out, text) {
@@ -38,8 +44,8 @@ fn publish<S: Sink, E: Sink>(out: &mut S, err: &mut E, text: &[u8], status: Stat
     }
 }
 
-/// Runs the command that the words spell, `check` and a FILE: reads the file from the shelf, and writes the
-/// report to `out` or a line to `err`.
+/// Runs the command that the words spell, `check` with its FILEs: reads the files from the shelf, and writes the report
+/// to `out` or a line to `err`.
 ///
 /// The status says which, and its clauses when each comes. What is said of the words' outcome is said
 /// where the shelf tells its files.
@@ -51,27 +57,35 @@ pub fn run<F: Shelf, S: Sink, E: Sink>(
     err: &mut E,
 ) -> Status
     // Verdicts: the output has the whole report. It comes only if no count of faults rises.
-    ensures reports { IsTrue (is_report result) → ForSome (F.held shelf.old) (λ files.
-        Reports (map string_bytes words.now) files (sunk S.gone S.faults out.old out.new) result) }
+    ensures reports { IsTrue (is_report result) → ForSome (F.held shelf.old) (λ held.
+        Reports (map string_bytes words.now) held (sunk S.gone S.faults out.old out.new) result) }
     ensures reports_quietly { IsTrue (is_report result) → (F.faults shelf.new ≡ F.faults shelf.old)
         × (S.faults out.new ≡ S.faults out.old) × (err.new ≡ err.old) }
-    ensures always_reports { ForSome (F.held shelf.old) (λ files.
-        NoneHasRisen (shelved F.held F.bad F.faults shelf.old shelf.new) (sunk S.gone S.faults out.old out.new) (sunk E.gone E.faults err.old err.new)
-        → AlwaysReports (map string_bytes words.now) files result) }
+    ensures always_reports { ForSome (F.held shelf.old) (λ held.
+        NoneHasRisen (shelved F.held F.bad F.faults shelf.old shelf.new)
+        (sunk S.gone S.faults out.old out.new) (sunk E.gone E.faults err.old err.new)
+        → AlwaysReports (map string_bytes words.now) held result) }
 
     // A refusal: the error output has its line. It comes only if the shelf's count doesn't rise.
-    ensures refuses { result ≡ Status.Refused → ForSome (F.held shelf.old) (λ files.
-        Refuses (map string_bytes words.now) files (sunk E.gone E.faults err.old err.new)) }
+    ensures refuses { result ≡ Status.Refused → ForSome (F.held shelf.old) (λ held.
+        Refuses (map string_bytes words.now) held (sunk E.gone E.faults err.old err.new)) }
     ensures refuses_quietly { result ≡ Status.Refused → F.faults shelf.new ≡ F.faults shelf.old }
-    ensures always_refuses { ForSome (F.held shelf.old) (λ files.
-        NoneHasRisen (shelved F.held F.bad F.faults shelf.old shelf.new) (sunk S.gone S.faults out.old out.new) (sunk E.gone E.faults err.old err.new)
-        → AlwaysRefuses (map string_bytes words.now) files result) }
+    ensures always_refuses { ForSome (F.held shelf.old) (λ held.
+        NoneHasRisen (shelved F.held F.bad F.faults shelf.old shelf.new)
+        (sunk S.gone S.faults out.old out.new) (sunk E.gone E.faults err.old err.new)
+        → AlwaysRefuses (map string_bytes words.now) held result) }
+
+    // Sources that are accepted are reported, or their program is refused.
+    ensures always_answers { ForSome (F.held shelf.old) (λ held.
+        NoneHasRisen (shelved F.held F.bad F.faults shelf.old shelf.new)
+        (sunk S.gone S.faults out.old out.new) (sunk E.gone E.faults err.old err.new)
+        → AlwaysAnswers (map string_bytes words.now) held result) }
 
     // Words that are no command: the error output has the usage line. The shelf is not read.
     ensures usage { result ≡ Status.Usage → (command (map string_bytes words.now) ≡ None)
         × Got (sunk E.gone E.faults err.old err.new) usage_line × (shelf.new ≡ shelf.old) }
     ensures always_usage { command (map string_bytes words.now) ≡ None
-        → (HasRisen (sunk E.gone E.faults err.old err.new).faults → ⊥) → result ≡ Status.Usage }
+        → (HasRisen (sunk E.gone E.faults err.old err.new).faults → ⊥) → IsOrNoMemory result Status.Usage }
 
     // A file that can't be read: the shelf's count rose, and the error output has the line with its name.
     ensures misses { result ≡ Status.ReadFault → Misses (map string_bytes words.now)
@@ -79,7 +93,8 @@ pub fn run<F: Shelf, S: Sink, E: Sink>(
 
     // Failed writing: the count of a sink rose. The output has a front of the report, and the error output of a line.
     ensures fails { result ≡ Status.WriteFault → Fails (map string_bytes words.now)
-        (shelved F.held F.bad F.faults shelf.old shelf.new) (sunk S.gone S.faults out.old out.new) (sunk E.gone E.faults err.old err.new) }
+        (shelved F.held F.bad F.faults shelf.old shelf.new)
+        (sunk S.gone S.faults out.old out.new) (sunk E.gone E.faults err.old err.new) }
 
     // Want of memory: the error output has its line.
     ensures no_memory { result ≡ Status.NoMemory → Got (sunk E.gone E.faults err.old err.new) no_memory_line }
@@ -88,10 +103,17 @@ pub fn run<F: Shelf, S: Sink, E: Sink>(
     ensures untouched { IsTrue (leaves_output result) → out.new ≡ out.old }
     ensures held { F.held shelf.new ≡ F.held shelf.old }
 {
-    let Some(name) = command(words) else {
-        return tell(err, USAGE_LINE, Status::Usage);
+    let check = match command(alloc, words) {
+        Ok(check) => check,
+        Err(WordsFault::Usage) => return tell(err, USAGE_LINE, Status::Usage),
+        Err(WordsFault::NoMemory) => return tell(err, NO_MEMORY_LINE, Status::NoMemory),
     };
-    match examine(alloc, name, shelf) {
+    commands_are_in_bounds();
+    one_reading();
+    one_result();
+    one_program();
+    verdicts_are_one();
+    match examine(alloc, &check, shelf) {
         Ok(Answer::Report { text, status }) => publish(out, err, &text, status),
         Ok(Answer::Refusal { line }) => tell(err, &line, Status::Refused),
         Ok(Answer::Unread { line }) => tell(err, &line, Status::ReadFault),

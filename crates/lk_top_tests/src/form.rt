@@ -1,6 +1,6 @@
-//! What is of the form, and what is refused.
+//! What is of the second form.
 
-use crate::runs::is_read;
+use crate::runs::is_of_form;
 use std::alloc::Global;
 use std::process::Abort;
 use std::test::Fail;
@@ -147,9 +147,9 @@ const SOURCES: &[(&str, bool)] = &[
 ];
 
 #[test]
-fn a_source_is_of_the_form_or_refused(rt: HostRuntime) -> Result<(), Fail> {
+fn a_source_is_of_the_form_or_not(rt: HostRuntime) -> Result<(), Fail> {
     for (source, accepted) in SOURCES {
-        let read = is_read(&rt, rt.alloc(), source)?;
+        let read = is_of_form(rt.alloc(), source)?;
         assert!(&rt; read == *accepted, "{source}");
     }
     Ok(())
@@ -192,9 +192,9 @@ fn may_be_declared(rt: &impl Abort, alloc: Global, name: &str) -> Result<bool, F
     let parameter = format!(in alloc;
         "void *w(void *{name}) {{ return 0; }} int main(void) {{ return 0; }}"
     )?;
-    let first = is_read(rt, alloc, &variable)?;
+    let first = is_of_form(alloc, &variable)?;
     for source in [&function, &parameter] {
-        assert!(rt; is_read(rt, alloc, source)? == first, "{source}");
+        assert!(rt; is_of_form(alloc, source)? == first, "{source}");
     }
     Ok(first)
 }

@@ -1,6 +1,6 @@
 //! What stands at the limits, and one past them.
 
-use crate::runs::{is_read, run_on, run_over};
+use crate::runs::{is_of_form, run_on, run_over};
 use lk_base::Status;
 use lk_io::MemShelf;
 use std::alloc::Global;
@@ -26,7 +26,7 @@ fn statements_in_blocks_are_counted(rt: HostRuntime) -> Result<(), Fail> {
         let source = format!(in alloc;
             "int n; void f(void) {{ if (n) {{{first}}} else {{{second}}} }} int main(void) {{ while (n) {{{body}}} return 0; }}"
         )?;
-        assert!(&rt; is_read(&rt, alloc, &source)? == *accepted);
+        assert!(&rt; is_of_form(alloc, &source)? == *accepted);
     }
     Ok(())
 }
@@ -45,7 +45,7 @@ fn at_most_fifty_blocks_stand_inside_one_another(rt: HostRuntime) -> Result<(), 
             "int n; void f(void) {{ {opened}{closed} }} int main(void) {{ return 0; }}"
         )?;
         for source in [&in_main, &in_function] {
-            assert!(&rt; is_read(&rt, alloc, source)? == *accepted, "{pairs}");
+            assert!(&rt; is_of_form(alloc, source)? == *accepted, "{pairs}");
         }
     }
     Ok(())
@@ -57,7 +57,7 @@ fn names_have_at_most_255_bytes(rt: HostRuntime) -> Result<(), Fail> {
     for (count, accepted) in [(255, true), (256, false)] {
         let name = "n".repeat(alloc, count)?;
         let source = format!(in alloc; "int {name}; int main(void) {{ return 0; }}")?;
-        assert!(&rt; is_read(&rt, alloc, &source)? == accepted, "{count}");
+        assert!(&rt; is_of_form(alloc, &source)? == accepted, "{count}");
     }
     Ok(())
 }
@@ -82,7 +82,7 @@ fn the_largest_programs_are_reported(rt: HostRuntime) -> Result<(), Fail> {
     assert!(&rt; ran.status == Status::Suspects);
     let end = b"total 2000, guarded 0, unshared 1, suspect 1999\n";
     assert!(&rt; ran.out.bytes().ends_with(end.as_slice()));
-    assert!(&rt; !is_read(&rt, rt.alloc(), &wide_program(rt.alloc(), 2000)?)?);
+    assert!(&rt; !is_of_form(rt.alloc(), &wide_program(rt.alloc(), 2000)?)?);
     Ok(())
 }
 
@@ -95,7 +95,7 @@ fn at_most_4000_names_stand_at_file_scope(rt: HostRuntime) -> Result<(), Fail> {
             write!(&mut source, "int n{number};\n")?;
         }
         source.push_str("int main(void) { return 0; }")?;
-        assert!(&rt; is_read(&rt, alloc, &source)? == accepted, "{count}");
+        assert!(&rt; is_of_form(alloc, &source)? == accepted, "{count}");
     }
     Ok(())
 }

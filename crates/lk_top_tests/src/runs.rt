@@ -1,10 +1,10 @@
 //! Whole commands over a shelf in memory.
 
 use lk_base::Status;
+use lk_form::read_program;
 use lk_io::{MemShelf, MemSink};
 use lk_top::run;
 use std::alloc::Global;
-use std::process::Abort;
 use std::test::Fail;
 
 /// What a run left.
@@ -34,11 +34,12 @@ pub fn run_on(alloc: Global, text: &str) -> Result<Ran, Fail> {
     run_over(alloc, &["check", "r.c"], &mut shelf)
 }
 
-/// Whether a source has verdicts, or is refused: for its tokens, or as not of the form.
-pub fn is_read(rt: &impl Abort, alloc: Global, text: &str) -> Result<bool, Fail> {
-    let ran = run_on(alloc, text)?;
-    let refused = ran.status == Status::Refused;
-    assert!(rt; !refused || ran.err.bytes().starts_with(b"r.c:"));
-    assert!(rt; refused || ran.status == Status::Clean || ran.status == Status::Suspects);
-    Ok(!refused)
+/// Whether a source is of the second form, in which it is read as a whole. Longer ones than all sources together may be are not.
+pub fn is_of_form(alloc: Global, text: &str) -> Result<bool, Fail> {
+    let source = text.as_bytes();
+    if source.len() > 1_048_576 {
+        return Ok(false);
+    }
+    let program = read_program(alloc, 0, source)?;
+    Ok(program.is_some())
 }

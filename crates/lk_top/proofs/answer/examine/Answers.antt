@@ -1,8 +1,8 @@
-use Rattle.std.proofs.Common.{rules}
-use Rattle.lk_top.proofs.AnswerLemmas.{answered_too_long}
+use Rattle.lk_top.proofs.AnswerLemmas.{answered, not_read}
 use Rattle.lk_top.proofs.answer.examine.Goals as goal
 
-pub returns-in_ok-answer-in-Err-TooLong-clause-answer : goal.returns-in_ok-answer-in-Err-TooLong-clause-answer
-returns-in_ok-answer-in-Err-TooLong-clause-answer g c =
-    answered_too_long _ _ _ (search rules) (search rules)
-    (rw c.as_bytes-in-Err-TooLong.ensures.value at c.in_ok-answer-in-Err-TooLong.ensures)
+pub returns-in_ok-answer-in-Ok-clause-answer : goal.returns-in_ok-answer-in-Ok-clause-answer
+returns-in_ok-answer-in-Ok-clause-answer g c = answered _ _ c.in-Ok.texts _ c.in-Ok.ensures.ok c.in_ok-answer-in-Ok.ensures
+
+pub returns-in_ok-answer-in-Err-clause-answer : goal.returns-in_ok-answer-in-Err-clause-answer
+returns-in_ok-answer-in-Err-clause-answer g c = not_read _ _ c.in-Err.fault _ c.in-Err.ensures.err c.in_ok-answer-in-Err.ensures

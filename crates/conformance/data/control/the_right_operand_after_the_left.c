@@ -1,0 +1,17 @@
+int a, b;
+pthread_t t;
+
+void *w(void *q) {
+  a = 1;
+  b = 1;
+  return 0;
+}
+
+int start(void) {
+  pthread_create(&t, 0, w, 0);
+  return 0;
+}
+
+int main(void) {
+  return a + start() + b;
+}

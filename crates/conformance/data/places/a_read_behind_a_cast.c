@@ -1,0 +1,6 @@
+long n;
+void *w(void *q) { n = 1; return 0; }
+int main(void) {
+pthread_t t;
+pthread_create(&t, 0, w, 0);
+return (int)n; }

@@ -1,0 +1,4 @@
+extern int n;
+int main(void) {
+  return n;
+}

@@ -1,0 +1,5 @@
+pthread_mutex_t m;
+
+int main(void) {
+  return 0;
+}

@@ -1,0 +1,5 @@
+int f(void);
+
+int h(void) {
+  return f();
+}

@@ -1,0 +1,3 @@
+void tick(int *p) {
+  *p = 2;
+}

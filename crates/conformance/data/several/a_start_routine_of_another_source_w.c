@@ -1,0 +1,3 @@
+void *w(void *q) {
+  return q;
+}

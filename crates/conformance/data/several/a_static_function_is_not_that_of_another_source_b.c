@@ -1,0 +1,5 @@
+int f(void);
+
+int g(void) {
+  return f();
+}

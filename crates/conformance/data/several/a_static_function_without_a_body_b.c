@@ -1,0 +1,5 @@
+static int f(void);
+
+int g(void) {
+  return f();
+}

@@ -1,0 +1,3 @@
+struct s { struct t *p; };
+struct t { char n; };
+extern struct s x;

@@ -1,0 +1,2 @@
+struct list { int n; };
+extern struct list x;

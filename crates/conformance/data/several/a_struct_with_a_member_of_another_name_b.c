@@ -1,0 +1,2 @@
+struct list { int m; struct list *next; };
+extern struct list x;

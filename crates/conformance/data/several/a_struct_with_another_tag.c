@@ -1,0 +1,5 @@
+struct s { int n; } x;
+
+int main(void) {
+  return x.n;
+}

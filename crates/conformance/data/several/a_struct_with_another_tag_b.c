@@ -1,0 +1,2 @@
+struct other { int n; };
+extern struct other x;

@@ -1,0 +1,2 @@
+struct list { struct list *next; int n; };
+extern struct list x;

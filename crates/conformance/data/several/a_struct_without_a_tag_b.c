@@ -1,0 +1,1 @@
+extern struct { int n; } x;

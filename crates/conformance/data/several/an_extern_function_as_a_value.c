@@ -1,0 +1,2 @@
+int get(void);
+int (*way)(void) = get;

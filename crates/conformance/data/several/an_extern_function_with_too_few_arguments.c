@@ -1,0 +1,4 @@
+void put(char *text, int n, ...);
+void work(void) {
+  put("x");
+}

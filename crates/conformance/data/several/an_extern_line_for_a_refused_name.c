@@ -1,0 +1,4 @@
+int setjmp(void *);
+int work(void *p) {
+  return setjmp(p);
+}

@@ -1,0 +1,2 @@
+setjmp
+memset

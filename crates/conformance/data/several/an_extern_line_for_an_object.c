@@ -1,0 +1,4 @@
+int n, *p = &n;
+int main(void) {
+  return n;
+}

@@ -1,0 +1,4 @@
+n
+main
+int
+puts

@@ -1,0 +1,4 @@
+long w(int n);
+void work(pthread_t *t) {
+  pthread_create(t, 0, &w, 0);
+}

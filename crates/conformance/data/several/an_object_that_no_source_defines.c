@@ -1,0 +1,5 @@
+extern int n;
+
+int main(void) {
+  return n;
+}

@@ -1,0 +1,6 @@
+struct s { int n; };
+struct s *x;
+
+int main(void) {
+  return x->n;
+}

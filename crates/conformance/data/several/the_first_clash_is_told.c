@@ -1,0 +1,6 @@
+int n;
+int f(void);
+
+int main(void) {
+  return f();
+}

@@ -1,0 +1,9 @@
+int main(void) {
+  {
+    extern int n;
+  }
+  {
+    extern char n;
+  }
+  return 0;
+}

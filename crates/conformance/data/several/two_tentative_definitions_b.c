@@ -1,0 +1,3 @@
+extern int n;
+int n;
+int n = 1;

@@ -1,0 +1,13 @@
+use Rattle.std.proofs.Common.{inl, inr, subst}
+use Rattle.lk_top.specs.Answer.{ShowsVerdicts}
+use Rattle.lk_top.proofs.analysis.judge_points.Goals as goal
+
+pub returns-in_ok-answer-in-Ok : goal.returns-in_ok-answer-in-Ok
+returns-in_ok-answer-in-Ok c =
+    let files = c.args.files.now in
+    let points = c.args.points.now in
+    let answer = c.in_ok-answer-in-Ok.answer in
+    inl (c.in-Ok.verdicts.items, c.in-Ok.ensures.ok, subst (λ vs. ShowsVerdicts files points vs answer) c.deref.ensures.value c.in_ok-answer-in-Ok.ensures)
+
+pub returns-in_ok-answer-in-Err-TooManyLabels : goal.returns-in_ok-answer-in-Err-TooManyLabels
+returns-in_ok-answer-in-Err-TooManyLabels c = inr c.in_ok-answer-in-Err-TooManyLabels.ensures

@@ -1,0 +1,39 @@
+-- What is reported of sources that are accepted, and why others of them make no program. What their typed trees are is not said here, and of the points of a program only that there are
+-- no more than the bound: that these are those of the sources, only tests show.
+use Rattle.std.specs.Prelude.{ℕ, ◌≡◌, List, [], Some, slice_get}
+use Rattle.lk_base.specs.declared.code.Code.TheVariants.{TooManyPoints, TooManyLabels}
+use Rattle.lk_base.specs.declared.refusal.Refusal.{Refusal}
+use Rattle.lk_facts.specs.declared.program.Program.{Program}
+use Rattle.lk_facts.specs.declared.verdict.Verdict.{Verdict}
+use Rattle.lk_join.specs.Program.{IsLinked, IsRefusal}
+use Rattle.lk_lower_unit.specs.PointNumbers.{HasMorePoints}
+use Rattle.lk_report.specs.Report.{report_text}
+use Rattle.lk_solve.specs.Verdicts.{HasVerdicts}
+use Rattle.lk_sources.specs.declared.accepting.Accepted as code
+use Rattle.lk_typed.specs.declared.unit.TypedUnit.{TypedUnit}
+use Rattle.lk_typed.specs.declared.whole.Whole.{Whole}
+
+-- typed trees are put together
+pub record IsWhole (sources : code.Accepted) (whole : Whole) : Type 0 where
+  pub units : List TypedUnit
+  pub linked : IsLinked units sources.externs.items whole
+
+-- the text is the report of the verdicts that the points of a program have
+pub record IsAnalysed (sources : code.Accepted) (text : List ℕ) (verdicts : List Verdict) : Type 0 where
+  pub whole : Whole
+  pub is_whole : IsWhole sources whole
+  pub few : HasMorePoints whole 65536 → ⊥
+  pub points : Program
+  pub verdicts_are : HasVerdicts points verdicts
+  pub text_is : text ≡ report_text sources.files points verdicts
+
+-- Why they make no program: their typed trees speak against one another, or are over a bound; that is told without a name.
+pub data IsNoProgram (sources : code.Accepted) (refusal : Refusal) : Type 0 where
+  unlinked : (units : List TypedUnit) → IsRefusal units sources.externs.items refusal → IsNoProgram sources refusal
+  too_many_points : (whole : Whole) → IsWhole sources whole → HasMorePoints whole 65536 → refusal.code ≡ TooManyPoints → refusal.name ≡ [] → IsNoProgram sources refusal
+  too_many_labels : (whole : Whole) → IsWhole sources whole → refusal.code ≡ TooManyLabels → refusal.name ≡ [] → IsNoProgram sources refusal
+
+-- with the name of the file in which its place stands
+pub record IsNoProgramIn (sources : code.Accepted) (file : List ℕ) (refusal : Refusal) : Type 0 where
+  pub why : IsNoProgram sources refusal
+  pub at : slice_get sources.files refusal.spot.file ≡ Some file
