@@ -1,0 +1,1 @@
+/* The names of this header are known to lsrace. */
