@@ -1,6 +1,6 @@
 //! What is of the second form.
 
-use crate::runs::is_of_form;
+use crate::reading::is_of_form;
 use std::alloc::Global;
 use std::process::Abort;
 use std::test::Fail;

@@ -1,8 +1,6 @@
 //! What stands at the limits, and one past them.
 
-use crate::runs::{is_of_form, run_on, run_over};
-use lk_base::Status;
-use lk_io::MemShelf;
+use crate::reading::is_of_form;
 use std::alloc::Global;
 use std::test::Fail;
 
@@ -77,12 +75,11 @@ fn wide_program(alloc: Global, variables: u32) -> Result<String, Fail> {
 }
 
 #[test]
-fn the_largest_programs_are_reported(rt: HostRuntime) -> Result<(), Fail> {
-    let ran = run_on(rt.alloc(), &wide_program(rt.alloc(), 1999)?)?;
-    assert!(&rt; ran.status == Status::Suspects);
-    let end = b"total 2000, guarded 0, unshared 1, suspect 1999\n";
-    assert!(&rt; ran.out.bytes().ends_with(end.as_slice()));
-    assert!(&rt; !is_of_form(rt.alloc(), &wide_program(rt.alloc(), 2000)?)?);
+fn the_largest_programs_are_of_the_form(rt: HostRuntime) -> Result<(), Fail> {
+    for (count, accepted) in [(1999, true), (2000, false)] {
+        let source = wide_program(rt.alloc(), count)?;
+        assert!(&rt; is_of_form(rt.alloc(), &source)? == accepted, "{count}");
+    }
     Ok(())
 }
 
@@ -97,27 +94,5 @@ fn at_most_4000_names_stand_at_file_scope(rt: HostRuntime) -> Result<(), Fail> {
         source.push_str("int main(void) { return 0; }")?;
         assert!(&rt; is_of_form(alloc, &source)? == accepted, "{count}");
     }
-    Ok(())
-}
-
-#[test]
-fn a_source_has_at_most_a_mebibyte(rt: HostRuntime) -> Result<(), Fail> {
-    let alloc = rt.alloc();
-    let program = "int main(void) { return 0; }";
-    let mut source = " ".repeat(alloc, 1_048_576 - program.len())?;
-    source.push_str(program)?;
-    assert!(&rt; run_on(alloc, &source)?.status == Status::Clean);
-    source.push(' ')?;
-    let ran = run_on(alloc, &source)?;
-    assert!(&rt; ran.status == Status::Refused);
-    assert!(&rt; ran.err.bytes() == b"r.c:1:1: refused 15 TooLong\n".as_slice());
-    Ok(())
-}
-
-#[test]
-fn an_empty_word_is_no_file(rt: HostRuntime) -> Result<(), Fail> {
-    let mut shelf = MemShelf::new(rt.alloc());
-    let ran = run_over(rt.alloc(), &["check", ""], &mut shelf)?;
-    assert!(&rt; ran.status == Status::Usage && ran.out.bytes().is_empty());
     Ok(())
 }
