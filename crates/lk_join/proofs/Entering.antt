@@ -1,15 +1,15 @@
 -- The entities of a source are put to the program's, one by one.
-use Rattle.std.proofs.Common.{◌≡◌, ◌∙◌, ◌⊎◌, inl, inr, ◌+◌, ◌<◌, ◌≤◌, ◌++◌, ℕ, List, [], ◌∷◌, Option, Some, None, refl, sym, ap, subst, length, length-append, arith}
+use Rattle.std.proofs.Common.{◌≡◌, ◌∙◌, ◌⊎◌, inl, inr, ◌+◌, ◌<◌, ◌≤◌, ◌++◌, ℕ, List, [], ◌∷◌, Some, None, refl, sym, ap, subst, length, length-append, arith}
 use Rattle.std.proofs.lemmas.Option.{none-some, same_Some, slice_get_within}
 use Rattle.std.proofs.Math.Nat.{eq-or-lt_of_le}
 use Rattle.std.specs.List.{slice_get}
-use Rattle.lk_link.specs.Sources.{ComesBefore, IsDefinition, IsEntity, Units}
+use Rattle.lk_link.specs.Sources.{ComesBefore, IsDefinition, Units}
 use Rattle.lk_typed.specs.declared.entity.Entity.{Entity}
 use Rattle.lk_typed.specs.declared.unit.TypedUnit.{TypedUnit}
 use Rattle.lk_typed.specs.declared.whole.WholeEntity.{WholeEntity}
 use Rattle.lk_types.proofs.AddLemmas.{last_got}
 use Rattle.lk_types.proofs.GrowLemmas.{get_before}
-use Rattle.lk_join.specs.Entities.{AreEntityRows, AreGathered, ArePut, IsFirst, IsFrom, IsListed, IsNumberAt, IsSaid, IsSaidAt}
+use Rattle.lk_join.specs.Entities.{AreEntityRows, AreGathered, ArePut, IsListed, IsNumberAt, IsSaid, IsSaidAt}
 use Rattle.lk_join.specs.Entities.ArePut.{none, more}
 use Rattle.lk_join.proofs.Growing.{got}
 use Rattle.lk_join.proofs.Saying.{IsThis, gathered_more, push_cases}

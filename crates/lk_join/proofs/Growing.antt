@@ -36,7 +36,7 @@ longer_then a b c first second = record {
 pub get_longer : (old new : Table) → IsLonger old new → (t : ℕ) (form : CType) → slice_get old.types t ≡ Some form → slice_get new.types t ≡ Some form
 get_longer old new longer t form at = ap (λ ts. slice_get ts t) longer.types.1 ∙ get_before old.types longer.types.0 t (slice_get_within old.types t form at) ∙ at
 
-here_more : (row more : List ℕ) (t here : ℕ) → IsHere row t here → IsHere (row ++ more) t here
+pub here_more : (row more : List ℕ) (t here : ℕ) → IsHere row t here → IsHere (row ++ more) t here
 here_more row more t here at = get_before row more t (slice_get_within row t here at) ∙ at
 
 form_more : (row more structs : List ℕ) {a b : CType} → HasForm row structs a b → HasForm (row ++ more) structs a b
@@ -94,10 +94,10 @@ pointer_later old new good longer t known has small =
     (pointer.0, get_longer old new longer pointer.0 (Pointer t) pointer.1)
 
 pub keeps_same : (table : Table) → KeepsPointers table table
-keeps_same table = record { longer = longer_same table; kept = λ t known has. has }
+keeps_same table = record { longer = longer_same table; members = refl; kept = λ t known has. has }
 
-pub keeps_longer : (old new : Table) → IsTable old → IsLonger old new → KeepsPointers old new
-keeps_longer old new good longer = record { longer = longer; kept = λ t known has. pointer_later old new good longer t known has }
+pub keeps_longer : (old new : Table) → IsTable old → IsLonger old new → new.members ≡ old.members → KeepsPointers old new
+keeps_longer old new good longer members = record { longer = longer; members = members; kept = λ t known has. pointer_later old new good longer t known has }
 
 pub known_later : (old new : Table) → IsLonger old new → (t : ℕ) → IsKnown old t → IsKnown new t
 known_later old new longer t known = let more = ap length longer.types.1 in omega (arith, known, more, length-append old.types longer.types.0)
@@ -105,6 +105,7 @@ known_later old new longer t known = let more = ap length longer.types.1 in omeg
 pub keeps_then : (a b c : Table) → KeepsPointers a b → KeepsPointers b c → KeepsPointers a c
 keeps_then a b c first second = record {
   longer = longer_then a b c first.longer second.longer;
+  members = second.members ∙ first.members;
   kept = λ t known has. second.kept t (known_later a b first.longer t known) (first.kept t known has);
 }
 

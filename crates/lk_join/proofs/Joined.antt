@@ -3,15 +3,14 @@ use Rattle.std.proofs.Common.{◌≡◌, ◌∙◌, ◌⊎◌, ◌↔◌, inl, i
 use Rattle.std.proofs.lemmas.Bool.{cases_order}
 use Rattle.std.proofs.lemmas.Option.{none-some, same_Some, slice_get_within}
 use Rattle.std.specs.List.{slice_get}
-use Rattle.lk_link.specs.Joining.{AreEntities, AreOneEntity, IsEntityHere, IsFirst as IsFirstHere, IsFirstPlace, IsOfSource, IsTypeHere, IsWholeEntity, units_of}
-use Rattle.lk_link.specs.Joining.AreOneEntity.{same as same_entity, external}
+use Rattle.lk_join.specs.Joining.{AreEntities, AreOneEntity, IsEntityHere, IsFirst as IsFirstHere, IsFirstPlace, IsOfSource, IsTypeHere, IsWholeEntity, units_of}
+use Rattle.lk_join.specs.Joining.AreOneEntity.{same as same_entity, external}
 use Rattle.lk_link.specs.Sources.{ComesBefore, IsDefinition, IsEntity, Units}
 use Rattle.lk_typed.specs.declared.entity.Entity.{Entity}
 use Rattle.lk_typed.specs.declared.unit.TypedUnit.{TypedUnit}
-use Rattle.lk_typed.specs.declared.whole.Linked.{Linked}
 use Rattle.lk_typed.specs.declared.whole.Whole.{Whole}
 use Rattle.lk_typed.specs.declared.whole.WholeEntity.{WholeEntity}
-use Rattle.lk_join.specs.Entities.{AreEntityRows, AreOne, HaveOneName, IsFirst, IsKept, IsNumberAt, IsSaidAt}
+use Rattle.lk_join.specs.Entities.{AreEntityRows, AreOne, IsFirst, IsKept, IsNumberAt, IsSaidAt}
 use Rattle.lk_join.specs.Sources.{AreLinked}
 use Rattle.lk_join.proofs.Typing.{entities_at, row_at, source_at}
 

@@ -1,8 +1,11 @@
 pub mod Chains
+pub mod Completed
 pub mod Distinct
 pub mod Entering
+pub mod Giving
 pub mod Growing
 pub mod Joined
+pub mod Members
 pub mod Named
 pub mod Numbering
 pub mod Placing

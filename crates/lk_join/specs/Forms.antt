@@ -52,7 +52,8 @@ pub record AreRowsOf (units : Units) (structs : List (List ℕ)) (table : Table)
 abbrev pub HasPointer : Table → ℕ → Type 0
 HasPointer table t = is_too_large (form_size table (Pointer t)) ≡ false → (pointer : ℕ) × (slice_get table.types pointer ≡ Some (Pointer t))
 
--- a later table that has the pointers which an earlier one has
+-- a later table that has the members of structs and the pointers which an earlier one has
 pub record KeepsPointers (old new : Table) : Type 0 where
   pub longer : IsLonger old new
+  pub members : new.members ≡ old.members
   pub kept : (t : ℕ) → IsKnown old t → HasPointer old t → HasPointer new t

@@ -1,6 +1,8 @@
 pub mod Classes
+pub mod Completing
 pub mod Entities
 pub mod Forms
+pub mod Joining
 pub mod Labels
 pub mod Numbering
 pub mod Places

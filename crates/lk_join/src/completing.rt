@@ -1,8 +1,9 @@
 //! Structs of a source completed in the program.
 ghost use Rattle.std.specs.Prelude.{◌≡◌, ◌<◌, ◌↔◌, All, IfOk, IfSome, IsTrue, OnOk, false, length};
-ghost use Rattle.lk_types.specs.Building.{CanComplete, IsLonger, IsPartOfObjects, types_of};
+ghost use Rattle.lk_types.specs.Building.{CanComplete, IsPartOfObjects, types_of};
 ghost use Rattle.lk_types.specs.Sizes.{fields_size, is_too_large};
 ghost use Rattle.lk_types.specs.Table.{IsKnown, is_empty, is_open};
+ghost use Rattle.lk_join.specs.Completing.{AreCompleted, GivesMembers, IsCompleted};
 
 use crate::forms::Source;
 use lk_base::{MOST_TYPE_STEPS, NoMemory};
@@ -48,8 +49,14 @@ fn element_of(types: &TypeTable, t: TypeId) -> Option<TypeId>
 }
 
 /// Whether a struct of a table has members; `false` where the table has no such struct.
-fn has_members(table: &TypeTable, s: u32) -> bool {
-    s < table.structs() && !table.members(s).is_empty()
+fn has_members(table: &TypeTable, s: u32) -> bool
+    ensures { IsTrue result ↔ (is_open table.now s ≡ false) }
+{
+    let count = table.structs();
+    if s >= count {
+        return false;
+    }
+    !is_open(table, s)
 }
 
 /// Whether a struct of a table has no members yet.
@@ -94,7 +101,9 @@ impl Source<'_> {
     /// come: it has none yet, and their types are complete, as they are in the source.
     fn give_members(&self, row: &[TypeId], s: u32, table: &mut TypeTable) -> Result<(), NoMemory>
         requires { s < length self.now.types.now.members }
-        ensures { OnOk result (IsLonger table.old table.new) }
+        ensures gives { OnOk result
+            (GivesMembers self.now.types.now row.now self.now.structs.now table.old table.new) }
+        ensures completed { OnOk result (IsCompleted self.now.types.now self.now.structs.now table.new s) }
     {
         let here = self.struct_here(s)?;
         let members = self.members_here(row, s)?;
@@ -105,43 +114,46 @@ impl Source<'_> {
         Ok(())
     }
 
-    /// The struct that a type of the source is, where the source completes it and the program has no members of it yet.
-    fn to_complete(&self, t: TypeId, table: &TypeTable) -> Result<Option<u32>, NoMemory>
-        ensures { IfOk result (λ found. IfSome found (λ s. s < length self.now.types.now.members)) }
+    /// Whether the program has members of a struct of the source, or the source has none.
+    fn is_completed(&self, s: u32, table: &TypeTable) -> Result<bool, NoMemory>
+        requires { s < length self.now.types.now.members }
+        ensures { IfOk result (λ done.
+            IsTrue done → IsCompleted self.now.types.now self.now.structs.now table.now s) }
     {
-        let s = match struct_of(self.types, t) {
-            Some(s) => s,
-            None => return Ok(None),
-        };
         let here = self.struct_here(s)?;
-        if self.types.members(s).is_empty() || has_members(table, here) {
-            return Ok(None);
+        if is_open(self.types, s) {
+            return Ok(true);
         }
-        Ok(Some(s))
+        Ok(has_members(table, here))
     }
 
-    /// Completes the struct in the program that a type of the source is, where the source completes it, and before it those
-    /// that it holds by value. At most `steps` structs stand in one another: `NoMemory` beyond, which doesn't come within the
-    /// bounds of types.
+    /// Completes a struct in the program, where the source completes it, and before it those that it holds by value. At
+    /// most `steps` structs stand in one another: `NoMemory` beyond, which doesn't come within the bounds of types.
     fn complete(
         &self,
         row: &[TypeId],
-        t: TypeId,
+        s: u32,
         steps: u32,
         table: &mut TypeTable,
     ) -> Result<(), NoMemory>
-        ensures { OnOk result (IsLonger table.old table.new) }
+        requires { s < length self.now.types.now.members }
+        ensures gives { OnOk result
+            (GivesMembers self.now.types.now row.now self.now.structs.now table.old table.new) }
+        ensures completed { OnOk result (IsCompleted self.now.types.now self.now.structs.now table.new s) }
     {
-        let found = self.to_complete(t, table)?;
-        let s = match found {
-            Some(s) => s,
-            None => return Ok(()),
-        };
+        let done = self.is_completed(s, table)?;
+        if done {
+            return Ok(());
+        }
         if steps == 0 {
             return Err(NoMemory);
         }
         for member in self.types.members(s) {
-            self.complete(row, member.ty, steps - 1, table)?;
+            let inside = match struct_of(self.types, member.ty) {
+                Some(inside) => inside,
+                None => continue,
+            };
+            self.complete(row, inside, steps - 1, table)?;
         }
         self.give_members(row, s, table)?;
         Ok(())
@@ -156,22 +168,30 @@ impl Source<'_> {
         table: &mut TypeTable,
     ) -> Result<(), NoMemory>
         requires { IsKnown self.now.types.now t }
-        ensures { OnOk result (IsLonger table.old table.new) }
+        ensures { OnOk result
+            (GivesMembers self.now.types.now row.now self.now.structs.now table.old table.new) }
     {
         let element = match element_of(self.types, t) {
             Some(element) => element,
             None => return Ok(()),
         };
-        self.complete(row, element, MOST_TYPE_STEPS, table)?;
+        let s = match struct_of(self.types, element) {
+            Some(s) => s,
+            None => return Ok(()),
+        };
+        self.complete(row, s, MOST_TYPE_STEPS, table)?;
         Ok(())
     }
 
-    /// Completes the structs in the program that types of the source are and that the source completes.
+    /// Completes the structs in the program that the source completes.
     pub(crate) fn complete_all(&self, row: &[TypeId], table: &mut TypeTable) -> Result<(), NoMemory>
-        ensures { OnOk result (IsLonger table.old table.new) }
+        ensures gives { OnOk result
+            (GivesMembers self.now.types.now row.now self.now.structs.now table.old table.new) }
+        ensures completed { OnOk result (AreCompleted self.now.types.now self.now.structs.now table.new
+            (length self.now.types.now.members)) }
     {
-        for t in 0..self.types.count() {
-            self.complete(row, TypeId(t), MOST_TYPE_STEPS, table)?;
+        for s in 0..self.types.structs() {
+            self.complete(row, s, MOST_TYPE_STEPS, table)?;
         }
         Ok(())
     }

@@ -1,9 +1,9 @@
 //! The program that sources make together.
 ghost use Rattle.std.specs.Prelude.{◌≡◌, ◌<◌, ◌^◌, [], IfErr, IfOk, Some, length};
 ghost use Rattle.lk_join.specs.Entities.{AreEntityRows};
-ghost use Rattle.lk_join.specs.Program.{HasMainAt, HasTypes, IsFault, IsLinked, no_main, refusal_of};
+ghost use Rattle.lk_join.specs.Program.{HasMainAt, IsFault, IsLinked, no_main, refusal_of};
 ghost use Rattle.lk_join.specs.Sources.{AreLinked, AreTypesOf};
-ghost use Rattle.lk_link.specs.Joining.{AreEntities, units_of};
+ghost use Rattle.lk_join.specs.Joining.{IsJoined};
 ghost use Rattle.lk_link.specs.Sources.{AreSources};
 
 use crate::entities::{Joined, join_entities};
@@ -118,10 +118,7 @@ fn whole_of(
     requires entities { AreEntityRows units.items types.rows.items joined.rows.items joined.entities
         (length units.items) }
     requires main_at { HasMainAt joined.entities joined.main }
-    ensures sources { IfOk result (λ whole. units_of whole ≡ units.items) }
-    ensures types { IfOk result (HasTypes units.items) }
-    ensures entities { IfOk result AreEntities }
-    ensures main_at { IfOk result (λ whole. HasMainAt whole.entities whole.main) }
+    ensures { IfOk result (λ whole. IsJoined whole units.items) }
 {
     let Types { table, rows } = types;
     let Joined {
@@ -142,10 +139,7 @@ fn whole_of(
 fn join(alloc: Global, units: Vec<TypedUnit>) -> Result<Whole, NoMemory>
     requires sources { AreSources units.items }
     requires few { length units.items < 2 ^ 32 }
-    ensures sources { IfOk result (λ whole. units_of whole ≡ units.items) }
-    ensures types { IfOk result (HasTypes units.items) }
-    ensures entities { IfOk result AreEntities }
-    ensures main_at { IfOk result (λ whole. HasMainAt whole.entities whole.main) }
+    ensures { IfOk result (λ whole. IsJoined whole units.items) }
 {
     let types = types_of(alloc, units.as_slice())?;
     let joined = join_entities(alloc, units.as_slice(), types.rows.as_slice())?;

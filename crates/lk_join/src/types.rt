@@ -1,7 +1,8 @@
 //! The program's table of types, made of those of the sources.
 ghost use Rattle.std.specs.Prelude.{◌≡◌, ◌≤◌, ◌+◌, All, IfOk, OnOk, Some, length, slice_get};
+ghost use Rattle.lk_join.specs.Completing.{AreCompleted, AreOpen, GivesMembers, HasMembers, HaveSameMembers};
 ghost use Rattle.lk_join.specs.Forms.{ArePutAt, AreRowsOf, HasPointer, IsPutAt, KeepsPointers};
-ghost use Rattle.lk_types.specs.Building.{IsLonger};
+ghost use Rattle.lk_types.specs.Building.{IsLonger, IsTable};
 ghost use Rattle.lk_types.specs.Table.{IsKnown, type_at};
 
 use crate::forms::Source;
@@ -23,19 +24,24 @@ pub(crate) struct Types {
 fn put(table: &mut TypeTable, form: CType) -> Result<TypeId, NoMemory>
     ensures known { IfOk result (λ t. slice_get table.new.types t ≡ Some form) }
     ensures longer { OnOk result (IsLonger table.old table.new) }
+    ensures members { OnOk result (table.new.members ≡ table.old.members) }
 {
     if !table.is_form(&form) || table.count() == u32::MAX {
         return Err(NoMemory);
     }
     match table.form_size(&form) {
-        Some(_) => table.put(form),
+        Some(_) => {
+            let t = table.put(form)?;
+            Ok(t)
+        }
         None => Err(NoMemory),
     }
 }
 
 /// Begins so many structs in a table. `NoMemory` over 32 bits.
 fn begin_structs(structs: usize, table: &mut TypeTable) -> Result<(), NoMemory>
-    ensures { OnOk result (length table.new.members ≡ length table.old.members + structs) }
+    ensures count { OnOk result (length table.new.members ≡ length table.old.members + structs) }
+    ensures same { OnOk result (HaveSameMembers table.old table.new) }
 {
     for _begun in 0..structs {
         if table.structs() == u32::MAX {
@@ -51,7 +57,8 @@ impl Source<'_> {
     fn put_type(&self, row: &[TypeId], t: TypeId, table: &mut TypeTable) -> Result<TypeId, NoMemory>
         requires { IsKnown self.now.types.now t }
         ensures put { IfOk result (IsPutAt table.new row.now self.now.structs.now (type_at self.now.types.now t)) }
-        ensures longer { OnOk result (IsLonger table.old table.new) }
+        ensures gives { OnOk result
+            (GivesMembers self.now.types.now row.now self.now.structs.now table.old table.new) }
     {
         self.complete_element(row, t, table)?;
         let form = self.form_here(row, self.types.get(t))?;
@@ -62,7 +69,8 @@ impl Source<'_> {
     /// Puts the types of the source to the program's. Answers their numbers there.
     fn put_types(&self, table: &mut TypeTable) -> Result<Vec<TypeId>, NoMemory>
         ensures put { IfOk result (λ row. ArePutAt table.new row.items self.now.structs.now self.now.types.now.types) }
-        ensures longer { OnOk result (IsLonger table.old table.new) }
+        ensures gives { IfOk result (λ row.
+            GivesMembers self.now.types.now row.items self.now.structs.now table.old table.new) }
     {
         let mut row = Vec::new(self.alloc);
         for t in 0..self.types.count() {
@@ -75,7 +83,10 @@ impl Source<'_> {
     /// Puts the types of the source to the program's, and completes there what it completes. Answers the types' numbers.
     fn join(&self, table: &mut TypeTable) -> Result<Seq<TypeId>, NoMemory>
         ensures put { IfOk result (λ row. ArePutAt table.new row self.now.structs.now self.now.types.now.types) }
-        ensures longer { OnOk result (IsLonger table.old table.new) }
+        ensures gives { IfOk result (λ row.
+            GivesMembers self.now.types.now row self.now.structs.now table.old table.new) }
+        ensures completed { OnOk result (AreCompleted self.now.types.now self.now.structs.now table.new
+            (length self.now.types.now.members)) }
     {
         let row = self.put_types(table)?;
         self.complete_all(row.as_slice(), table)?;
@@ -129,7 +140,9 @@ fn join_rows(
     numbers: &Numbers,
     table: &mut TypeTable,
 ) -> Result<Vec<Seq<TypeId>>, NoMemory>
+    requires { AreOpen table.old }
     ensures put { IfOk result (λ rows. AreRowsOf units.now numbers.now.rows table.new rows.items (length units.now)) }
+    ensures members { IfOk result (λ rows. HasMembers units.now numbers.now.rows rows.items table.new) }
     ensures longer { OnOk result (IsLonger table.old table.new) }
 {
     let mut rows = Vec::new(alloc);
@@ -169,11 +182,15 @@ pub(crate) fn join_types(
     ensures structs { IfOk result (λ types. numbers.now.count ≤ length types.table.members) }
     ensures put { IfOk result (λ types.
         AreRowsOf units.now numbers.now.rows types.table types.rows.items (length units.now)) }
+    ensures members { IfOk result (λ types.
+        HasMembers units.now numbers.now.rows types.rows.items types.table) }
     ensures pointers { IfOk result (λ types. All (All (HasPointer types.table)) types.rows.items) }
+    ensures table { IfOk result (λ types. IsTable types.table) }
 {
     let mut table = TypeTable::new(alloc)?;
     begin_structs(numbers.count, &mut table)?;
     let rows = join_rows(alloc, units, numbers, &mut table)?;
     put_all_pointers(rows.as_slice(), &mut table)?;
+    table.is_table();
     Ok(Types { table, rows })
 }

@@ -3,7 +3,6 @@ pub mod Clashes
 pub mod Comparing
 pub mod Differing
 pub mod First
-pub mod Joining
 pub mod Library
 pub mod LibraryTypes
 pub mod Pairs

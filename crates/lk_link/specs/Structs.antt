@@ -123,11 +123,6 @@ module _ (units : Units) where
   abbrev pub IsNoDifference : StructPair → Type 0
   IsNoDifference pair = (pair.first ≡ pair.second) ⊎ ((pairs : List StructPair) × AreKept pairs × IsAmong pairs pair)
 
-  -- a chain of such pairs: these structs are one in the program
-  pub data AreOneStruct (r : StructOf) : StructOf → Type 0 where
-    same : AreOneStruct r r
-    next : {q s : StructOf} → AreOneStruct r q → (IsNoDifference (record { first = q; second = s }) ⊎ IsNoDifference (record { first = s; second = q })) → AreOneStruct r s
-
   -- two types are one but for absent sizes of arrays: what two declarations of a name are asked
   abbrev pub AreDeclaredAlike : TypeOf → TypeOf → Type 0
   AreDeclaredAlike t u = (pairs : List StructPair) × AreKept pairs × AreOneTypes pairs SameOrAbsent t u

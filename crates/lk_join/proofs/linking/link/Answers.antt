@@ -14,12 +14,8 @@ returns-in-Some-clause-err c =
 pub returns-in_ok-whole-in-None-clause-ok : goal.returns-in_ok-whole-in-None-clause-ok
 returns-in_ok-whole-in-None-clause-ok c =
     let units = c.args.units.items in
-    let whole = c.in_ok-whole-in-None.ensures in
     record {
       has_main = main_there units c.as_slice.result.now c.as_slice.ensures.value c.has_main.result c.has_main.ensures c.if-not-has_main.false;
       no_clash = nothing_clashes units c.as_slice-2.result.now c.as_slice-2.ensures.value c.args.externs.now c.in_ok-clash.field-0 c.in_ok-clash.ensures c.in-None.is;
-      sources = whole.sources;
-      types = whole.types;
-      entities = whole.entities;
-      main_at = whole.main_at;
+      joined = c.in_ok-whole-in-None.ensures;
     }

@@ -1,12 +1,21 @@
 use Rattle.lk_join.proofs.Joined.{are_entities}
-use Rattle.lk_join.proofs.Typing.{has_types}
+use Rattle.lk_join.proofs.Typing.{are_types}
 use Rattle.lk_join.proofs.linking.whole_of.Goals as goal
 
-pub returns-clause-sources : goal.returns-clause-sources
-returns-clause-sources c = c.in_ok-sources.ensures.units_are
-
-pub returns-clause-types : goal.returns-clause-types
-returns-clause-types c = has_types _ c.args.units.items c.args.types.rows.items c.args.joined.rows.items c.in_ok-sources.ensures c.requires.types
-
-pub returns-clause-entities : goal.returns-clause-entities
-returns-clause-entities c = are_entities _ c.args.units.items c.args.types.rows.items c.args.joined.rows.items c.in_ok-sources.ensures c.requires.entities
+pub returns : goal.returns
+returns c =
+    let units = c.args.units.items in
+    let types = c.args.types.rows.items in
+    let numbers = c.args.joined.rows.items in
+    let linked = c.in_ok-sources.ensures in
+    let main = c.requires.main_at in
+    record {
+      sources = linked.units_are;
+      types = are_types _ units types numbers linked c.requires.types;
+      entities = are_entities _ units types numbers linked c.requires.entities;
+      main_ = main.entity;
+      main_is = main.at;
+      named = main.is.named;
+      external = main.is.external;
+      is_function = main.is.is_function;
+    }

@@ -1,8 +1,24 @@
-use Rattle.lk_join.proofs.Growing.{longer_same, longer_then}
+use Rattle.std.proofs.Common.{◌≡◌, arith, length, subst}
+use Rattle.lk_join.specs.Completing.{AreCompleted}
+use Rattle.lk_join.proofs.Completed.{completed_more, gives_same, gives_then}
 use Rattle.lk_join.proofs.forms.Source.complete_all.Goals as goal
 
-pub loop-t-init : goal.loop-t-init
-loop-t-init c = longer_same c.args.table.now
+pub loop-s-init : goal.loop-s-init
+loop-s-init c = (gives_same c.args.self.now.types.now c.args.self.now.structs.now c.args.row.now c.args.table.now, λ a less. absurd (omega (arith, less)))
 
-pub loop-t-preserved : goal.loop-t-preserved
-loop-t-preserved c = longer_then c.args.table.now c.loop-t.table c.complete.new.table c.loop-t.invariant c.in_ok-complete.ensures
+pub loop-s-preserved : goal.loop-s-preserved
+loop-s-preserved c =
+    let types = c.args.self.now.types.now in
+    let structs = c.args.self.now.structs.now in
+    let before = c.loop-s.table in
+    let after = c.complete.new.table in
+    let gives = c.in_ok-complete.ensures.gives in (
+      gives_then types structs c.args.row.now c.args.table.now before after c.loop-s.invariant.0 gives,
+      completed_more types structs before after gives.longer c.loop-s.s c.loop-s.invariant.1 c.in_ok-complete.ensures.completed,
+    )
+
+pub returns-clause-completed : goal.returns-clause-completed
+returns-clause-completed c =
+    let types = c.args.self.now.types.now in
+    let whole : c.loop-s.s ≡ length types.members = omega arith in
+    subst (AreCompleted types c.args.self.now.structs.now c.loop-s.table) whole c.loop-s.invariant.1

@@ -1,5 +1,6 @@
-use Rattle.lk_types.specs.Building.{IsLonger}
+use Rattle.lk_join.specs.Completing.{AreCompleted, GivesMembers}
 use Rattle.lk_join.proofs.forms.Source.complete_all.Given as goal
 
-abbrev pub invariant-loop-t : goal.invariant-loop-t
-invariant-loop-t l = IsLonger l.fn.table l.table
+-- the first structs are completed
+abbrev pub invariant-loop-s : goal.invariant-loop-s
+invariant-loop-s l = GivesMembers l.self.types.now l.row l.self.structs.now l.fn.table l.table × AreCompleted l.self.types.now l.self.structs.now l.table l.s

@@ -1,5 +1,8 @@
-use Rattle.lk_join.proofs.Growing.{longer_same}
+use Rattle.lk_join.proofs.Completed.{gives_same}
 use Rattle.lk_join.proofs.forms.Source.complete_element.Goals as goal
 
 pub returns-in-None : goal.returns-in-None
-returns-in-None c = longer_same c.args.table.now
+returns-in-None c = gives_same c.args.self.now.types.now c.args.self.now.structs.now c.args.row.now c.args.table.now
+
+pub returns-in-None-struct_of : goal.returns-in-None-struct_of
+returns-in-None-struct_of c = gives_same c.args.self.now.types.now c.args.self.now.structs.now c.args.row.now c.args.table.now

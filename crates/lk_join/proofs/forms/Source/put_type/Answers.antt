@@ -2,7 +2,7 @@ use Rattle.std.proofs.Common.{ap, sym, subst}
 use Rattle.std.specs.Prelude.{unwrap_or}
 use Rattle.lk_types.specs.declared.c_type.CType.TheVariants.{Void}
 use Rattle.lk_join.specs.Forms.{HasForm}
-use Rattle.lk_join.proofs.Growing.{longer_then}
+use Rattle.lk_join.proofs.Completed.{gives_then, gives_unchanged}
 use Rattle.lk_join.proofs.forms.Source.put_type.Goals as goal
 
 pub returns-clause-put : goal.returns-clause-put
@@ -12,5 +12,12 @@ returns-clause-put c = record {
   is = subst (λ form. HasForm c.args.row.now c.args.self.now.structs.now form c.in_ok-form.form) (sym (ap (λ o. unwrap_or o Void) c.get.ensures.value)) c.in_ok-form.ensures;
 }
 
-pub returns-clause-longer : goal.returns-clause-longer
-returns-clause-longer c = longer_then c.args.table.now c.complete_element.new.table c.put.new.table c.in_ok-complete_element.ensures c.in_ok-here.ensures.longer
+pub returns-clause-gives : goal.returns-clause-gives
+returns-clause-gives c =
+    let types = c.args.self.now.types.now in
+    let structs = c.args.self.now.structs.now in
+    let row = c.args.row.now in
+    let before = c.complete_element.new.table in
+    let after = c.put.new.table in
+    gives_then types structs row c.args.table.now before after c.in_ok-complete_element.ensures
+    (gives_unchanged types structs row before after c.in_ok-here.ensures.longer c.in_ok-here.ensures.members)

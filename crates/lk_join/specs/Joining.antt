@@ -3,7 +3,7 @@ use Rattle.std.specs.Prelude.{◌≡◌, ◌↔◌, ◌<◌, ◌⊎◌, ℕ, Boo
 use Rattle.std.specs.List.{AllZip}
 use Rattle.lk_base.specs.declared.kind.Kind.{Kind}
 use Rattle.lk_link.specs.Sources.{Units, IsStruct, IsEntity, IsDefinition, ComesBefore}
-use Rattle.lk_link.specs.Structs.{Becomes, AreOneStruct, members_in, types_in, struct_in}
+use Rattle.lk_link.specs.Structs.{Becomes, members_in, types_in, struct_in}
 use Rattle.lk_link.specs.declared.place.StructOf.{StructOf}
 use Rattle.lk_typed.specs.declared.entity.Entity.{Entity}
 use Rattle.lk_typed.specs.declared.entity.EntityKind.TheVariants.{Function}
@@ -16,6 +16,7 @@ use Rattle.lk_types.specs.Table.{members_of}
 use Rattle.lk_types.specs.declared.c_type.CType.{CType}
 use Rattle.lk_types.specs.declared.c_type.CType.TheVariants.{Void, Int, ThreadId, Mutex, Cond, Pointer, Array, Struct, Function as FunctionType, Opaque}
 use Rattle.lk_types.specs.declared.member.StructMember.{StructMember}
+use Rattle.lk_join.specs.Classes.{AreOneStruct}
 
 module _ (whole : Whole) where
   abbrev pub units_of : Units
