@@ -1,0 +1,14 @@
+pub mod Declared
+pub mod Expressions
+pub mod Folds
+pub mod Initialisers
+pub mod Laid
+pub mod Lists
+pub mod Names
+pub mod Sources
+pub mod Statements
+pub mod Structs
+pub mod Adding
+pub mod Trees
+pub mod Bodies
+pub mod Environments

@@ -1,0 +1,5 @@
+use Rattle.lk_nodes.proofs.Sources as lemma
+use Rattle.lk_nodes.proofs.laws.lists_are_told_apart.Goals as goal
+
+pub returns : goal.returns
+returns c = lemma.lists_are_told_apart
