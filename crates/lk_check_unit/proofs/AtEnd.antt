@@ -33,7 +33,7 @@ pub record AreLeft (c0 c : Checker) (all left : List Pending) : Type 0 where
   pub on : (at_end : Env) → IsIn c0 at_end → (last : Kept) → KeepsAll at_end (kept_in c) [] (pending_codes c0.types at_end left) last → KeepsAll at_end (kept_in c0) [] (pending_codes c0.types at_end all) last
 
 pub all_left : (c : Checker) (all : List Pending) → AreKnownPending c.types all → AreLeft c c all all
-all_left c all known = record { same = record { types = refl; names = refl; outside = refl }; known = known; on = λ at_end is_in last kept. kept }
+all_left c all known = record { same = record { types = refl; names = refl; outside = refl; records = refl }; known = known; on = λ at_end is_in last kept. kept }
 
 pub next_known : (c0 c : Checker) (all left rest : List Pending) (p : Pending) → left ≡ p ∷ rest → AreLeft c0 c all left → IsKnown c.types p.ty
 next_known c0 c all left rest p is were = subst (λ t. IsKnown t p.ty) (sym were.same.types) (subst (AreKnownPending c0.types) is were.known).0

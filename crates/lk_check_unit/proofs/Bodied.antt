@@ -1,5 +1,5 @@
 -- Bodies of functions, in whose outermost blocks the parameters stand, and definitions.
-use Rattle.std.proofs.Common.{◌≡◌, ◌∙◌, ◌++◌, ◌↔◌, true, false, List, [], ◌∷◌, Option, Some, None, refl, sym, ap, subst}
+use Rattle.std.proofs.Common.{◌≡◌, ◌∙◌, ◌++◌, ◌↔◌, true, false, List, [], ◌∷◌, Option, Some, None, refl, sym, ap, subst, append_assoc}
 use Rattle.std.proofs.lemmas.List.{append-nil}
 use Rattle.std.specs.Option.{option_map}
 use Rattle.std.specs.Prelude.{slice_get}
@@ -12,6 +12,8 @@ use Rattle.lk_types.specs.Building.{IsLonger}
 use Rattle.lk_types.specs.Table.{Table}
 use Rattle.lk_typed.specs.DeclarationRules.{AtFile, Defined}
 use Rattle.lk_typed.specs.Declarations.{named_additions}
+use Rattle.lk_typed.specs.Entities.{DeclaresName, NameDeclared}
+use Rattle.lk_typed.specs.Entities.DeclaresName.{by_definition}
 use Rattle.lk_typed.specs.Env.{Env, Additions, both, enter, extend, past_scope}
 use Rattle.lk_typed.specs.Expressions.{declarator_found}
 use Rattle.lk_typed.specs.Labels.{labels}
@@ -29,20 +31,24 @@ use Rattle.lk_names.specs.declared.names.Mark.{Mark}
 use Rattle.lk_rules.proofs.Kept.{none_broken}
 use Rattle.lk_rules.proofs.Parts.{definitions_are_asked}
 use Rattle.lk_rules.specs.Keeping.{IsBroken, KeepsNodes}
-use Rattle.lk_check_walk.proofs.States.{extend_both, longer_then}
+use Rattle.lk_check_walk.specs.Truth.{IsBegunAmong}
+use Rattle.lk_check_walk.proofs.States.{extend_both, longer_then, longer_same}
+use Rattle.lk_check_walk.proofs.Truth.{truth_behind, truth_still}
 use Rattle.lk_check_walk.specs.Declarators.{scope_told}
 use Rattle.lk_check_walk.specs.Keepings.{KeepsAll, codes_at}
 use Rattle.lk_check_walk.specs.Walking.{IsFurther}
 use Rattle.lk_check_walk.specs.Walks.{IsIn, Walks, kept_in}
 use Rattle.lk_check_walk.specs.declared.checker.Checker.{Checker}
 use Rattle.lk_check_unit.specs.Bodies.{IsAround, IsRound, Passes, WalksItems, items_told}
-use Rattle.lk_check_unit.specs.Definitions.{DeclaresParameters, EntersBody, Heads, IsHeaded, WalksBody, WalksDefinition, behind_specifiers, in_body_of, specifiers_of, type_defined}
+use Rattle.lk_check_unit.specs.Definitions.{DeclaresParameters, EntersBody, Heads, IsFunctionName, IsHeaded, WalksBody, WalksDefinition, behind_specifiers, in_body_of, specifiers_of, type_defined}
+use Rattle.lk_check_unit.specs.Later.{TellsNamingOf}
 use Rattle.lk_check_unit.specs.Scoping.{Enters, IsBeside, Leaves}
 use Rattle.lk_check_unit.specs.declared.body.Body.{Body}
 use Rattle.lk_check_unit.specs.declared.definitions.Headed.{Headed}
 use Rattle.lk_check_unit.proofs.Declares.{false_true}
 use Rattle.lk_check_unit.proofs.Items.{same_adds}
 use Rattle.lk_check_unit.proofs.Later.{node_closed, nodes_alone, nodes_first, nothing_left}
+use Rattle.lk_check_unit.proofs.NamesTold.{naming_then, truth_of_names}
 use Rattle.lk_check_unit.proofs.Walking.{extends_by_nothing}
 
 -- ---- items in turn
@@ -66,6 +72,7 @@ beside_then a b c p q =
       types = q.types ∙ p.types;
       outside = q.outside ∙ p.outside;
       kept = q.kept ∙ p.kept;
+      records = q.records ∙ p.records;
       structs = q.structs ∙ p.structs;
       sound = λ sound. q.sound (p.sound sound);
     }
@@ -81,7 +88,7 @@ body_entered c0 c1 c2 parameters mark enters declares =
 pub nothing_declared : (c : Checker) → DeclaresParameters c c None
 nothing_declared c =
     record {
-      beside = record { types = refl; outside = refl; kept = refl; structs = refl; sound = λ sound. sound };
+      beside = record { types = refl; outside = refl; kept = refl; records = refl; structs = refl; sound = λ sound. sound };
       adds = λ env is_in. subst (IsIn c) (extends_by_nothing env) is_in;
     }
 
@@ -107,6 +114,8 @@ module _ (c0 c1 c2 c3 : Checker) (s : Stmt) (headed : Headed) (before behind : B
         behind = subst (λ a. IsIn c3 (extend env a)) past_is (leaves.left env (both ps added) (enters.marks env plain.is_in) left);
         keeps =
             subst (KeepsNodes at_end (kept_in c0) nodes) (sym leaves.beside.kept) (subst (λ k. KeepsNodes at_end k nodes (kept_in c2)) enters.beside.kept p.walks.keeps);
+        records = truth_behind at_end c0 c1 c3 nodes enters.beside.records
+            (truth_still at_end c1 c2 c3 nodes p.walks.sound.ready.table_is (subst (IsLonger c2.types) (sym leaves.beside.types) (longer_same c2.types)) leaves.beside.records p.walks.records);
       }
     where
       ps : Additions
@@ -145,6 +154,10 @@ module _ (c0 c1 c2 c3 : Checker) (s : Stmt) (headed : Headed) (before behind : B
 
 -- ---- a definition
 
+defines_name : (env : Env) (node : Function) (name : NameDeclared) → IsFunctionName env node name → DeclaresName env (ADefinition node) name
+defines_name env node name h =
+    subst (λ s. DeclaresName env (ADefinition node) (record { is = name.is; spot = s; type = name.type })) (sym h.spot) (by_definition h.has_name h.found h.type)
+
 pub definition_walked : (c0 c1 c2 : Checker) (node : Function) (headed : Headed) → Heads node c0 c1 headed → IsFurther c0 c1 → WalksBody node.body c1 c2 headed → WalksDefinition node c0 c2
 definition_walked c0 c1 c2 node headed heads further body at_end env plain =
     record {
@@ -154,6 +167,9 @@ definition_walked c0 c1 c2 node headed heads further body at_end env plain =
       begun = λ n is. w.begun n (further.begun n is);
       behind = subst (IsIn c2) env_is w.behind;
       keeps = nodes_alone at_end (kept_in c0) (kept_in c2) (at env (ADefinition node) ∷ []) (node_closed at_end env (ADefinition node) false hidden (kept_in c0) (kept_in c2) [] [] kept);
+      records = truth_of_names (IsBegunAmong false env node.specifiers) (IsFunctionName env node) at_end c0 c2 env (ADefinition node) refl (defines_name env node) (λ s tag own. own)
+          (subst (TellsNamingOf (IsBegunAmong false env node.specifiers) (IsFunctionName env node) at_end c0 c2) (append_assoc specs (d ∷ []) nodes)
+          (naming_then (IsBegunAmong false env node.specifiers) (IsFunctionName env node) at_end c0 c1 c2 (specs ++ d ∷ []) nodes further.sound.ready.table_is w.longer h.records w.records));
     }
   where
     h : IsHeaded at_end env c0 c1 node headed

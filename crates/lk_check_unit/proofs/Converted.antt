@@ -66,6 +66,7 @@ module _ (old new : Checker) (e : Expr) (target : Option ℕ) (stands : Stands) 
         behind = in_plain new env type (expression e (to_result env type)).adds plain.role walk.behind;
         begun = walk.begun;
         keeps = walk.keeps;
+        records = walk.records;
       })
 
   pub converted_found : IsConvertedFound e target old new.types found

@@ -3,6 +3,7 @@ use Rattle.std.proofs.Common.{◌≡◌, ◌∙◌, ◌++◌, ◌↔◌, ◌⊎�
 use Rattle.std.specs.Prelude.{◌||◌, IfSome, is_some, slice_get, if◌then◌else◌}
 use Rattle.std.specs.Option.{option_map}
 use Rattle.std.proofs.lemmas.List.{append-nil}
+use Rattle.lk_base.specs.declared.spot.Spot.{Spot}
 use Rattle.lk_tree.specs.declared.declaration.Declare.{Declare}
 use Rattle.lk_tree.specs.declared.declaration.Init.{Init}
 use Rattle.lk_tree.specs.declared.declaration.InitDeclarator.{InitDeclarator}
@@ -12,9 +13,11 @@ use Rattle.lk_types.specs.Building.{IsLonger, IsTable}
 use Rattle.lk_types.specs.Table.{IsKnown, Table}
 use Rattle.lk_typed.specs.DeclarationRules as rule
 use Rattle.lk_typed.specs.DeclarationRules.{InBlock, InDeclaration, is_static_object, type_in}
-use Rattle.lk_typed.specs.Declarations.{completed, declarator_adds, declarators_add, elements_given, given_by, initialiser_adds, is_alone, may_lack_size, name_adds, named_additions, type_of_name}
+use Rattle.lk_typed.specs.Declarations.{completed, composite_type, declarator_adds, declarators_add, declared_as, elements_given, given_by, initialiser_adds, is_alone, may_lack_size, name_adds, named_additions, type_of_name}
 use Rattle.lk_typed.specs.DeclaratorRules.{of_type}
-use Rattle.lk_typed.specs.Env.{Env, Additions, both, extend, nothing}
+use Rattle.lk_typed.specs.Entities as entities
+use Rattle.lk_typed.specs.Entities.{NameDeclared, StandsAmong}
+use Rattle.lk_typed.specs.Env.{Env, Additions, both, extend, look_up, nothing}
 use Rattle.lk_typed.specs.Expressions.{declarator_found, specifiers_found}
 use Rattle.lk_typed.specs.Faults.{Breach}
 use Rattle.lk_typed.specs.HolderRules.{declaration_rules}
@@ -39,7 +42,9 @@ use Rattle.lk_check_decl.specs.declared.initialisers.Target.{Target}
 use Rattle.lk_check_decl.specs.declared.words.Given.{Given}
 use Rattle.lk_check_decl.specs.declared.words.Scope.{Scope}
 use Rattle.lk_check_decl.specs.declared.words.Scope.TheVariants.{File, Block}
+use Rattle.lk_check_walk.specs.Truth.{IsBegunAmong, NoTag}
 use Rattle.lk_check_walk.proofs.States.{extend_both, longer_same, longer_then}
+use Rattle.lk_check_walk.proofs.Truth.{truth_same, truth_then}
 use Rattle.lk_check_walk.specs.Declarators.{FindsDeclarator, IsDeclared, codes_of_use, left_of, name_codes, use_codes}
 use Rattle.lk_check_walk.specs.Keepings.{Codes, KeepsAll, codes_at}
 use Rattle.lk_check_walk.specs.Specified.{breaches_in}
@@ -52,13 +57,14 @@ use Rattle.lk_check_walk.specs.declared.declarators.DeclaratorFound.{DeclaratorF
 use Rattle.lk_check_walk.specs.declared.found.At.{At}
 use Rattle.lk_check_walk.specs.declared.gathered.Specified.{Specified}
 use Rattle.lk_check_unit.specs.Bodies.{IsPlain, WalksDeclaration}
-use Rattle.lk_check_unit.specs.Declaring.{DeclaresName, KeepsBut, PutsTypes, WaitsIn, listed}
-use Rattle.lk_check_unit.specs.InitDeclarators.{DeclaresAll, DeclaresOne, FindsName, HidesCodes, IsToldBy, NameIsFound, PutsPending, WalksNode}
+use Rattle.lk_check_unit.specs.Declaring.{DeclaresName, KeepsBut, PutsDeclared, PutsTypes, WaitsIn, listed, type_recorded}
+use Rattle.lk_check_unit.specs.InitDeclarators.{DeclaresAll, DeclaresOne, FindsName, HidesCodes, IsNamedAmong, IsToldBy, NameIsFound, PutsIfNamed, PutsPending, WalksNode}
 use Rattle.lk_check_unit.specs.Initialising.{object_for}
-use Rattle.lk_check_unit.specs.Later.{AreKnownPending, WalksBut, pending_codes, pending_rules}
+use Rattle.lk_check_unit.specs.Later.{AreKnownPending, TellsNaming, WalksBut, WalksNaming, pending_codes, pending_rules}
 use Rattle.lk_check_unit.specs.declared.declared.NameFound.{NameFound}
 use Rattle.lk_check_unit.specs.declared.pending.Pending.{Pending}
 use Rattle.lk_check_unit.proofs.Later.{codes_first, codes_turned, codes_turned_back, no_codes, node_closed, nodes_alone, nodes_first, nothing_left}
+use Rattle.lk_check_unit.proofs.NamesTold.{found_behind, naming_both, naming_first, naming_none, naming_put_if_named, naming_still, naming_then, not_defined, truth_of_names}
 use Rattle.lk_check_unit.proofs.Naming.{in_puts, pendings_stay, type_stays}
 use Rattle.lk_check_unit.proofs.Walking.{extends_by_nothing, is_in_as, sound_as}
 
@@ -130,6 +136,7 @@ record OneFound (at_end env : Env) (c0 c2 c3 : Checker) (scope : Scope) (told : 
   pub hides : (hidden ≡ true) ↔ IsBroken at_end (those_without_type (initialiser_part (scope_of scope) told env d))
   pub keeps : (others : List Placed) (more : List Codes) (last : Kept) → KeepsAll at_end (kept_in c3) others (pending_codes c2.types at_end (listed found.pending) ++ more) last →
       KeepsAll at_end (kept_in c0) ((at env (ADeclarator (declared_left (scope_of scope) told at_end env d) d.declarator) ∷ initialiser_part (scope_of scope) told env d) ++ others) more last
+  pub declares : TellsNaming (IsNamedAmong (scope_of scope) told env (d ∷ [])) at_end c0 c2 (at env (ADeclarator (declared_left (scope_of scope) told at_end env d) d.declarator) ∷ [])
 
 known_listed : (old new : Table) → IsTable old → IsLonger old new → (p : Option Pending) → AreKnownPending old (listed p) → AreKnownPending new (listed p)
 known_listed old new good longer None known = known
@@ -140,14 +147,45 @@ module _ (c0 c1 c2 c3 : Checker) (scope : Scope) (specified : Specified) (d : In
     (finds : FindsDeclarator c0 c1 specified.ty d.declarator asked declared) (names : FindsName c1 c2 scope specified.storages.items d declared.ty found)
     (target_is : (table : Table) → object_for table target ≡ object_of (option_map (meaning table) found.ty) static) (static_is : static ≡ is_static_object (scope_of scope) specified.storages.items)
     (hides : HidesCodes c2 c3 target d.init hidden) where
-  one_found : (at_end env : Env) (told : SpecifierTold) → IsPlain c0 env → IsToldBy c0.types specified told → OneFound at_end env c0 c2 c3 scope told d found hidden
-  one_found at_end env told plain is = record { walks = walks; hides = hid; keeps = one_kept at_end env c0 c1 c2 c3 scope told.storages left d asked.may_be_absent found target hidden kept_so named walks }
+  one_found : (at_end env : Env) (told : SpecifierTold) → IsPlain c0 env → IsToldBy c0.types specified told → IsTable c1.types → IsLonger c1.types c2.types → OneFound at_end env c0 c2 c3 scope told d found hidden
+  one_found at_end env told plain is good longer =
+      record {
+        walks = walks;
+        hides = hid;
+        keeps = one_kept at_end env c0 c1 c2 c3 scope told.storages left d asked.may_be_absent found target hidden kept_so named walks;
+        declares =
+            let given = declared_left (scope_of scope) told at_end env d in
+            naming_put_if_named NoTag (IsNamedAmong (scope_of scope) told env (d ∷ [])) at_end c0 c1 c2 (at env (ADeclarator given d.declarator) ∷ []) (declarator_found d.declarator).name
+            (λ (n : Named). declared_as here (scope_of scope) told.storages (given_by d.init) d.init n.name n.ordinal made) (type_declared (scope_of scope) told env d) good longer (decl.records given) named.puts own_name;
+      }
     where
       left : Option Ty
       left = type_in InDeclaration told
 
       here : Env
       here = extend env ((declarator_found d.declarator).additions env)
+
+      made : Option Ty
+      made = type_made env (may_lack_size told.storages d.init) left (declarator_found d.declarator)
+
+      own_name : (n : Named) → (declarator_found d.declarator).name ≡ Some n → (ty : Ty) → type_declared (scope_of scope) told env d ≡ Some ty →
+          (spot : Spot) × IsNamedAmong (scope_of scope) told env (d ∷ []) (record { is = declared_as here (scope_of scope) told.storages (given_by d.init) d.init n.name n.ordinal made; spot = spot; type = ty })
+      own_name n has_name ty type = (
+        n.spot,
+        record {
+          here = env;
+          d = d;
+          among = entities.StandsAmong.first;
+          named = n;
+          has_name = has_name;
+          found =
+              let a = (declarator_found d.declarator).additions env in
+              let is = declared_as here (scope_of scope) told.storages (given_by d.init) d.init n.name n.ordinal made in
+              ap (λ o. look_up (extend env (both a (named_additions here (scope_of scope) told.storages (given_by d.init) d.init o made))) n.name) has_name ∙ found_behind env a is;
+          spot = refl;
+          type = type;
+        },
+      )
 
       decl : IsDeclared at_end c0 c1 env specified.ty d.declarator asked declared
       decl = finds at_end env (plain_stands c0 env asked size plain)
@@ -206,7 +244,7 @@ module _ (c0 c1 c2 c3 : Checker) (scope : Scope) (specified : Specified) (d : In
       record {
         puts = record { fresh = listed found.pending; are = are; known = known_listed c2.types c3.types sound2.ready.table_is longer found.pending known; none = λ block. ap listed (none block) };
         walks = λ at_end env told plain is.
-            let f = one_found at_end env told plain is in
+            let f = one_found at_end env told plain is further1.sound.ready.table_is further2.longer in
             let na = name_adds (scope_of scope) told env d in
             record {
               longer = longer_then c0.types c1.types c3.types further1.longer (longer_then c1.types c2.types c3.types further2.longer longer);
@@ -217,8 +255,10 @@ module _ (c0 c1 c2 c3 : Checker) (scope : Scope) (specified : Specified) (d : In
               keeps = λ others more last kept.
                   f.keeps others more last
                   (subst (λ cs. KeepsAll at_end (kept_in c3) others (cs ++ more) last) (pendings_stay c2.types c3.types sound2.ready.table_is longer at_end (listed found.pending) known) kept);
+              records = naming_then NoTag (IsNamedAmong (scope_of scope) told env (d ∷ [])) at_end c0 c2 c3 (at env (ADeclarator (declared_left (scope_of scope) told at_end env d) d.declarator) ∷ [])
+                  (initialiser_part (scope_of scope) told env d) sound2.ready.table_is longer f.declares f.walks.records;
             };
-        hides = λ at_end env told plain is. (one_found at_end env told plain is).hides;
+        hides = λ at_end env told plain is. (one_found at_end env told plain is further1.sound.ready.table_is further2.longer).hides;
       }
 
 -- ---- walks one after the other
@@ -235,6 +275,7 @@ but_then at_end a b c env x y ps qs cs ds p q =
       keeps = λ others more last kept.
           subst (λ rs. KeepsAll at_end (kept_in a) rs more last) (sym (append_assoc ps qs others))
           (p.keeps (qs ++ others) more last (q.keeps others (cs ++ more) last (codes_turned at_end (kept_in c) last others cs ds more kept)));
+      records = truth_then at_end a b c ps qs p.sound.ready.table_is q.longer p.records q.records;
     }
 
 pub but_none : (at_end : Env) (c : Checker) (env : Env) → IsSound c → IsIn c env → WalksBut at_end c c env nothing [] []
@@ -246,7 +287,55 @@ but_none at_end c env sound is_in =
       begun = λ s is. is;
       behind = subst (IsIn c) (extends_by_nothing env) is_in;
       keeps = λ others more last kept. kept;
+      records = truth_same at_end c c refl;
     }
+
+-- the same where names are declared between the nodes
+naming_walks_then : (One Two Own : NameDeclared → Type 0) (at_end : Env) (a b c : Checker) (env : Env) (x y : Additions) (ps qs : List Placed) (cs ds : List Codes) →
+    ((name : NameDeclared) → One name → Own name) → ((name : NameDeclared) → Two name → Own name) → WalksNaming One at_end a b env x ps cs → WalksNaming Two at_end b c (extend env x) y qs ds →
+    WalksNaming Own at_end a c env (both x y) (ps ++ qs) (cs ++ ds)
+naming_walks_then One Two Own at_end a b c env x y ps qs cs ds of_one of_two p q =
+    record {
+      longer = longer_then a.types b.types c.types p.longer q.longer;
+      sound = q.sound;
+      outside = q.outside ∙ p.outside;
+      begun = λ s is. q.begun s (p.begun s is);
+      behind = subst (IsIn c) (extend_both env x y) q.behind;
+      keeps = λ others more last kept.
+          subst (λ rs. KeepsAll at_end (kept_in a) rs more last) (sym (append_assoc ps qs others))
+          (p.keeps (qs ++ others) more last (q.keeps others (cs ++ more) last (codes_turned at_end (kept_in c) last others cs ds more kept)));
+      records = naming_both NoTag One Two Own at_end a b c ps qs p.sound.ready.table_is q.longer of_one of_two p.records q.records;
+    }
+
+naming_walks_none : (Own : NameDeclared → Type 0) (at_end : Env) (c : Checker) (env : Env) → IsSound c → IsIn c env → WalksNaming Own at_end c c env nothing [] []
+naming_walks_none Own at_end c env sound is_in =
+    record {
+      longer = longer_same c.types;
+      sound = sound;
+      outside = refl;
+      begun = λ s is. is;
+      behind = subst (IsIn c) (extends_by_nothing env) is_in;
+      keeps = λ others more last kept. kept;
+      records = naming_none NoTag Own at_end c c [] (truth_same at_end c c refl);
+    }
+
+-- one of the declarators, and one behind the first
+among_one : {scope : rule.Scope} {told : SpecifierTold} {env here : Env} {d e : InitDeclarator} (ds : List InitDeclarator) → StandsAmong scope told env (d ∷ []) here e → StandsAmong scope told env (d ∷ ds) here e
+among_one ds entities.StandsAmong.first = entities.StandsAmong.first
+among_one ds (entities.StandsAmong.later never) = absurd (among_none never)
+  where
+    among_none : {scope : rule.Scope} {told : SpecifierTold} {env here : Env} {e : InitDeclarator} → StandsAmong scope told env [] here e → ⊥
+    among_none never = elim never [ ]
+
+named_one : (scope : rule.Scope) (told : SpecifierTold) (env : Env) (d : InitDeclarator) (ds : List InitDeclarator) (name : NameDeclared) → IsNamedAmong scope told env (d ∷ []) name →
+    IsNamedAmong scope told env (d ∷ ds) name
+named_one scope told env d ds name h =
+    record { here = h.here; d = h.d; among = among_one ds h.among; named = h.named; has_name = h.has_name; found = h.found; spot = h.spot; type = h.type }
+
+named_later : (scope : rule.Scope) (told : SpecifierTold) (env : Env) (d : InitDeclarator) (ds : List InitDeclarator) (name : NameDeclared) →
+    IsNamedAmong scope told (extend env (declarator_adds scope told env d)) ds name → IsNamedAmong scope told env (d ∷ ds) name
+named_later scope told env d ds name h =
+    record { here = h.here; d = h.d; among = entities.StandsAmong.later h.among; named = h.named; has_name = h.has_name; found = h.found; spot = h.spot; type = h.type }
 
 -- ---- all declarators
 
@@ -259,8 +348,10 @@ type_still old new specified told sound longer known is =
 pub record DeclaratorsLeft (at_end env : Env) (c0 c : Checker) (scope : Scope) (told : SpecifierTold) (fresh : List Pending) (so_far : Bool) (all left : List InitDeclarator) : Type 0 where
   pub here : Env
   pub plain : IsPlain c here
-  pub on : (new : Checker) (cs : List Codes) → WalksBut at_end c new here (declarators_add (scope_of scope) told here left) (declarators_in_turn at_end (scope_of scope) told here left) cs →
-      WalksBut at_end c0 new env (declarators_add (scope_of scope) told env all) (declarators_in_turn at_end (scope_of scope) told env all) (pending_codes c.types at_end fresh ++ cs)
+  pub on : (new : Checker) (cs : List Codes) →
+      WalksNaming (IsNamedAmong (scope_of scope) told here left) at_end c new here (declarators_add (scope_of scope) told here left) (declarators_in_turn at_end (scope_of scope) told here left) cs →
+      WalksNaming (IsNamedAmong (scope_of scope) told env all) at_end c0 new env (declarators_add (scope_of scope) told env all) (declarators_in_turn at_end (scope_of scope) told env all)
+      (pending_codes c.types at_end fresh ++ cs)
   pub hides : ((so_far ≡ true) ⊎ IsBroken at_end (those_without_type (initialisers_in_turn (scope_of scope) told here left))) ↔
       IsBroken at_end (those_without_type (initialisers_in_turn (scope_of scope) told env all))
 
@@ -326,13 +417,14 @@ one_less c0 c c1 scope specified before now after so_far hidden all left rest d 
             here = there;
             plain = record { is_in = w.behind; role = old.plain.role; in_size = old.plain.in_size };
             on = λ new cs more.
-                subst (λ ds. WalksBut at_end c0 new env (declarators_add (scope_of scope) told env all) (declarators_in_turn at_end (scope_of scope) told env all) ds)
+                subst (λ ds. WalksNaming (IsNamedAmong (scope_of scope) told env all) at_end c0 new env (declarators_add (scope_of scope) told env all) (declarators_in_turn at_end (scope_of scope) told env all) ds)
                 (sym (append_assoc (pending_codes c.types at_end were.puts.fresh) (pending_codes c1.types at_end one.puts.fresh) cs) ∙
                 ap (λ ds. ds ++ cs) (ap (λ ds. ds ++ pending_codes c1.types at_end one.puts.fresh) (sym (pendings_stay c.types c1.types sound.ready.table_is longer at_end were.puts.fresh were.puts.known)) ∙
                 sym (pending_both c1.types at_end were.puts.fresh one.puts.fresh)))
                 (old.on new (pending_codes c1.types at_end one.puts.fresh ++ cs)
-                (subst (λ ds. WalksBut at_end c new here (declarators_add (scope_of scope) told here ds) (declarators_in_turn at_end (scope_of scope) told here ds) (pending_codes c1.types at_end one.puts.fresh ++ cs)) (sym is)
-                (but_then at_end c c1 new here (declarator_adds (scope_of scope) told here d) (declarators_add (scope_of scope) told there rest) parts others (pending_codes c1.types at_end one.puts.fresh) cs w more)));
+                (subst (λ ds. WalksNaming (IsNamedAmong (scope_of scope) told here ds) at_end c new here (declarators_add (scope_of scope) told here ds) (declarators_in_turn at_end (scope_of scope) told here ds)
+                (pending_codes c1.types at_end one.puts.fresh ++ cs)) (sym is)
+                (naming_walks_then (IsNamedAmong (scope_of scope) told here (d ∷ [])) (IsNamedAmong (scope_of scope) told there rest) (IsNamedAmong (scope_of scope) told here (d ∷ rest)) at_end c c1 new here (declarator_adds (scope_of scope) told here d) (declarators_add (scope_of scope) told there rest) parts others (pending_codes c1.types at_end one.puts.fresh) cs (named_one (scope_of scope) told here d rest) (named_later (scope_of scope) told here d rest) w more)));
             hides =
                 hidden_more (or_true so_far hidden) (one.hides at_end here told old.plain told_here)
                 (subst (λ ps. (IsBroken at_end (those_without_type part) ⊎ IsBroken at_end (those_without_type (initialisers_in_turn (scope_of scope) told there rest))) ↔ IsBroken at_end ps)
@@ -368,10 +460,10 @@ none_left c0 c scope specified before now so_far all left sound is were =
       puts = were.puts;
       walks = λ at_end env told plain told_is.
           let old = were.rest at_end env told plain told_is in
-          subst (λ cs. WalksBut at_end c0 c env (declarators_add (scope_of scope) told env all) (declarators_in_turn at_end (scope_of scope) told env all) cs) (append-nil (pending_codes c.types at_end were.puts.fresh))
+          subst (λ cs. WalksNaming (IsNamedAmong (scope_of scope) told env all) at_end c0 c env (declarators_add (scope_of scope) told env all) (declarators_in_turn at_end (scope_of scope) told env all) cs) (append-nil (pending_codes c.types at_end were.puts.fresh))
           (old.on c []
-          (subst (λ ds. WalksBut at_end c c old.here (declarators_add (scope_of scope) told old.here ds) (declarators_in_turn at_end (scope_of scope) told old.here ds) []) (sym is)
-          (but_none at_end c old.here sound old.plain.is_in)));
+          (subst (λ ds. WalksNaming (IsNamedAmong (scope_of scope) told old.here ds) at_end c c old.here (declarators_add (scope_of scope) told old.here ds) (declarators_in_turn at_end (scope_of scope) told old.here ds) []) (sym is)
+          (naming_walks_none (IsNamedAmong (scope_of scope) told old.here []) at_end c old.here sound old.plain.is_in)));
       hides = λ at_end env told plain told_is.
           let old = were.rest at_end env told plain told_is in
           by at_end (subst (λ ds. ((so_far ≡ true) ⊎ IsBroken at_end (those_without_type (initialisers_in_turn (scope_of scope) told old.here ds))) ↔
@@ -386,6 +478,13 @@ none_left c0 c scope specified before now so_far all left sound is were =
         back (inr h) = absurd (none_broken at_end h)
 
 -- ---- a declaration
+
+declares_name : (scope : rule.Scope) (env : Env) (node : Declare) (name : NameDeclared) →
+    IsNamedAmong scope (specifiers_found node.specifiers env (is_alone node.declarators)) (extend env (specifiers_found node.specifiers env (is_alone node.declarators)).additions) node.declarators name →
+    entities.DeclaresName env (ADeclaration scope node) name
+declares_name scope env node name h =
+    subst (λ s. entities.DeclaresName env (ADeclaration scope node) (record { is = name.is; spot = s; type = name.type })) (sym h.spot)
+    (entities.DeclaresName.in_declaration {env' = h.here} {d = h.d} {named = h.named} h.among h.has_name h.found h.type)
 
 pub node_walked : (c0 c1 c2 c3 : Checker) (scope : Scope) (node : Declare) (specified : Specified) (before after : List Pending) (hidden : Bool) (place : At) → mark_at place ≡ mark node.spot node.ordinal →
     Specifies c0 c1 InDeclaration (is_alone node.declarators) false node.specifiers specified → IsFurther c0 c1 → DeclaresAll c1 c2 scope specified node.declarators before after hidden →
@@ -423,6 +522,9 @@ node_walked c0 c1 c2 c3 scope node specified before after hidden place marks spe
                 (kept_in c0) last others more
                 (subst (λ rs. KeepsAll at_end (kept_in c0) rs (codes_at m cs ∷ more) last) (sym (append_assoc specs ds others))
                 (nodes_first at_end (kept_in c0) (kept_in c1) last specs (ds ++ others) (codes_at m cs ∷ more) sp.walks.keeps (w.keeps others (codes_at m cs ∷ more) last k2)));
+            records = truth_of_names (IsBegunAmong alone env node.specifiers) (IsNamedAmong (scope_of scope) S env1 node.declarators) at_end c0 c3 env (ADeclaration (scope_of scope) node) refl (declares_name (scope_of scope) env node) (λ s tag own. own)
+                (naming_still (IsBegunAmong alone env node.specifiers) (IsNamedAmong (scope_of scope) S env1 node.declarators) at_end c0 c2 c3 (specs ++ ds) w.sound.ready.table_is (subst (IsLonger c2.types) (sym same.types) (longer_same c2.types)) same.records
+                (naming_first (IsBegunAmong alone env node.specifiers) (IsNamedAmong (scope_of scope) S env1 node.declarators) at_end c0 c1 c2 specs ds sp.walks.sound.ready.table_is w.longer sp.walks.records w.records));
           };
     }
 
@@ -439,6 +541,7 @@ walked_in_block c0 c1 node after walks at_end env plain =
       keeps =
           nodes_alone at_end (kept_in c0) (kept_in c1) (at env (ADeclaration InBlock node) ∷ [])
           (w.keeps [] [] (kept_in c1) (subst (λ ps. KeepsAll at_end (kept_in c1) [] (pending_codes c1.types at_end ps ++ []) (kept_in c1)) (sym (walks.puts.none refl)) (nothing_left at_end (kept_in c1))));
+      records = w.records;
     }
 
 -- ---- the name of a declarator
@@ -448,6 +551,7 @@ record NameHolds (at_end : Env) (old new : Checker) (env : Env) (scope : Scope) 
   pub type : option_map (meaning new.types) found.ty ≡ completed init (type_of_name env (scope_of scope) ss name t)
   pub behind : IsIn new (extend env (named_additions env (scope_of scope) ss given init name t))
   pub keeps : KeepsBut at_end old new found.pending (name_codes env t (Declares (scope_of scope) ss given (elements_given init (type_of_name env (scope_of scope) ss name t)) at_end) name)
+  pub puts : PutsIfNamed old new name (λ named. declared_as env (scope_of scope) ss given init named.name named.ordinal t) (completed init (type_of_name env (scope_of scope) ss name t))
 
 finds_so : (at_end : Env) (old new : Checker) (env : Env) (scope : Scope) (ss : List Storage) (d : InitDeclarator) (t : Option Ty) (found : NameFound) (name : Option Named) (given : rule.Given) →
     name ≡ (declarator_found d.declarator).name → given ≡ given_by d.init → NameHolds at_end old new env scope ss d.init t found name given → NameIsFound at_end old new env scope ss d t found
@@ -455,13 +559,17 @@ finds_so at_end old new env scope ss d t found name given name_is given_is holds
     let h =
     subst (λ g. NameHolds at_end old new env scope ss d.init t found (declarator_found d.declarator).name g) given_is
     (subst (λ n. NameHolds at_end old new env scope ss d.init t found n given) name_is holds) in
-    record { type = h.type; behind = h.behind; keeps = h.keeps }
+    record { type = h.type; behind = h.behind; keeps = h.keeps; puts = h.puts }
 
 pub name_found : (old new : Checker) (scope : Scope) (ss : List Storage) (given : Given) (d : InitDeclarator) (t : Option ℕ) (found : NameFound) (named : Named) →
     Some named ≡ (declarator_found d.declarator).name → given_of given ≡ given_by d.init → DeclaresName old new scope ss given named t d.init found → FindsName old new scope ss d t found
 name_found old new scope ss given d t found named name_is given_is declares at_end env is_in =
     let n = declares at_end env is_in in
-    finds_so at_end old new env scope ss d (option_map (meaning old.types) t) found (Some named) (given_of given) name_is given_is (record { type = n.type; behind = n.behind; keeps = n.keeps })
+    let T = option_map (meaning old.types) t in
+    let whole = completed d.init (composite_type env (scope_of scope) ss named.name T) in
+    let puts =
+    subst (PutsDeclared old new (declared_as env (scope_of scope) ss (given_of given) d.init named.name named.ordinal T)) (ap (λ g. type_recorded g T whole) given_is ∙ not_defined d.init T whole) n.puts in
+    finds_so at_end old new env scope ss d T found (Some named) (given_of given) name_is given_is (record { type = n.type; behind = n.behind; keeps = n.keeps; puts = puts })
 
 pub no_name_found : (old new : Checker) (scope : Scope) (ss : List Storage) (d : InitDeclarator) (t ty : Option ℕ) → IsSound old → None ≡ (declarator_found d.declarator).name → PutsTypes old new →
     option_map (meaning new.types) ty ≡ completed d.init (option_map (meaning old.types) t) → FindsName old new scope ss d t (record { ty = ty; pending = None })
@@ -471,6 +579,7 @@ no_name_found old new scope ss d t ty sound name_is puts is at_end env is_in =
       type = is;
       behind = subst (IsIn new) (extends_by_nothing env) (in_puts old new sound puts env is_in);
       keeps = λ others more last kept. subst (λ k. KeepsAll at_end k others more last) puts.grows.kept kept;
+      puts = puts.grows.records;
     })
 
 -- ---- what waits

@@ -62,8 +62,9 @@ function_named old new ss named t found waits declares at_end env is_in =
           subst (λ k. KeepsAll at_end (kept_in old) others (codes_at (mark named.spot named.ordinal) (name_use_rules env T named.name (Declares AtFile ss Defined k at_end)) ∷ more) last)
           (no_elements (composite_type env AtFile ss named.name T))
           (n.keeps others more last (subst (λ p. KeepsAll at_end (kept_in new) others (pending_codes new.types at_end (listed p) ++ more) last) (sym (nothing_waits new.types found.pending waits)) kept));
+      puts = n.puts;
     }
 
 pub nothing_named : (checker : Checker) (ss : List Storage) (t : Option ℕ) → DefinesName checker checker ss None t
 nothing_named checker ss t at_end env is_in =
-    record { behind = subst (IsIn checker) (extends_by_nothing env) is_in; keeps = λ others more last kept. kept }
+    record { behind = subst (IsIn checker) (extends_by_nothing env) is_in; keeps = λ others more last kept. kept; puts = refl }

@@ -387,7 +387,7 @@ stated s c0 c1 c2 b0 b1 code form tells at_end env around round =
     subst (λ t. Passes at_end c0 c2 b1 env around t (at env (AStatement around s) ∷ [])) as_told
     (record {
       walks =
-          walks_told at_end c0 c1 c2 env env (told_of f s.ordinal env).additions (AStatement around s) refl p.0.walks tells.types tells.names tells.outside
+          walks_told at_end c0 c1 c2 env env (told_of f s.ordinal env).additions (AStatement around s) refl refl p.0.walks tells.types tells.names tells.outside tells.records
           (subst (λ k. KeepsCodes (kept_in c1) (mark_of (AStatement around s)) bs k) (sym tells.kept) (codes_told (kept_in c1) (mark_of (AStatement around s)) (name_told f) bs code (breaches_tell around env s.ordinal f) p.1));
       stands = p.0.stands;
     })

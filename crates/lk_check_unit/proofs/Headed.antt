@@ -1,13 +1,15 @@
 -- The head of a definition: its specifiers, its declarator and its name, with the codes of the definition itself.
-use Rattle.std.proofs.Common.{◌≡◌, ◌∙◌, ◌++◌, ℕ, false, List, [], ◌∷◌, Option, ap, subst, append_assoc}
+use Rattle.std.proofs.Common.{◌≡◌, ◌∙◌, ◌++◌, ℕ, false, List, [], ◌∷◌, Option, Some, None, refl, sym, ap, subst, append_assoc}
 use Rattle.std.specs.Option.{option_map}
 use Rattle.std.specs.Prelude.{IfSome}
 use Rattle.lk_base.specs.declared.spot.Spot.{Spot}
 use Rattle.lk_tree.specs.declared.statement.Function.{Function}
+use Rattle.lk_types.specs.Building.{IsLonger}
 use Rattle.lk_types.specs.Table.{IsKnown}
 use Rattle.lk_typed.specs.DeclarationRules.{AtFile, Defined, InDefinition, definition_rules, type_in}
 use Rattle.lk_typed.specs.DeclaratorRules.{of_type}
-use Rattle.lk_typed.specs.Env.{Env, extend}
+use Rattle.lk_typed.specs.Declarations.{declared_as, named_additions}
+use Rattle.lk_typed.specs.Env.{Env, extend, look_up}
 use Rattle.lk_typed.specs.Expressions.{declarator_found}
 use Rattle.lk_typed.specs.Faults.{Breach}
 use Rattle.lk_typed.specs.HolderRules.{all_specifier_rules}
@@ -15,30 +17,35 @@ use Rattle.lk_typed.specs.Layers.{type_made}
 use Rattle.lk_typed.specs.Meaning.{meaning}
 use Rattle.lk_typed.specs.NodeParts.{defined_left, result_of}
 use Rattle.lk_typed.specs.NodeRules.{mark, struct_bound_rules}
-use Rattle.lk_typed.specs.Nodes.{ADeclarator, Declares, NameUse, Placed, at}
+use Rattle.lk_typed.specs.Nodes.{ADeclarator, Declares, NameUse, Placed, at, Left}
 use Rattle.lk_typed.specs.Parts.{specifiers_parts}
 use Rattle.lk_typed.specs.Stands.{Mark}
-use Rattle.lk_typed.specs.Told.{DeclaratorTold, SpecifierTold}
+use Rattle.lk_typed.specs.Told.{DeclaratorTold, Named, SpecifierTold}
 use Rattle.lk_typed.specs.Ty.{Ty}
 use Rattle.lk_rules.specs.Keeping.{Kept, KeepsCodes}
+use Rattle.lk_check_walk.specs.Truth.{IsBegunAmong, NoTag}
 use Rattle.lk_check_walk.proofs.GoingOn.{scope_known, type_same}
 use Rattle.lk_check_walk.proofs.WalkedForms.{scope_stays}
+use Rattle.lk_check_walk.proofs.Truth.{truth_still, told_still}
+use Rattle.lk_check_walk.proofs.States.{longer_same, longer_then}
 use Rattle.lk_check_walk.specs.Declarators.{FindsDeclarator, IsDeclared, IsKnownFound, codes_of_use, left_of, name_codes}
 use Rattle.lk_check_walk.specs.Keepings.{Codes, KeepsAll, codes_at}
 use Rattle.lk_check_walk.specs.Specified.{breaches_in}
 use Rattle.lk_check_walk.specs.Specifying.{AreSpecified, IsSame, KeepsAt, Specifies}
 use Rattle.lk_check_walk.specs.Walking.{IsFurther}
-use Rattle.lk_check_walk.specs.Walks.{IsSound, kept_in, mark_at}
+use Rattle.lk_check_walk.specs.Walks.{IsSound, kept_in, mark_at, TellsTruth}
 use Rattle.lk_check_walk.specs.declared.checker.Checker.{Checker}
 use Rattle.lk_check_walk.specs.declared.declarators.DeclaratorFound.{DeclaratorFound}
 use Rattle.lk_check_walk.specs.declared.found.At.{At}
 use Rattle.lk_check_walk.specs.declared.gathered.Specified.{Specified}
 use Rattle.lk_check_unit.specs.Bodies.{IsPlain}
-use Rattle.lk_check_unit.specs.Definitions.{FunctionIsNamed, Heads, IsHeaded, IsKnownHeaded, NamesFunction, behind_specifiers, specifiers_of, type_defined}
+use Rattle.lk_check_unit.specs.Definitions.{FunctionIsNamed, Heads, IsFunctionName, IsHeaded, IsKnownHeaded, NamesFunction, behind_specifiers, specifiers_of, type_defined}
+use Rattle.lk_check_unit.specs.Later.{TellsNaming, TellsNamingOf}
 use Rattle.lk_check_unit.specs.declared.definitions.Headed.{Headed}
 use Rattle.lk_check_unit.proofs.Declares.{no_bound, use_is_named}
 use Rattle.lk_check_unit.proofs.Later.{codes_first, codes_joined, codes_turned_back, nodes_first}
-use Rattle.lk_check_unit.proofs.Naming.{in_same}
+use Rattle.lk_check_unit.proofs.NamesTold.{found_alone, naming_first, naming_put_if_named}
+use Rattle.lk_check_unit.proofs.Naming.{in_same, same_sound}
 
 pub marked : (place : At) (s : Spot) (n : ℕ) → place.spot ≡ s → place.ordinal ≡ n → mark_at place ≡ mark s n
 marked place s n p q = ap (λ t. mark t place.ordinal) p ∙ ap (mark s) q
@@ -51,7 +58,7 @@ module _ (c0 c1 c2 c3 c4 c5 : Checker) (node : Function) (specified : Specified)
     (finds : FindsDeclarator c2 c3 specified.ty node.declarator (record { may_be_absent = false; in_size = false }) declared)
     (dots : KeepsAt c3 c4 place (definition_rules (option_map (meaning c3.types) declared.ty))) (same34 : IsSame c3 c4)
     (names : NamesFunction c4 c5 specified.storages.items node.declarator declared.ty)
-    (sound3 : IsSound c3) (further : IsFurther c3 c5) (known : IsKnownFound c3 declared)
+    (sound3 : IsSound c3) (further2 : IsFurther c2 c3) (further : IsFurther c3 c5) (known : IsKnownFound c3 declared)
     (returned_is : option_map (meaning c5.types) returned ≡ result_of (option_map (meaning c5.types) declared.ty)) where
   abbrev headed : Headed
   headed = record { returned = returned; parameters = declared.parameters }
@@ -63,6 +70,7 @@ module _ (c0 c1 c2 c3 c4 c5 : Checker) (node : Function) (specified : Specified)
         returned = returned_is ∙ ap result_of (type_same c3 c5 sound3 further declared.ty known.type ∙ type_is);
         parameters = scope_stays c3 c5 further.longer sound3 further.sound.ready.table_is declared.parameters known.parameters ∙ decl.parameters;
         keeps = keeps;
+        records = told;
       }
     where
       sp : AreSpecified at_end c0 c1 env InDefinition false node.specifiers specified
@@ -109,6 +117,38 @@ module _ (c0 c1 c2 c3 c4 c5 : Checker) (node : Function) (specified : Specified)
 
       kept_so : KeepsSo left
       kept_so = subst KeepsSo left_is (decl.keeps used)
+
+      left_given : Left
+      left_given = defined_left S at_end here node
+
+      own_name : (n : Named) → inner.name ≡ Some n → (ty : Ty) → T ≡ Some ty →
+          (spot : Spot) × IsFunctionName env node (record { is = declared_as after AtFile S.storages Defined None n.name n.ordinal T; spot = spot; type = ty })
+      own_name n has_name ty type = (
+        n.spot,
+        record {
+          named = n;
+          has_name = has_name;
+          found =
+              ap (λ o. look_up (extend after (named_additions after AtFile S.storages Defined None o T)) n.name) has_name ∙
+              found_alone after (declared_as after AtFile S.storages Defined None n.name n.ordinal T);
+          spot = refl;
+          type = type;
+        },
+      )
+
+      -- what is recorded of the specifiers, and of the declarator
+      told : TellsNamingOf (IsBegunAmong false env node.specifiers) (IsFunctionName env node) at_end c0 c5 (specifiers_parts false env node.specifiers ++ at here (ADeclarator left_given node.declarator) ∷ [])
+      told =
+          let one = specifiers_parts false env node.specifiers in
+          let two = at here (ADeclarator left_given node.declarator) ∷ [] in
+          let sound2 = (same_sound c1 c2 same12 sp.walks.sound).ready.table_is in
+          let walked : TellsTruth at_end c2 c4 two =
+          truth_still at_end c2 c3 c4 two sound3.ready.table_is (subst (IsLonger c3.types) (sym same34.types) (longer_same c3.types)) same34.records (decl.records left_given) in
+          let declared_told : TellsNaming (IsFunctionName env node) at_end c2 c5 two =
+          naming_put_if_named NoTag (IsFunctionName env node) at_end c2 c4 c5 two inner.name (λ (n : Named). declared_as after AtFile S.storages Defined None n.name n.ordinal T) T
+          (same_sound c3 c4 same34 sound3).ready.table_is (subst (λ table. IsLonger table c5.types) (sym same34.types) further.longer) walked named.puts own_name in
+          naming_first (IsBegunAmong false env node.specifiers) (IsFunctionName env node) at_end c0 c2 c5 one two sound2 (longer_then c2.types c3.types c5.types further2.longer further.longer)
+          (told_still (IsBegunAmong false env node.specifiers) at_end c0 c1 c2 one sp.walks.sound.ready.table_is (subst (IsLonger c1.types) (sym same12.types) (longer_same c1.types)) same12.records sp.walks.records) declared_told
 
       m : Mark
       m = mark node.spot node.ordinal

@@ -13,7 +13,9 @@ use Rattle.lk_rules.proofs.Kept.{a_watch_tells_faults, none_broken}
 use Rattle.lk_rules.specs.Keeping.{IsBroken, KeepsNodes, seen_by}
 use Rattle.lk_check_decl.specs.declared.initialisers.Target.{Target}
 use Rattle.lk_check_walk.proofs.Walking.{no_walk}
-use Rattle.lk_check_walk.specs.Walks.{IsSound, Walks, kept_in}
+use Rattle.lk_check_walk.proofs.Truth.{truth_behind, truth_still}
+use Rattle.lk_check_walk.proofs.States.{longer_same}
+use Rattle.lk_check_walk.specs.Walks.{IsSound, Walks, kept_in, recorded_in}
 use Rattle.lk_check_walk.specs.declared.checker.Checker.{Checker}
 use Rattle.lk_check_unit.specs.Bodies.{Grows, IsPlain}
 use Rattle.lk_check_unit.specs.InitDeclarators.{HidesCodes}
@@ -70,6 +72,9 @@ outer_hides old watching mid new target init typed before seen watch_is before_i
           behind = is_in_as mid new _ types_are names_are outside_is w.behind;
           begun = λ s is. subst (λ (n : InScope). slice_get n.structs s ≡ Some Begun) (sym names_are) (w.begun s (subst (λ (n : InScope). slice_get n.structs s ≡ Some Begun) (sym (ap (λ (c : Checker). c.names) watch_is)) is));
           keeps = subst (KeepsNodes at_end (kept_in old) (at env (AnInitialiser (object_for watching.types target) init) ∷ [])) kept_is (told at_end env plain).1;
+          records = truth_behind at_end old watching new (at env (AnInitialiser (object_for watching.types target) init) ∷ []) (ap recorded_in watch_is)
+              (truth_still at_end watching mid new (at env (AnInitialiser (object_for watching.types target) init) ∷ []) w.sound.ready.table_is (subst (IsLonger mid.types) (sym types_are) (longer_same mid.types))
+              (ap recorded_in new_is) w.records);
         })
 
     hidden : (at_end env : Env) → IsPlain old env → ((not typed && seen) ≡ true) ↔ IsBroken at_end (those_without_type (at env (AnInitialiser (object_for old.types target) init) ∷ []))

@@ -56,7 +56,7 @@ told_init : (at_end env : Env) (object : Option Object) (init : Init) (a b c : C
     mark_at place ≡ init_mark (out-Init init) → Walks at_end a b env x (parts_of_init object env (out-Init init)) → TellName [] bs → code ≡ told bs →
     codes_of_init object env init ≡ bs → Tells b c place (option_map breach code) → Walks at_end a c env x (nodes.at env (AnInitialiser object init) ∷ [])
 told_init at_end env object init a b c place x bs code marks walks names is codes tells =
-    walks_told at_end a b c env env x (AnInitialiser object init) refl walks tells.types tells.names tells.outside
+    walks_told at_end a b c env env x (AnInitialiser object init) refl refl walks tells.types tells.names tells.outside tells.records
     (subst (λ m. KeepsCodes (kept_in b) m (codes_of_init object env init) (kept_in c)) marks
     (subst (λ cs. KeepsCodes (kept_in b) (mark_at place) cs (kept_in c)) (sym codes)
     (subst (KeepsCodes (kept_in b) (mark_at place) bs) (sym tells.kept) (codes_told (kept_in b) (mark_at place) [] bs code names is))))

@@ -18,6 +18,8 @@ pub mod Headed
 pub mod Heading
 pub mod Hiding
 pub mod Initialised
+pub mod OfKinds
+pub mod NamesTold
 pub mod Initials
 pub mod Items
 pub mod Joined

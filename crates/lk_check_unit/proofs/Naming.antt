@@ -58,10 +58,11 @@ use Rattle.lk_check_walk.specs.Recorded.{Recorded}
 use Rattle.lk_check_walk.specs.Specifying.{IsSame, KeepsAt}
 use Rattle.lk_check_walk.specs.Structs.{AreListed}
 use Rattle.lk_check_walk.specs.Walking.{IsFurther}
-use Rattle.lk_check_walk.specs.Walks.{IsIn, IsSound, Tells, kept_in, mark_at}
+use Rattle.lk_check_walk.specs.Walks.{IsIn, IsSound, Tells, kept_in, mark_at, recorded_in}
 use Rattle.lk_check_walk.specs.declared.checker.Checker.{Checker}
 use Rattle.lk_check_walk.specs.declared.found.At.{At}
-use Rattle.lk_check_unit.specs.Declaring.{AsksComplete, AsksType, DeclaresName, IsHow, IsWaiting, KeepsBut, PutsName, PutsTypes, WaitsIn, complete_rules, declared_by, listed, meant_by}
+use Rattle.lk_check_unit.specs.Declaring.{AsksComplete, AsksType, DeclaresName, IsHow, IsWaiting, KeepsBut, PutsDeclared, PutsName, PutsTypes, WaitsIn, complete_rules, declared_by, listed, meant_by, type_recorded}
+use Rattle.lk_check_unit.proofs.NamesTold.{puts_behind}
 use Rattle.lk_check_unit.specs.Later.{AreKnownPending, pending_codes, pending_rules}
 use Rattle.lk_check_unit.specs.declared.declared.How.{How}
 use Rattle.lk_check_unit.specs.declared.pending.Pending.{Pending}
@@ -126,13 +127,13 @@ one_kept old new place holds kind code is tells =
     subst (KeepsCodes (kept_in old) (mark_at place) (unless holds kind)) (sym tells.kept) (codes_told (kept_in old) (mark_at place) [] (unless holds kind) code (unless_tells holds kind) is)
 
 pub same_told : (old new : Checker) (place : At) (broken : Option Breach) → Tells old new place broken → IsSame old new
-same_told old new place broken tells = record { types = tells.types; names = tells.names; outside = tells.outside }
+same_told old new place broken tells = record { types = tells.types; names = tells.names; outside = tells.outside; records = tells.records }
 
 pub same_itself : (checker : Checker) → IsSame checker checker
-same_itself checker = record { types = refl; names = refl; outside = refl }
+same_itself checker = record { types = refl; names = refl; outside = refl; records = refl }
 
 pub same_then : (a b c : Checker) → IsSame a b → IsSame b c → IsSame a c
-same_then a b c p q = record { types = q.types ∙ p.types; names = q.names ∙ p.names; outside = q.outside ∙ p.outside }
+same_then a b c p q = record { types = q.types ∙ p.types; names = q.names ∙ p.names; outside = q.outside ∙ p.outside; records = q.records ∙ p.records }
 
 -- 21 of a name, where there is one
 pub again_kept : (old new : Checker) (place : At) (name : List ℕ) (code : Option Code) (bs : List Breach) → breaches_told code name ≡ bs →
@@ -183,7 +184,7 @@ no_size_kept checker place t init is =
 
 -- a type without an initialiser stays as it is
 pub puts_none : (checker : Checker) → IsSound checker → PutsTypes checker checker
-puts_none checker sound = record { grows = record { longer = longer_same checker.types; sound = sound; outside = refl; kept = refl }; names = refl }
+puts_none checker sound = record { grows = record { longer = longer_same checker.types; sound = sound; outside = refl; kept = refl; records = refl }; names = refl }
 
 pub sized_none : (init : Option Init) (t : Option Ty) → (init ≡ None) ⊎ (t ≡ None) → t ≡ completed init t
 unfolding most_elements
@@ -299,7 +300,7 @@ pub same_name : {n m : List ℕ} {a b : Meaning} {l k : Linkage} {d e : Defines}
     ◌≡◌ {A = Declared} (record { name = n; meaning = a; linkage = l; defines = d; ordinal = i }) (record { name = m; meaning = b; linkage = k; defines = e; ordinal = j })
 same_name p q r s t = cc
 
-module _ (c0 c1 c2 c3 c4 c5 c6 : Checker) (scope : Scope) (ss : List Storage) (given : Given) (named : Named) (place : At) (t : Option ℕ) (init : Option Init) (how : How) (made whole : Option ℕ)
+module _ (c0 c1 c2 c3 c4 c5 c6 : Checker) (scope : Scope) (ss : List Storage) (given : Given) (named : Named) (place : At) (t : Option ℕ) (init : Option Init) (how : How) (made whole recorded : Option ℕ)
     (declared : CodeDeclared) (pending : Option Pending) where
   pub name_declared : mark_at place ≡ mark named.spot named.ordinal → IsSound c0 → IsSound c4 → IfSome t (IsKnown c0.types) → AreKnownPending c3.types (listed pending) →
       IsLonger c3.types c6.types → IsTable c3.types →
@@ -310,13 +311,20 @@ module _ (c0 c1 c2 c3 c4 c5 c6 : Checker) (scope : Scope) (ss : List Storage) (g
       AsksType c2 c3 ss how named t pending → IsSame c2 c3 →
       KeepsAt c3 c4 place (given_rules (elements_given init (option_map (meaning c3.types) made))) → IsSame c3 c4 →
       PutsTypes c4 c5 → option_map (meaning c5.types) whole ≡ completed init (option_map (meaning c4.types) made) →
-      PutsName c5 c6 (meant_by ss how declared (option_map (meaning c5.types) whole)) →
+      PutsName c5 c6 (meant_by ss how declared (option_map (meaning c5.types) whole)) → option_map (meaning c5.types) t ≡ option_map (meaning c0.types) t →
+      option_map (meaning c5.types) recorded ≡ type_recorded (given_of given) (option_map (meaning c5.types) t) (option_map (meaning c5.types) whole) →
+      PutsDeclared c5 c6 (meant_by ss how declared (option_map (meaning c5.types) whole)) (option_map (meaning c5.types) recorded) →
       DeclaresName c0 c6 scope ss given named t init (record { ty = whole; pending = pending })
-  name_declared marks sound0 sound4 known_t known_pending longer good is puts1 made_is written again same2 asks same3 size same4 puts5 whole_is put at_end env is_in =
+  name_declared marks sound0 sound4 known_t known_pending longer good is puts1 made_is written again same2 asks same3 size same4 puts5 whole_is put still recorded_is records at_end env is_in =
       record {
         type = ap (λ ty. option_map (meaning ty) whole) put.types ∙ whole_told;
         behind = subst (λ d. IsIn c6 (extend env (one_name d))) declared_told (put.names env is5);
         keeps = λ others more last kept. keeps others more last kept;
+        puts = puts_behind c0 c5 c6 (declared_as env (scope_of scope) ss (given_of given) init name named.ordinal T) (type_recorded (given_of given) T (completed init composed))
+            (puts5.grows.records ∙ (same4.records ∙ (same3.records ∙ (same2.records ∙ puts1.grows.records))))
+            (subst (λ d. PutsDeclared c5 c6 d (type_recorded (given_of given) T (completed init composed))) declared_told
+            (subst (PutsDeclared c5 c6 (meant_by ss how declared (option_map (meaning c5.types) whole)))
+            (recorded_is ∙ (ap (λ a. type_recorded (given_of given) a (option_map (meaning c5.types) whole)) still ∙ ap (type_recorded (given_of given) T) whole_told)) records));
       }
     where
       T : Option Ty
@@ -468,3 +476,20 @@ put_so old names d adds =
 -- and something is recorded
 pub put_recorded : (old new : Checker) (r : Recorded) (d : Declared) → PutsName old new d → PutsName old (with_records new r) d
 put_recorded old new r d puts = record { kept = puts.kept; types = puts.types; names = λ env is_in. in_recorded new r _ (puts.names env is_in) }
+
+-- a type stays what it was through the steps of a declaration
+module _ (c0 c1 c2 c3 c4 c5 : Checker) (t : Option ℕ) (sound : IsSound c0) (puts1 : PutsTypes c0 c1) (same2 : IsSame c1 c2) (same3 : IsSame c2 c3) (same4 : IsSame c3 c4) (puts5 : PutsTypes c4 c5)
+    (known : IfSome t (IsKnown c0.types)) where
+  known4 : IfSome t (IsKnown c4.types)
+  known4 = same_known c3 c4 same4 t (same_known c2 c3 same3 t (same_known c1 c2 same2 t (puts_known c0 c1 sound puts1 t known)))
+
+  sound4 : IsSound c4
+  sound4 = same_sound c3 c4 same4 (same_sound c2 c3 same3 (same_sound c1 c2 same2 puts1.grows.sound))
+
+  pub known_unchanged : IfSome t (IsKnown c5.types)
+  known_unchanged = puts_known c4 c5 sound4 puts5 t known4
+
+  pub type_unchanged : option_map (meaning c5.types) t ≡ option_map (meaning c0.types) t
+  type_unchanged =
+      type_stays c4.types c5.types sound4.ready.table_is puts5.grows.longer t known4 ∙ ap (λ ty. option_map (meaning ty) t) same4.types ∙ ap (λ ty. option_map (meaning ty) t) same3.types ∙
+      ap (λ ty. option_map (meaning ty) t) same2.types ∙ type_stays c0.types c1.types sound.ready.table_is puts1.grows.longer t known

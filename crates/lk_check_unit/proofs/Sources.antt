@@ -14,6 +14,7 @@ use Rattle.lk_rules.proofs.Kept.{none_broken}
 use Rattle.lk_rules.specs.Keeping.{IsBroken}
 use Rattle.lk_check_decl.specs.declared.words.Scope.TheVariants.{File}
 use Rattle.lk_check_walk.proofs.States.{extend_both}
+use Rattle.lk_check_walk.proofs.Truth.{truth_of_node}
 use Rattle.lk_check_walk.specs.Keepings.{Codes, KeepsAll, codes_at}
 use Rattle.lk_check_walk.specs.Walks.{IsSound, Walks, kept_in}
 use Rattle.lk_check_walk.specs.declared.checker.Checker.{Checker}
@@ -53,6 +54,7 @@ external_by at_end env old new d later w =
           node_closed at_end env (AnExternal d) false (none_hidden at_end) (kept_in old) last others more
           (subst (λ bs. KeepsAll at_end (kept_in old) (external_part env d ++ others) (codes_at (mark_of (AnExternal d)) bs ∷ more) last) (sym (none_asked at_end env d))
           (no_codes at_end (kept_in old) last (external_part env d ++ others) (mark_of (AnExternal d)) more (w.keeps others more last kept)));
+      records = truth_of_node at_end old new env (AnExternal d) refl w.records;
     }
 
 abbrev nothing_waits : (checker : Checker) (before : List Pending) → PutsPending checker.types File before before
@@ -68,6 +70,7 @@ all_at_once at_end env old new added nodes w =
       begun = w.begun;
       behind = w.behind;
       keeps = λ others more last kept. nodes_first at_end (kept_in old) (kept_in new) last nodes others more w.keeps kept;
+      records = w.records;
     }
 
 pub function_walked : (old new : Checker) (node : Function) (before : List Pending) → WalksDefinition node old new → WalksExternal old new (decl.Function node) before before

@@ -1,5 +1,5 @@
 -- Walks one after the other, in scopes, and round nodes.
-use Rattle.std.proofs.Common.{◌≡◌, ◌∙◌, List, [], ◌∷◌, Some, sym, ap, subst}
+use Rattle.std.proofs.Common.{◌≡◌, ◌∙◌, false, List, [], ◌∷◌, Some, sym, ap, subst}
 use Rattle.std.specs.HashSet.{contains_by}
 use Rattle.std.specs.Prelude.{slice_get}
 use Rattle.lk_types.specs.Building.{IsLonger}
@@ -18,9 +18,11 @@ use Rattle.lk_names.specs.declared.names.Mark.{Mark}
 use Rattle.lk_rules.proofs.Kept.{codes_are_kept_behind_parts}
 use Rattle.lk_rules.specs.Keeping.{KeepsCodes, KeepsNodes}
 use Rattle.lk_check_walk.proofs.Gathers.{both_nothing}
-use Rattle.lk_check_walk.proofs.States.{extend_nothing}
+use Rattle.lk_check_walk.proofs.States.{extend_nothing, longer_same}
+use Rattle.lk_check_walk.proofs.Entries.{is_expression}
+use Rattle.lk_check_walk.proofs.Truth.{truth_behind, truth_of_node, truth_still}
 use Rattle.lk_check_walk.specs.Structs.{AreListed}
-use Rattle.lk_check_walk.specs.Walks.{IsIn, IsSound, Walks, kept_in}
+use Rattle.lk_check_walk.specs.Walks.{IsIn, IsSound, Walks, kept_in, recorded_in}
 use Rattle.lk_check_walk.specs.declared.checker.Checker.{Checker}
 use Rattle.lk_check_unit.specs.Scoping.{Enters, Leaves}
 
@@ -59,10 +61,10 @@ module _ (at_end : Env) where
   walks_end a b env x ps walks = subst (λ y. Walks at_end a b env y ps) (nothing_behind x) walks
 
   -- the nodes in a node, and then its codes
-  pub walks_told : (a b c : Checker) (env own : Env) (x : Additions) (node : Node) → hiding at_end own node ≡ [] →
-      Walks at_end a b env x (parts at_end own node) → c.types ≡ b.types → c.names ≡ b.names → c.outside ≡ b.outside →
+  pub walks_told : (a b c : Checker) (env own : Env) (x : Additions) (node : Node) → is_expression node ≡ false → hiding at_end own node ≡ [] →
+      Walks at_end a b env x (parts at_end own node) → c.types ≡ b.types → c.names ≡ b.names → c.outside ≡ b.outside → recorded_in c ≡ recorded_in b →
       KeepsCodes (kept_in b) (mark_of node) (breaches at_end own node) (kept_in c) → Walks at_end a c env x (at own node ∷ [])
-  walks_told a b c env own x node shown walks types names outside keeps =
+  walks_told a b c env own x node other shown walks types names outside records keeps =
       record {
         longer = subst (IsLonger a.types) (sym types) walks.longer;
         sound = sound_as b c types names walks.sound;
@@ -70,6 +72,8 @@ module _ (at_end : Env) where
         behind = is_in_as b c (extend env x) types names outside walks.behind;
         begun = λ s is. subst (λ (n : InScope). slice_get n.structs s ≡ Some Begun) (sym names) (walks.begun s is);
         keeps = codes_are_kept_behind_parts at_end own node (kept_in a) (kept_in b) (kept_in c) shown walks.keeps keeps;
+        records = truth_of_node at_end a c own node other
+            (truth_still at_end a b c (parts at_end own node) walks.sound.ready.table_is (subst (IsLonger b.types) (sym types) (longer_same b.types)) records walks.records);
       }
 
   -- a walk in a scope of its own
@@ -83,21 +87,24 @@ module _ (at_end : Env) where
         behind = leaves.left env added (enters.marks env is_in) walks.behind;
         begun = λ s is. subst (λ ms. slice_get ms s ≡ Some Begun) (sym leaves.beside.structs) (walks.begun s (subst (λ ms. slice_get ms s ≡ Some Begun) (sym enters.beside.structs) is));
         keeps = subst (KeepsNodes at_end (kept_in old) nodes) (sym leaves.beside.kept) (subst (λ k. KeepsNodes at_end k nodes (kept_in inner)) enters.beside.kept walks.keeps);
+        records = truth_behind at_end old entered new nodes enters.beside.records
+            (truth_still at_end entered inner new nodes walks.sound.ready.table_is (subst (IsLonger inner.types) (sym leaves.beside.types) (longer_same inner.types)) leaves.beside.records walks.records);
       }
 
 -- ---- scopes
 
-pub enters_by : (old new : Checker) (mark : Mark) → new.types ≡ old.types → new.outside ≡ old.outside → kept_in new ≡ kept_in old →
+pub enters_by : (old new : Checker) (mark : Mark) → new.types ≡ old.types → new.outside ≡ old.outside → kept_in new ≡ kept_in old → recorded_in new ≡ recorded_in old →
     new.names.structs ≡ old.names.structs →
     growing.Enters old.names new.names → ((table : Table) (rest : Env) → IsMarkOf mark (env_in table rest old.names)) → ((table : Table) → IsKnownScope table old.names → IsKnownScope table new.names) →
     Enters old new mark
-enters_by old new mark types outside kept structs enters marks known =
+enters_by old new mark types outside kept records structs enters marks known =
     record {
       beside =
           record {
             types = types;
             outside = outside;
             kept = kept;
+            records = records;
             structs = structs;
             sound = λ sound.
                 record {
@@ -116,17 +123,18 @@ enters_by old new mark types outside kept structs enters marks known =
       marks = λ env is_in. subst (IsMarkOf mark) is_in.scope (marks old.types env);
     }
 
-pub leaves_by : (old new : Checker) (mark : Mark) → new.types ≡ old.types → new.outside ≡ old.outside → kept_in new ≡ kept_in old →
+pub leaves_by : (old new : Checker) (mark : Mark) → new.types ≡ old.types → new.outside ≡ old.outside → kept_in new ≡ kept_in old → recorded_in new ≡ recorded_in old →
     new.names.structs ≡ old.names.structs →
     growing.Leaves mark old.names new.names → ((table : Table) → IsKnownScope table old.names → IsKnownScope table new.names) →
     Leaves old new mark
-leaves_by old new mark types outside kept structs leaves known =
+leaves_by old new mark types outside kept records structs leaves known =
     record {
       beside =
           record {
             types = types;
             outside = outside;
             kept = kept;
+            records = records;
             structs = structs;
             sound = λ sound.
                 record {

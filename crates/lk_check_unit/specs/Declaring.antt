@@ -1,12 +1,13 @@
 -- Declared names, in the code and in the words of the rules (C99 6.2.2, 6.7).
-use Rattle.std.specs.Prelude.{ℕ, ◌≡◌, ◌++◌, true, false, Option, Some, None, List, [], ◌∷◌, IfSome}
+use Rattle.std.specs.Prelude.{ℕ, ⊤, ◌≡◌, ◌++◌, true, false, Option, Some, None, List, [], ◌∷◌, IfSome}
 use Rattle.std.specs.Option.{option_map}
 use Rattle.lk_base.specs.declared.code.Code.TheVariants.{Incomplete}
+use Rattle.lk_base.specs.declared.spot.Spot.{Spot}
 use Rattle.lk_tree.specs.declared.declaration.Init.{Init}
 use Rattle.lk_tree.specs.declared.specifiers.Storage.{Storage}
 use Rattle.lk_types.specs.Table.{IsKnown, Table}
 use Rattle.lk_typed.specs.DeclarationRules as rule
-use Rattle.lk_typed.specs.DeclarationRules.{Bare, defines_of, is_complete_object, meaning_of, named_rules, wants_type}
+use Rattle.lk_typed.specs.DeclarationRules.{Bare, Defined, Initialised, defines_of, is_complete_object, meaning_of, named_rules, wants_type}
 use Rattle.lk_typed.specs.Declarations.{completed, composite_type, declared_as, elements_given, is_function_type, one_name, reach_of}
 use Rattle.lk_typed.specs.DeclaratorRules.{of_type, unless}
 use Rattle.lk_typed.specs.Env.{Declared, Env, extend}
@@ -26,9 +27,11 @@ use Rattle.lk_check_decl.specs.declared.words.Scope.TheVariants.{File}
 use Rattle.lk_check_walk.specs.Keepings.{Codes, KeepsAll, codes_at}
 use Rattle.lk_check_walk.specs.Moves.{GoesOn, Grows}
 use Rattle.lk_check_walk.specs.Specifying.{KeepsAt}
-use Rattle.lk_check_walk.specs.Walks.{IsIn, kept_in}
+use Rattle.lk_check_walk.specs.Recorded.{with_declared}
+use Rattle.lk_check_walk.specs.Walks.{IsDeclaredAs, IsIn, kept_in, recorded_in}
 use Rattle.lk_check_walk.specs.declared.checker.Checker.{Checker}
 use Rattle.lk_check_walk.specs.declared.found.At.{At}
+use Rattle.lk_check_walk.specs.declared.records.DeclaredHere.{DeclaredHere}
 use Rattle.lk_check_unit.specs.Later.{pending_codes, pending_rules}
 use Rattle.lk_check_unit.specs.declared.declared.How.{How}
 use Rattle.lk_check_unit.specs.declared.declared.NameFound.{NameFound}
@@ -55,6 +58,23 @@ declared_by ss how named t =
 abbrev pub meant_by : List Storage → How → CodeDeclared → Option Ty → Declared
 meant_by ss how declared t =
     record { name = declared.name; meaning = meaning_of (scope_of how.scope) ss t; linkage = declared.linkage; defines = declared.defines; ordinal = declared.ordinal }
+
+-- a definition of a function is recorded with the type that its declarator makes, each other declaration with the type that its name has behind it
+abbrev pub type_recorded : rule.Given → (made whole : Option Ty) → Option Ty
+type_recorded Bare made whole = whole
+type_recorded Initialised made whole = whole
+type_recorded Defined made whole = made
+
+-- a name of this type is declared as it is recorded, wherever it stands
+abbrev pub IsRecordedAs : Table → Option DeclaredHere → Declared → Option Ty → Type 0
+IsRecordedAs table None d t = ⊤
+IsRecordedAs table (Some here) d t = (ty : Ty) × (t ≡ Some ty) × ((spot : Spot) → IsDeclaredAs table here (record { is = d; spot = spot; type = ty }))
+
+-- it is recorded, where it has a type
+pub record PutsDeclared (old new : Checker) (d : Declared) (t : Option Ty) : Type 0 where
+  pub here : Option DeclaredHere
+  pub same : recorded_in new ≡ with_declared d.ordinal here (recorded_in old)
+  pub is : IsRecordedAs new.types here d t
 
 -- a name is in scope, and no code was kept
 pub record PutsName (old new : Checker) (d : Declared) : Type 0 where
@@ -103,6 +123,8 @@ pub record NameIsDeclared (at_end : Env) (old new : Checker) (env : Env) (scope 
   pub keeps : KeepsBut at_end old new found.pending
       (codes_at (mark named.spot named.ordinal)
       (name_use_rules env t named.name (Declares (scope_of scope) ss (given_of given) (elements_given init (composite_type env (scope_of scope) ss named.name t)) at_end)) ∷ [])
+  pub puts : PutsDeclared old new (declared_as env (scope_of scope) ss (given_of given) init named.name named.ordinal t)
+      (type_recorded (given_of given) t (completed init (composite_type env (scope_of scope) ss named.name t)))
 
 abbrev pub DeclaresName : Checker → Checker → Scope → List Storage → Given → Named → Option ℕ → Option Init → NameFound → Type 0
 DeclaresName old new scope ss given named t init found =

@@ -1,5 +1,5 @@
 -- What a walk over the definition of a function needs, finds and leaves behind (C99 6.9.1).
-use Rattle.std.specs.Prelude.{ℕ, ◌≡◌, ◌++◌, false, Option, None, List, [], ◌∷◌, IfSome, length}
+use Rattle.std.specs.Prelude.{ℕ, ◌≡◌, ◌++◌, false, Option, Some, None, List, [], ◌∷◌, IfSome, length}
 use Rattle.std.specs.Option.{option_map}
 use Rattle.lk_tree.specs.declared.expression.Declarator.{Declarator}
 use Rattle.lk_tree.specs.declared.specifiers.Storage.{Storage}
@@ -9,8 +9,9 @@ use Rattle.lk_tree.specs.declared.statement.Stmt.{Stmt}
 use Rattle.lk_tree.specs.declared.statement.StmtForm.{out-StmtForm}
 use Rattle.lk_types.specs.Table.{IsKnown, Table}
 use Rattle.lk_typed.specs.DeclarationRules.{AtFile, Defined, InDefinition, type_in}
-use Rattle.lk_typed.specs.Declarations.{named_additions}
-use Rattle.lk_typed.specs.Env.{Env, enter, extend, past_scope}
+use Rattle.lk_typed.specs.Declarations.{declared_as, named_additions}
+use Rattle.lk_typed.specs.Entities.{NameDeclared, behind_name, defined_type}
+use Rattle.lk_typed.specs.Env.{Env, enter, extend, look_up, past_scope}
 use Rattle.lk_typed.specs.Expressions.{declarator_found, specifiers_found}
 use Rattle.lk_typed.specs.Labels.{labels}
 use Rattle.lk_typed.specs.Layers.{type_made}
@@ -25,11 +26,14 @@ use Rattle.lk_typed.specs.Ty.{Ty}
 use Rattle.lk_names.specs.Growing.{InLeftScope, IsKnownLeft, IsMarkOf}
 use Rattle.lk_names.specs.declared.names.Mark.{Mark}
 use Rattle.lk_rules.specs.Keeping.{Kept}
+use Rattle.lk_check_walk.specs.Truth.{IsBegunAmong}
 use Rattle.lk_check_walk.specs.Declarators.{name_codes, scope_told}
 use Rattle.lk_check_walk.specs.Keepings.{Codes, KeepsAll, codes_at}
 use Rattle.lk_check_walk.specs.Walks.{IsIn, Walks, kept_in}
 use Rattle.lk_check_walk.specs.declared.checker.Checker.{Checker}
 use Rattle.lk_check_unit.specs.Bodies.{IsPlain}
+use Rattle.lk_check_unit.specs.InitDeclarators.{PutsIfNamed}
+use Rattle.lk_check_unit.specs.Later.{TellsNamingOf}
 use Rattle.lk_check_unit.specs.Scoping.{IsBeside}
 use Rattle.lk_check_unit.specs.declared.definitions.Headed.{Headed}
 
@@ -40,6 +44,7 @@ pub record FunctionIsNamed (at_end : Env) (old new : Checker) (env : Env) (ss : 
   pub behind : IsIn new (extend env (named_additions env AtFile ss Defined None name t))
   pub keeps : (others : List Placed) (more : List Codes) (last : Kept) → KeepsAll at_end (kept_in new) others more last →
       KeepsAll at_end (kept_in old) others (name_codes env t (Declares AtFile ss Defined 0 at_end) name ++ more) last
+  pub puts : PutsIfNamed old new name (λ named. declared_as env AtFile ss Defined None named.name named.ordinal t) t
 
 abbrev pub DefinesName : Checker → Checker → List Storage → Option Named → Option ℕ → Type 0
 DefinesName old new ss name t = (at_end env : Env) → IsIn old env → FunctionIsNamed at_end old new env ss name (option_map (meaning old.types) t)
@@ -60,6 +65,14 @@ behind_specifiers env node = extend env (specifiers_of env node).additions
 abbrev pub type_defined : Env → Function → Option Ty
 type_defined env node = type_made (behind_specifiers env node) false (type_in InDefinition (specifiers_of env node)) (declarator_found node.declarator)
 
+-- the definition declares this name
+pub record IsFunctionName (env : Env) (node : Function) (name : NameDeclared) : Type 0 where
+  pub named : Named
+  pub has_name : (declarator_found node.declarator).name ≡ Some named
+  pub found : look_up (behind_name env node) named.name ≡ Some name.is
+  pub spot : name.spot ≡ named.spot
+  pub type : defined_type env node ≡ Some name.type
+
 -- the codes of the definition itself are kept with those of its head
 pub record IsHeaded (at_end env : Env) (old new : Checker) (node : Function) (headed : Headed) : Type 0 where
   pub behind : IsIn new (behind_declarator (specifiers_of env node) (behind_specifiers env node) node)
@@ -69,6 +82,8 @@ pub record IsHeaded (at_end env : Env) (old new : Checker) (node : Function) (he
       KeepsAll at_end (kept_in new) others more last →
       KeepsAll at_end (kept_in old) (specifiers_parts false env node.specifiers ++ at here (ADeclarator left node.declarator) ∷ others)
       (codes_at (mark node.spot node.ordinal) (rules_of env (ADefinition node)) ∷ more) last
+  pub records : let here = behind_specifiers env node in let left = defined_left (specifiers_of env node) at_end here node in
+      TellsNamingOf (IsBegunAmong false env node.specifiers) (IsFunctionName env node) at_end old new (specifiers_parts false env node.specifiers ++ at here (ADeclarator left node.declarator) ∷ [])
 
 abbrev pub Heads : Function → Checker → Checker → Headed → Type 0
 Heads node old new headed = (at_end env : Env) → IsPlain old env → IsHeaded at_end env old new node headed

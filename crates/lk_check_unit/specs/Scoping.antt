@@ -3,7 +3,7 @@ use Rattle.std.specs.Prelude.{◌≡◌}
 use Rattle.lk_names.specs.Growing.{IsMarkOf}
 use Rattle.lk_names.specs.declared.names.Mark.{Mark}
 use Rattle.lk_typed.specs.Env.{Env, Additions, enter, extend, past_scope}
-use Rattle.lk_check_walk.specs.Walks.{IsIn, IsSound, kept_in}
+use Rattle.lk_check_walk.specs.Walks.{IsIn, IsSound, kept_in, recorded_in}
 use Rattle.lk_check_walk.specs.declared.checker.Checker.{Checker}
 
 -- only names changed
@@ -11,6 +11,7 @@ pub record IsBeside (old new : Checker) : Type 0 where
   pub types : new.types ≡ old.types
   pub outside : new.outside ≡ old.outside
   pub kept : kept_in new ≡ kept_in old
+  pub records : recorded_in new ≡ recorded_in old
   pub structs : new.names.structs ≡ old.names.structs
   pub sound : IsSound old → IsSound new
 

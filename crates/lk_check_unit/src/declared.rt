@@ -1,7 +1,7 @@
 //! Declared names (C99 6.7): their codes are kept, and they stand from the end of their declarators on.
 ghost use Rattle.std.specs.Prelude.{◌≡◌, Some, IfOk, IfSome, OnOk};
 ghost use Rattle.std.specs.Option.{option_map};
-ghost use Rattle.lk_types.specs.Table.{IsKnown};
+ghost use Rattle.lk_types.specs.Table.{IsKnown, Table};
 ghost use Rattle.lk_tree.specs.declared.declaration.Init.{out-Init};
 ghost use Rattle.lk_typed.specs.DeclarationRules.{env_for, wants_type, Bare};
 ghost use Rattle.lk_typed.specs.Declarations as spec;
@@ -20,7 +20,7 @@ ghost use Rattle.lk_check_walk.specs.Walking.{IsFurther};
 ghost use Rattle.lk_check_walk.specs.Walks.{IsIn, IsSound};
 ghost use Rattle.lk_check_unit.specs.Declaring.{complete_rules, declared_by, meant_by, AsksComplete};
 ghost use Rattle.lk_check_unit.specs.Declaring.{AsksType, DeclaresName, IsHow, IsWaiting, PutsName};
-ghost use Rattle.lk_check_unit.specs.Declaring.{PutsTypes, WaitsIn};
+ghost use Rattle.lk_check_unit.specs.Declaring.{PutsDeclared, PutsTypes, WaitsIn, type_recorded};
 
 use crate::entities::{is_function_type, reach_of, type_with_old};
 use crate::pending::Pending;
@@ -366,23 +366,41 @@ fn here(declared: &Declared, t: &Option<TypeId>) -> Option<DeclaredHere>
     }
 }
 
-/// Puts a name in scope, with this type.
+/// The type with which a declaration is recorded: a definition of a function with the one that its declarator makes,
+/// each other one with that of its name behind it.
+fn type_recorded(given: Given, made: Option<TypeId>, whole: Option<TypeId>) -> Option<TypeId>
+    ensures value { (table : Table) → option_map (meaning table) result ≡
+        type_recorded (given_of given) (option_map (meaning table) made) (option_map (meaning table) whole) }
+    ensures known { (table : Table) → IfSome made (IsKnown table) → IfSome whole (IsKnown table) →
+        IfSome result (IsKnown table) }
+{
+    match given {
+        Given::Nothing | Given::Initialiser => whole,
+        Given::Body => made,
+    }
+}
+
+/// Puts a name in scope, with this type, and records its declaration with that one.
 fn put_name(
     checker: &mut Checker,
     words: &[Storage],
     how: &How,
     declared: Declared,
     t: &Option<TypeId>,
+    recorded: &Option<TypeId>,
 ) -> Result<(), NoMemory>
     requires sound { IsSound checker.old }
     requires known { IfSome t.now (IsKnown checker.old.types) }
+    requires recorded { IfSome recorded.now (IsKnown checker.old.types) }
     ensures further { OnOk result (IsFurther checker.old checker.new) }
     ensures puts { OnOk result (PutsName checker.old checker.new (meant_by words.now how.now declared
         (option_map (meaning checker.old.types) t.now))) }
+    ensures records { OnOk result (PutsDeclared checker.old checker.new (meant_by words.now how.now declared
+        (option_map (meaning checker.old.types) t.now)) (option_map (meaning checker.old.types) recorded.now)) }
 {
     let mut declared = declared;
     declared.meaning = meaning_of(&checker.types, how.scope, words, *t);
-    let recorded = here(&declared, t);
+    let recorded = here(&declared, recorded);
     checker.records.put_declared(declared.ordinal, recorded)?;
     checker.names.declare(declared)
 }
@@ -414,6 +432,7 @@ pub(crate) fn declare_name(
     let pending = keep_type_codes(checker, words, named, &how, t)?;
     keep_size(checker, named.at, &ty, init)?;
     let whole = sized(checker, &ty, init)?;
-    put_name(checker, words, &how, declared, &whole)?;
+    let recorded = type_recorded(given, *t, whole);
+    put_name(checker, words, &how, declared, &whole, &recorded)?;
     Ok(NameFound { ty: whole, pending })
 }

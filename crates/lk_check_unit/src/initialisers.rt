@@ -1,7 +1,6 @@
 //! Initialisers (C99 6.7.8).
 ghost use Rattle.std.specs.Prelude.{◌≡◌, None, IfOk, OnOk, is_none, suc, if◌then◌else◌};
 ghost use Rattle.lk_types.specs.Table.{IsKnown};
-ghost use Rattle.lk_typed.specs.declared.names.Meaning.TheVariants as meaning;
 ghost use Rattle.lk_check_walk.specs.Walks.{IsSound};
 ghost use Rattle.lk_check_unit.specs.Bodies.{Grows};
 ghost use Rattle.lk_check_unit.specs.Initialising.{IsKnownTarget, IsNoWord, IsWord, WalksEntries, WalksEntry};
@@ -13,9 +12,8 @@ use crate::seen::{braces_code, found_code, part_of, target_type, word_code};
 use crate::written::{braces_of, text_of, word_type};
 use lk_base::{Code, NoMemory};
 use lk_check_decl::Target;
-use lk_check_walk::{At, Checker, Meant};
+use lk_check_walk::{At, Checker, InitialiserKind};
 use lk_tree::{Entry, Expr, Init, InitList};
-use lk_typed::Meaning;
 use lk_types::TypeId;
 
 /// Where an expression stands.
@@ -36,16 +34,6 @@ fn is_fit(code: &Option<Code>) -> bool
     code.is_none()
 }
 
-/// What an initialiser word for objects of a type stands for. It is predeclared.
-fn meant(ty: TypeId) -> Meant
-    ensures { result ≡ record { meaning = meaning.InitialiserWord ty; ordinal = 0 } }
-{
-    Meant {
-        meaning: Meaning::InitialiserWord(ty),
-        ordinal: 0,
-    }
-}
-
 /// An initialiser word: whether it may stand there.
 fn word(
     checker: &mut Checker,
@@ -60,7 +48,6 @@ fn word(
     ensures grows { OnOk result (Grows checker.old checker.new) }
     ensures walks { IfOk result (WalksExpr target.now e.now checker.old checker.new) }
 {
-    checker.records.put_meant(e.ordinal, meant(ty))?;
     let code = word_code(&checker.types, target, ty);
     checker.keep(at_expression(e), code)?;
     Ok(is_fit(&code))
@@ -91,8 +78,20 @@ fn expression(checker: &mut Checker, target: &Option<Target>, e: &Expr) -> Resul
     ensures walks { IfOk result (WalksExpr target.now e.now checker.old checker.new) }
 {
     match word_type(&checker.names, e) {
-        Some(ty) => word(checker, target, e, ty),
-        None => value(checker, target, e),
+        Some(ty) => {
+            let is_fit = word(checker, target, e, ty)?;
+            checker
+                .records
+                .put_initialiser(e.ordinal, InitialiserKind::Word(ty))?;
+            Ok(is_fit)
+        }
+        None => {
+            let is_typed = value(checker, target, e)?;
+            checker
+                .records
+                .put_initialiser(e.ordinal, InitialiserKind::Value)?;
+            Ok(is_typed)
+        }
     }
 }
 

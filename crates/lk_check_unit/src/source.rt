@@ -4,9 +4,12 @@ ghost use Rattle.lk_tree.specs.declared.statement.Decl.TheVariants as decl;
 ghost use Rattle.lk_typed.specs.Elements.{HasFewElements};
 ghost use Rattle.lk_typed.specs.Meaning.{IsReady};
 ghost use Rattle.lk_typed.specs.Units as spec;
-ghost use Rattle.lk_check_walk.specs.Walks.{kept_in, refusal_of};
+ghost use Rattle.lk_names.specs.InScope.{IsKnownScope};
+ghost use Rattle.lk_check_walk.specs.Structs.{AreListed};
+ghost use Rattle.lk_check_walk.specs.Walks.{IsIn, kept_in, refusal_of};
 ghost use Rattle.lk_predeclared.specs.Beginning.{IsOutsideOf};
-ghost use Rattle.lk_check_unit.specs.Sources.{IsRefused, IsSetOf, PutsNames, TellsFirst};
+ghost use Rattle.lk_check_unit.specs.Sources.{IsBehind, IsRefused, IsSetOf, PutsNames};
+ghost use Rattle.lk_check_unit.specs.Sources.{RecordsOf, TellsFirst};
 
 use crate::at_end::ask_pending;
 use crate::declarations::nothing_pending;
@@ -85,6 +88,12 @@ fn behind(alloc: Global, unit: &Unit, externs: &[Name]) -> Result<Checker, NoMem
         TellsFirst externs.now unit.now (option_map refusal_of (kept_in checker).least)) }
     ensures ready { IfOk result (λ checker. IsReady checker.types) }
     ensures few { IfOk result (λ checker. HasFewElements checker.types) }
+    ensures known { IfOk result (λ checker. IsKnownScope checker.types checker.names) }
+    ensures structs { IfOk result (λ checker. AreListed checker.types checker.names.structs) }
+    ensures scope { IfOk result (λ checker. IsIn checker (spec.at_end externs.now unit.now)) }
+    ensures outside { IfOk result (λ checker. IsOutsideOf checker.outside externs.now unit.now) }
+    ensures records { IfOk result (λ checker.
+        RecordsOf externs.now unit.now checker.types checker.records) }
 {
     let outside = outside(alloc, unit, externs)?;
     let mut checker = begin(alloc, outside)?;
@@ -117,6 +126,9 @@ pub fn check(alloc: Global, unit: &Unit, externs: &[Name]) -> Result<Checked, Fa
     ensures err { IfErr result (IsRefused externs.now unit.now) }
     ensures ready { IfOk result (λ checked. IsReady checked.types) }
     ensures few { IfOk result (λ checked. HasFewElements checked.types) }
+    ensures records { IfOk result (λ checked.
+        RecordsOf externs.now unit.now checked.types checked.records) }
+    ensures behind { IfOk result (IsBehind externs.now unit.now) }
 {
     let checker = behind(alloc, unit, externs)?;
     match checker.checked() {

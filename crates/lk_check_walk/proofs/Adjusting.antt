@@ -1,18 +1,18 @@
 -- The type of a parameter is adjusted and asked (C99 6.7.5.3, 7 and 8), and its name is.
-use Rattle.std.proofs.Common.{◌≡◌, ◌∙◌, ◌++◌, ◌||◌, ℕ, Bool, true, false, not, List, [], ◌∷◌, Option, Some, None, IfSome, refl, sym, ap, subst}
-use Rattle.std.specs.Prelude.{if◌then◌else◌, is_some, MatchOption}
+use Rattle.std.proofs.Common.{◌≡◌, ◌∙◌, ◌++◌, ◌||◌, ℕ, Bool, true, false, not, [], ◌∷◌, Option, Some, None, IfSome, refl, sym, ap, subst}
+use Rattle.std.specs.Prelude.{if◌then◌else◌, is_some}
 use Rattle.std.specs.Option.{option_map}
 use Rattle.std.proofs.lemmas.Bool.{false≢true}
 use Rattle.std.proofs.lemmas.Option.{none-some}
 use Rattle.lk_base.specs.declared.code.Code.{Code}
 use Rattle.lk_base.specs.declared.code.Code.TheVariants.{Incomplete, LargeType, MutexValue, OwnVararg, StructValue}
 use Rattle.lk_types.specs.Building.{IsPassed, IsTable}
-use Rattle.lk_types.specs.Table.{Table, IsKnown}
-use Rattle.lk_typed.specs.Bounds.{holds_struct, is_large}
+use Rattle.lk_types.specs.Table.{Table}
+use Rattle.lk_typed.specs.Bounds.{holds_struct}
 use Rattle.lk_typed.specs.DeclaratorRules.{adjusted, has_dots, of_type, parameter_rules, unless}
 use Rattle.lk_typed.specs.Env.{Env}
-use Rattle.lk_typed.specs.Faults.{Breach, breach}
-use Rattle.lk_typed.specs.Layers.{has_name, is_void_type, parameter_type}
+use Rattle.lk_typed.specs.Faults.{breach}
+use Rattle.lk_typed.specs.Layers.{has_name, parameter_type}
 use Rattle.lk_typed.specs.Meaning.{meaning}
 use Rattle.lk_typed.specs.MemberRules.{fields_in, is_over, within_bounds}
 use Rattle.lk_typed.specs.NodeRules.{adjusted_rules, parameter_meaning, parameter_node_rules, plain_name, void_rules}
@@ -25,8 +25,8 @@ use Rattle.lk_rules.proofs.Kept.{codes_are_kept_in_turn}
 use Rattle.lk_rules.specs.Keeping.{Kept, KeepsCodes, keep}
 use Rattle.lk_check_decl.proofs.Sizes.{holds_is}
 use Rattle.lk_check_decl.specs.Breaches.{told}
-use Rattle.lk_check_decl.specs.Making.{AreFields, IsLarge, IsMade}
-use Rattle.lk_check_walk.proofs.Forming.{no_code, none_code, some_code}
+use Rattle.lk_check_decl.specs.Making.{AreFields, IsMade}
+use Rattle.lk_check_walk.proofs.Forming.{none_code, some_code}
 use Rattle.lk_check_walk.proofs.Keepings.{kept_told, unnamed_both, unnamed_none, unnamed_two, unnamed_unless}
 use Rattle.lk_check_walk.specs.Declarators.{name_codes}
 use Rattle.lk_check_walk.specs.Keepings.{AreUnnamed, KeepsEach}

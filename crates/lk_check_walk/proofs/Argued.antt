@@ -1,5 +1,5 @@
 -- The arguments of a call, one after the other.
-use Rattle.std.proofs.Common.{◌≡◌, ◌∙◌, ◌++◌, ◌+◌, ◌<◌, ℕ, zero, suc, Bool, true, false, List, [], ◌∷◌, Option, Some, None, All, get_or, length, map, take, refl, sym, ap, subst, arith, append_assoc}
+use Rattle.std.proofs.Common.{◌≡◌, ◌∙◌, ◌++◌, ◌+◌, ◌<◌, ℕ, zero, suc, Bool, true, false, List, [], ◌∷◌, Option, Some, None, All, get_or, length, take, refl, sym, ap, subst, arith, append_assoc}
 use Rattle.std.specs.Prelude.{◌||◌, slice_get}
 use Rattle.std.proofs.lemmas.Bool.{false≢true}
 use Rattle.std.proofs.lemmas.List.{map-append, take_more}
@@ -38,7 +38,8 @@ use Rattle.lk_check_walk.specs.declared.found.Stands.{Stands}
 use Rattle.lk_check_walk.specs.declared.ruled.Ruled.{Ruled}
 use Rattle.lk_check_walk.proofs.Further.{no_further, operand_further, then_further}
 use Rattle.lk_check_walk.proofs.Rules.{part_of}
-use Rattle.lk_check_walk.proofs.Walking.{extend_both, extend_nothing, found_elsewhere, found_longer, in_any_role, look_elsewhere, no_walk, operand_longer, then_walks, typing_longer, walks_in}
+use Rattle.lk_check_walk.proofs.Lasting.{found_elsewhere, found_longer, look_elsewhere, operand_longer, typing_longer}
+use Rattle.lk_check_walk.proofs.Walking.{extend_both, extend_nothing, in_any_role, no_walk, then_walks, walks_in}
 
 -- ---- what is said of one more at the end
 

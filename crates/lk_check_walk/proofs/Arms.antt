@@ -13,7 +13,7 @@ use Rattle.lk_tree.specs.declared.operators.AssignOperator.{AssignOperator}
 use Rattle.lk_tree.specs.declared.operators.BinaryOperator.{BinaryOperator}
 use Rattle.lk_typed.proofs.Meanings.{meaning_stays}
 use Rattle.lk_typed.specs.Assignments.{operator_of}
-use Rattle.lk_typed.specs.Env.{Additions, Env, Name, Role, AsFunction, AsOperand, ConvertedTo, as_function, as_operand, both, converted_to, extend, is_name, is_one_of, nothing}
+use Rattle.lk_typed.specs.Env.{Additions, Env, Name, Role, AsFunction, AsOperand, as_function, as_operand, both, converted_to, extend, is_name, is_one_of, nothing}
 use Rattle.lk_typed.specs.ExprRules.{additions_of}
 use Rattle.lk_typed.specs.Expressions.{expression}
 use Rattle.lk_typed.specs.Forms.{as_cast, as_right}
@@ -26,7 +26,7 @@ use Rattle.lk_names.specs.InScope.{env_in}
 use Rattle.lk_rules.specs.Laws.{name_found}
 use Rattle.lk_check_walk.specs.Arguments.{IsGiven, JudgesArguments, added_by, arguments_placed, found_of, function_in, nodes_of}
 use Rattle.lk_check_walk.specs.Judging.{HasKnownType, HasOperand}
-use Rattle.lk_check_walk.specs.Walking.{AreJudged, IsFurther, IsJudged, Judges, JudgesSides, JudgesTwo, NamesType, behind_operand, operand_in}
+use Rattle.lk_check_walk.specs.Walking.{AreJudged, IsFormJudged, IsFurther, Judges, JudgesForm, JudgesSides, JudgesTwo, NamesType, behind_operand, operand_in}
 use Rattle.lk_check_walk.specs.Walks.{IsFound, IsFoundType, IsFoundTyping, IsIn, IsSound, JudgedForm, Settles, StandsIn, Walks}
 use Rattle.lk_check_walk.specs.declared.arguments.Given.{Given}
 use Rattle.lk_check_walk.specs.declared.checker.Checker.{Checker}
@@ -35,7 +35,8 @@ use Rattle.lk_check_walk.specs.declared.found.Stands.{Stands}
 use Rattle.lk_check_walk.specs.declared.found.TypeFound.{TypeFound}
 use Rattle.lk_check_walk.proofs.Argued.{given_elsewhere}
 use Rattle.lk_check_walk.proofs.Further.{role_further}
-use Rattle.lk_check_walk.proofs.Walking.{Layer, form_in, found_elsewhere, found_longer, found_operand, in_any_role, judged_as, longer_trans, no_walk, parts_of_layer, then_walks, walks_in}
+use Rattle.lk_check_walk.proofs.Lasting.{found_elsewhere, found_longer, found_operand, longer_trans}
+use Rattle.lk_check_walk.proofs.Walking.{Layer, form_in, in_any_role, judged_as, no_walk, parts_of_layer, then_walks, walks_in}
 
 -- an expression of a form is of its layer
 pub layer_is : (e : Expr) (f : ExprForm) (layer : Layer) → e.form ≡ f → roll-ExprForm layer ≡ f → out-ExprForm e.form ≡ layer
@@ -53,7 +54,7 @@ stands_inside checker stands inner env role is same size = record { is_in = in_a
 
 pub arm_none : (at_end : Env) (old new : Checker) (stands : Stands) (e : Expr) (env : Env) (found : Found) (layer : Layer) (form : JudgedForm) → IsSound old → StandsIn old stands env →
     out-ExprForm e.form ≡ layer → form_in env layer ≡ form → parts_of_layer env layer ≡ [] → additions_of form ≡ nothing →
-    (IsIn old (extend env nothing) → Settles old new e env (extend env nothing) form found) → IsJudged at_end old new env e found
+    (IsIn old (extend env nothing) → Settles old new e env (extend env nothing) form found) → IsFormJudged at_end old new env e found
 arm_none at_end old new stands e env found layer form sound is layered forms places adds settles =
     let none = no_walk at_end old env sound is.is_in in
     judged_as at_end old old new e env found layer layered
@@ -75,7 +76,7 @@ pub arm_one : (at_end : Env) (old middle new : Checker) (stands inner : Stands) 
     additions_of (shape (expression operand (in_role env role))) ≡ both (expression operand (in_role env role)).adds nothing →
     ((behind : Env) → behind.in_size ≡ env.in_size → IsIn middle behind → IsFound middle.types env a (expression operand (in_role env role)) →
     Settles middle new e env behind (shape (expression operand (in_role env role))) found) →
-    IsJudged at_end old new env e found
+    IsFormJudged at_end old new env e found
 arm_one at_end old middle new stands inner e operand env a found role layer shape is judges same size layered forms places adds settles =
     let inside = in_role env role in
     let x = expression operand inside in
@@ -96,7 +97,7 @@ pub arm_two : (at_end : Env) (old middle new : Checker) (e left right : Expr) (e
     parts_of_layer env layer ≡ at (as_operand env) (AnExpression left) ∷ at inner (AnExpression right) ∷ [] →
     additions_of form ≡ both (expression left (as_operand env)).adds (both (expression right inner).adds nothing) →
     ((behind : Env) → IsIn middle behind → IsFound middle.types env a (expression left (as_operand env)) → IsFound middle.types env b (expression right inner) →
-    Settles middle new e env behind form found) → IsJudged at_end old new env e found
+    Settles middle new e env behind form found) → IsFormJudged at_end old new env e found
 arm_two at_end old middle new e left right env inner a b found layer form judged layered forms places adds settles =
     let added = both (expression left (as_operand env)).adds (both (expression right inner).adds nothing) in
     let ps = at (as_operand env) (AnExpression left) ∷ at inner (AnExpression right) ∷ [] in
@@ -165,7 +166,7 @@ pub arm_three : (at_end : Env) (old middle last new : Checker) (stands : Stands)
     StandsIn old stands env → Judges old middle (operand_in stands.in_size) condition c → JudgesTwo middle last stands.in_size taken other a b →
     out-ExprForm e.form ≡ ExprForm-F.Choice condition taken other →
     ((env behind : Env) (z x y : Judged) → IsIn last behind → IsFound last.types env c z → IsFound last.types env a x → IsFound last.types env b y →
-    Settles last new e env behind (ExprForm-F.Choice z x y) found) → IsJudged at_end old new env e found
+    Settles last new e env behind (ExprForm-F.Choice z x y) found) → IsFormJudged at_end old new env e found
 arm_three at_end old middle last new stands e condition taken other env c a b found is one two layered settles =
     let inside = as_operand env in
     let z = expression condition inside in
@@ -207,7 +208,7 @@ walks_named at_end old new stands env n t is names =
 pub arm_sizeof_type : (at_end : Env) (old middle new : Checker) (stands : Stands) (e : Expr) (n : TypeName) (env : Env) (t : TypeFound) (found : Found) → StandsIn old stands env →
     NamesType old middle stands.in_size n t → out-ExprForm e.form ≡ ExprForm-F.SizeofType n →
     ((behind : Env) (x : Named) → IsIn middle behind → behind.in_size ≡ env.in_size → IsFoundType middle.types t x → Settles middle new e env behind (ExprForm-F.SizeofType x) found) →
-    IsJudged at_end old new env e found
+    IsFormJudged at_end old new env e found
 arm_sizeof_type at_end old middle new stands e n env t found is names layered settles =
     let x = name_found n (as_operand env) in
     let p = at (as_operand env) (ATypeName n) in
@@ -219,7 +220,7 @@ pub arm_cast : (at_end : Env) (old middle last new : Checker) (stands inner : St
     NamesType old middle stands.in_size n t → HasKnownType middle.types t → ((env : Env) (x : Option Ty) → option_map (meaning middle.types) t.ty ≡ x → role_in middle.types inner.role ≡ (as_cast x env).role) →
     inner.in_size ≡ stands.in_size → Judges middle last inner operand a → out-ExprForm e.form ≡ ExprForm-F.Cast n operand →
     ((behind : Env) (x : Named) (y : Judged) → IsIn last behind → IsFoundType last.types t x → IsFound last.types env a y → Settles last new e env behind (ExprForm-F.Cast x y) found) →
-    IsJudged at_end old new env e found
+    IsFormJudged at_end old new env e found
 arm_cast at_end old middle last new stands inner e operand n env t a found is names known is_role size judges layered settles =
     let x = name_found n (as_operand env) in
     let p = at (as_operand env) (ATypeName n) in
@@ -245,7 +246,7 @@ pub arm_call : (at_end : Env) (old middle last new : Checker) (stands : Stands) 
     IsKnownRole old.types stands.role → StandsIn old stands env → Judges old middle (function_in stands.in_size) function f → JudgesArguments middle last stands.in_size f arguments given →
     out-ExprForm e.form ≡ ExprForm-F.Call function arguments →
     ((behind : Env) (x : Judged) (ys : List Judged) → behind.outside ≡ env.outside → role_in last.types stands.role ≡ behind.role → IsFound last.types env f x → IsGiven last.types env given ys →
-    Settles last new e env behind (ExprForm-F.Call x ys) found) → IsJudged at_end old new env e found
+    Settles last new e env behind (ExprForm-F.Call x ys) found) → IsFormJudged at_end old new env e found
 arm_call at_end old middle last new stands e function arguments env f given found sound known is judges each layered settles =
     let inside = as_function env in
     let x = expression function inside in
@@ -311,12 +312,12 @@ somewhere checker stands = (
 
 -- ---- what holds in whatever environment it stands
 
-pub judged_further : (old new : Checker) (stands : Stands) (e : Expr) (found : Found) → Judges old new stands e found → IsFurther old new
+pub judged_further : (old new : Checker) (stands : Stands) (e : Expr) (found : Found) → JudgesForm old new stands e found → IsFurther old new
 judged_further old new stands e found judges =
     let some = somewhere old stands in
     let walks = (judges some.0 some.0 some.1).walks in
     record { longer = walks.longer; sound = walks.sound; outside = walks.outside; begun = walks.begun }
 
-pub judged_operand : (old new : Checker) (stands : Stands) (e : Expr) (found : Found) → Judges old new stands e found → HasOperand new.types found
+pub judged_operand : (old new : Checker) (stands : Stands) (e : Expr) (found : Found) → JudgesForm old new stands e found → HasOperand new.types found
 judged_operand old new stands e found judges =
     let some = somewhere old stands in found_operand new.types some.0 found (expression e some.0) (judges some.0 some.0 some.1).found

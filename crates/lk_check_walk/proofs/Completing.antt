@@ -1,5 +1,5 @@
 -- A struct begins, fails and is completed, in the table and in the names alike.
-use Rattle.std.proofs.Common.{◌≡◌, ◌∙◌, ◌<◌, ℕ, zero, suc, Bool, true, false, List, [], ◌∷◌, ◌++◌, Option, Some, None, length, map, refl, sym, ap, subst, arith, All, ◌+◌, get_or, take}
+use Rattle.std.proofs.Common.{◌≡◌, ◌∙◌, ◌<◌, ℕ, zero, suc, true, false, List, [], ◌∷◌, ◌++◌, Option, Some, None, length, map, refl, sym, ap, subst, arith, All, ◌+◌, get_or, take}
 use Rattle.std.specs.Prelude.{if◌then◌else◌, unwrap_or}
 use Rattle.std.specs.List.{slice_get, slice_set}
 use Rattle.std.specs.Option.{option_map}
@@ -10,7 +10,7 @@ use Rattle.std.proofs.lemmas.Option.{none-some, same_Some, slice_get-map, slice_
 use Rattle.lk_types.proofs.NewLemmas.{predeclared_types_stay}
 use Rattle.lk_types.specs.Building.{IsTable, IsLonger, IsPartOfObjects, CanComplete, with_members, types_of}
 use Rattle.lk_types.specs.Sizes.{fields_size, is_too_large}
-use Rattle.lk_types.specs.Table.{Table, IsKnown, is_empty, is_open}
+use Rattle.lk_types.specs.Table.{Table, IsKnown, is_empty}
 use Rattle.lk_types.specs.declared.member.StructMember.{StructMember}
 use Rattle.lk_typed.specs.Env as env
 use Rattle.lk_typed.specs.Env.{Env, Begins, Completes, both, extend, Tag, TagMeaning, AStructTag, AnEnumTag, AFaultyTag, members_of}
@@ -27,7 +27,7 @@ use Rattle.lk_names.specs.InScope.{InScope, IsKnownScope}
 use Rattle.lk_check_walk.proofs.Forming.{all_cons}
 use Rattle.lk_check_walk.proofs.States.{extend_both, extend_nothing, few_stays}
 use Rattle.lk_check_walk.specs.Moves.{IsMeant, KeepsBegun}
-use Rattle.lk_check_walk.specs.Structs.{AreListed, HasMembers, listed, member_of}
+use Rattle.lk_check_walk.specs.Structs.{HasMembers, listed, member_of}
 use Rattle.lk_check_walk.specs.Walks.{IsIn, IsSound}
 use Rattle.lk_check_walk.specs.declared.checker.Checker.{Checker}
 

@@ -1,24 +1,23 @@
 -- Enumerators that are walked one after another.
-use Rattle.std.proofs.Common.{◌≡◌, ◌∙◌, ◌++◌, ◌⊎◌, inl, inr, Bool, true, false, List, [], ◌∷◌, Option, Some, None, map, refl, sym, ap, subst}
+use Rattle.std.proofs.Common.{◌≡◌, ◌∙◌, ◌++◌, inl, inr, Bool, false, List, [], ◌∷◌, Option, Some, None, map, refl, sym, ap, subst}
 use Rattle.std.specs.Prelude.{◌||◌, if◌then◌else◌, is_some, option_map, slice_get, ℤ, pos, ◌+ℤ◌}
-use Rattle.lk_base.specs.declared.code.Code.TheVariants.{NotConstant}
 use Rattle.lk_types.specs.Table.{Table}
 use Rattle.lk_tree.specs.declared.expression.Expr.{Expr}
 use Rattle.lk_tree.specs.declared.expression.Item.{Item, out-Item}
-use Rattle.lk_typed.specs.Env.{Additions, AsOperand, Env, Name, as_operand, both, extend, nothing}
+use Rattle.lk_typed.specs.Env.{Additions, AsOperand, Env, Name, as_operand, extend}
 use Rattle.lk_typed.specs.Expressions.{expr_adds, expr_constant, expression, item_found}
 use Rattle.lk_typed.specs.Faults.{Breach}
 use Rattle.lk_typed.specs.HolderRules.{counted_rules, fits_int, item_rules, written_rules}
 use Rattle.lk_typed.specs.Layers.{item_told}
 use Rattle.lk_typed.specs.NodeParts.{parts}
-use Rattle.lk_typed.specs.NodeRules.{breaches, item_meaning, mark, plain_name, rules_of}
+use Rattle.lk_typed.specs.NodeRules.{breaches, item_meaning, mark, plain_name}
 use Rattle.lk_typed.specs.Nodes as nodes
 use Rattle.lk_typed.specs.Nodes.{AnExpression, AnItem, Placed, at}
 use Rattle.lk_typed.specs.Parts.{added_by, items_parts, perhaps}
 use Rattle.lk_typed.specs.Redeclared.{name_rules}
 use Rattle.lk_typed.specs.Stands.{Mark}
-use Rattle.lk_typed.specs.Telling.{constant, holds_sizeof, item_value, size_added, size_holds}
-use Rattle.lk_typed.specs.Told.{ItemTold, declares, enumerator, in_int, items_hold_sizeof, items_in_turn, next_value, with_optional, written_value}
+use Rattle.lk_typed.specs.Telling.{item_value, size_added, size_holds}
+use Rattle.lk_typed.specs.Told.{ItemTold, declares, enumerator, in_int, items_hold_sizeof, items_in_turn, with_optional}
 use Rattle.lk_typed.specs.Typing.{Judged, Typing, constant_in, known_value}
 use Rattle.lk_typed.specs.declared.constant.Constant.{Constant}
 use Rattle.lk_rules.proofs.Parts.{items_are_asked}
@@ -36,10 +35,11 @@ use Rattle.lk_check_walk.specs.Keepings.{AreUnnamed}
 use Rattle.lk_check_walk.specs.Moves.{GoesOn, Grows}
 use Rattle.lk_check_walk.specs.Specifying.{IsSame}
 use Rattle.lk_check_walk.proofs.KeepsAll.{in_same}
+use Rattle.lk_check_walk.proofs.Truth.{truth_of_node, truth_still}
 use Rattle.lk_names.specs.InScope.{InScope}
 use Rattle.lk_types.specs.Building.{IsLonger}
 use Rattle.lk_check_walk.specs.Walking.{IsJudged, operand_in}
-use Rattle.lk_check_walk.specs.Walks.{IsFound, IsFoundTyping, IsIn, IsSound, StandsIn, Walks, kept_in, mark_at}
+use Rattle.lk_check_walk.specs.Walks.{IsFoundTyping, IsIn, IsSound, StandsIn, Walks, kept_in, mark_at}
 use Rattle.lk_check_walk.specs.declared.checker.Checker.{Checker}
 use Rattle.lk_check_walk.specs.declared.enumerators.ItemFound.{ItemFound}
 use Rattle.lk_check_walk.specs.declared.found.At.{At}
@@ -126,6 +126,8 @@ module _ (at_end : Env) (old middle new : Checker) (env : Env) (before : Option 
               begun = λ s begun. settled.begun s (walks.begun s begun);
               behind = behind;
               keeps = codes_are_kept_behind_parts at_end env (AnItem before i) (kept_in old) (kept_in middle) (kept_in new) refl walks.keeps own;
+              records = truth_of_node at_end old new env (AnItem before i) refl
+                  (truth_still at_end old middle new (parts at_end env (AnItem before i)) walks.sound.ready.table_is settled.longer settled.records walks.records);
             });
         value = ap (λ (t : ItemTold). t.value) (sym told);
         holds_sizeof = ap (λ (t : ItemTold). t.holds_sizeof) (sym told);
@@ -215,6 +217,7 @@ item_settled old middle new env at name value broken same keeps grows structs go
   sound = grows.sound;
   outside = grows.outside ∙ same.outside;
   begun = λ s begun. ap (λ ss. slice_get ss s) structs ∙ ap (λ (names : InScope). slice_get names.structs s) same.names ∙ begun;
+  records = grows.records ∙ same.records;
   behind = goes env (in_same old middle env same is);
 }
 

@@ -1,5 +1,5 @@
 -- The fields of a struct so far, while the table of types grows.
-use Rattle.std.proofs.Common.{◌≡◌, ◌∙◌, ◌++◌, ℕ, true, false, List, [], ◌∷◌, map, refl, sym, ap, subst, arith, All}
+use Rattle.std.proofs.Common.{◌≡◌, ◌∙◌, ◌++◌, ℕ, List, [], ◌∷◌, map, sym, ap, subst, arith, All}
 use Rattle.std.proofs.lemmas.List.Elements.{All-head, All-push, All-tail}
 use Rattle.std.proofs.lemmas.List.{map-append}
 use Rattle.lk_types.proofs.AddLemmas.{closed_complete}
@@ -16,7 +16,7 @@ use Rattle.lk_typed.specs.Typings.{field_in}
 use Rattle.lk_typed.specs.declared.members.Field.{Field}
 use Rattle.lk_check_walk.proofs.Completing.{fields_stay}
 use Rattle.lk_check_walk.proofs.Forming.{all_cons}
-use Rattle.lk_check_walk.specs.MembersOf.{AreMembers, HasFields, IsSizeWith, TellsFields}
+use Rattle.lk_check_walk.specs.MembersOf.{AreMembers, HasFields, IsSizeWith}
 use Rattle.lk_check_walk.specs.declared.fields.MembersFound.{MembersFound}
 
 module _ (old new : Table) (good : IsTable old) (longer : IsLonger old new) where

@@ -5,20 +5,20 @@ use Rattle.std.specs.Option.{option_map}
 use Rattle.std.proofs.lemmas.List.{append-nil}
 use Rattle.lk_base.specs.declared.code.Code.TheVariants.{BitField}
 use Rattle.lk_types.specs.Building.{IsLonger, IsTable}
-use Rattle.lk_types.specs.Table.{Table, IsKnown}
+use Rattle.lk_types.specs.Table.{IsKnown}
 use Rattle.lk_tree.specs.declared.expression.Declarator.{Declarator}
 use Rattle.lk_tree.specs.declared.expression.Expr.{Expr}
 use Rattle.lk_tree.specs.declared.expression.Member.{Member}
 use Rattle.lk_tree.specs.declared.expression.MemberDeclarator.{MemberDeclarator, out-MemberDeclarator, out-roll-MemberDeclarator, roll-MemberDeclarator}
 use Rattle.lk_typed.specs.DeclarationRules.{InType, type_in}
-use Rattle.lk_typed.specs.Env.{Additions, Env, Field, both, extend, nothing}
-use Rattle.lk_typed.specs.Expressions.{declarator_found, expr_adds, expression, member_declarator_found, member_found, specifiers_found}
+use Rattle.lk_typed.specs.Env.{Additions, Env, Field, both, extend}
+use Rattle.lk_typed.specs.Expressions.{declarator_found, expression, member_declarator_found, member_found, specifiers_found}
 use Rattle.lk_typed.specs.Faults.{Breach, breach}
 use Rattle.lk_typed.specs.HolderRules.{all_specifier_rules, has_bit_field}
-use Rattle.lk_typed.specs.Layers.{declarators_in_turn, faulty_member, field_told, field_unless, type_made}
+use Rattle.lk_typed.specs.Layers.{declarators_in_turn, faulty_member, field_unless, type_made}
 use Rattle.lk_typed.specs.Meaning.{meaning}
 use Rattle.lk_typed.specs.MemberRules.{large_struct_rules, member_rules}
-use Rattle.lk_typed.specs.NodeParts.{member_part, members_in_turn as nodes_in_turn, type_part}
+use Rattle.lk_typed.specs.NodeParts.{member_part, members_in_turn as nodes_in_turn, type_part, parts, type_left}
 use Rattle.lk_typed.specs.NodeRules.{are_typed, breaches, mark}
 use Rattle.lk_typed.specs.Nodes.{ADeclarator, AMember, AnExpression, IsMember, Placed, at}
 use Rattle.lk_typed.specs.Parts.{members_parts, specifiers_parts}
@@ -33,16 +33,17 @@ use Rattle.lk_rules.proofs.Layered.{member_declarators_follow_their_forms, membe
 use Rattle.lk_rules.proofs.Parts.{members_are_asked, types_of_parts_in_turn}
 use Rattle.lk_rules.specs.Keeping.{KeepsCodes, KeepsNodes}
 use Rattle.lk_rules.specs.LayerLaws.{MemberDeclaratorTree, member_declarator_parts_told}
-use Rattle.lk_check_walk.proofs.Arms.{somewhere}
+use Rattle.lk_check_walk.specs.Truth.{IsBegunAmong, NoTag}
 use Rattle.lk_check_walk.proofs.Counts.{operand_holds, operand_typed, operand_walks}
 use Rattle.lk_check_walk.proofs.FieldsGrow.{members_grow}
-use Rattle.lk_check_walk.proofs.Gathers.{both_assoc, both_nothing, further_walks, or_assoc, or_false, stands_behind}
+use Rattle.lk_check_walk.proofs.Gathers.{both_assoc, both_nothing, or_assoc, or_false, stands_behind}
 use Rattle.lk_check_walk.proofs.Inside.{use_kept}
 use Rattle.lk_check_walk.proofs.KeepsAll.{in_same, sound_same}
 use Rattle.lk_check_walk.proofs.NamedTypes.{type_stays}
 use Rattle.lk_check_walk.proofs.Shaping.{known_stays}
-use Rattle.lk_check_walk.proofs.States.{extend_both, longer_then}
-use Rattle.lk_check_walk.proofs.Walking.{no_walk, then_walks}
+use Rattle.lk_check_walk.proofs.States.{longer_same}
+use Rattle.lk_check_walk.proofs.Walking.{no_walk, then_walks, walks_then}
+use Rattle.lk_check_walk.proofs.Truth.{truth_still, told_of_node, told_still}
 use Rattle.lk_check_walk.specs.Declarators.{IsDeclared, KeepsUse, left_of}
 use Rattle.lk_check_walk.specs.Keepings.{KeepsEach}
 use Rattle.lk_check_walk.specs.MembersOf.{AreAll, AreDeclared, AreFound, AreMembers, DeclaresField, DeclaresMember, DeclaresMembers, DeclaresWidth, FindsAll, FindsMember, HasFields, PutsMember, found_of, member_codes, member_of, width_told}
@@ -308,6 +309,8 @@ declares_field old middle new in_size left bit_field d asked found before after 
             begun = λ s begun. ap (λ (names : InScope). slice_get names.structs s) kept.names ∙ further.begun s begun;
             behind = in_same middle new behind kept is.behind;
             keeps = keeps;
+            records = truth_still at_end old middle new (node ∷ []) further.sound.ready.table_is (subst (IsLonger middle.types) (sym kept.types) (longer_same middle.types)) kept.records
+                (is.records (type_left env specified false (IsMember others.fields) d));
           });
       members = subst (λ h. AreMembers new.types after (then_member others (member_of behind bit_field others.fields told.name (type_made env false t told) (faulty_member adds h)))) is.holds_sizeof
           (subst (λ u. AreMembers new.types after (then_member others (member_of behind bit_field others.fields told.name u (faulty_member adds found.holds_sizeof)))) type (put.members adds));
@@ -367,7 +370,9 @@ module _ (at_end : Env) (old first middle new : Checker) (in_size : Bool) (env :
         holds_sizeof = holds ∙ ap (λ h. h || specified.holds_sizeof) grown.holds_sizeof ∙ ap (λ h. others.holds_sizeof || h) specifies.specified.holds_sizeof;
       } in
       let declared = declares at_end here told more (stands_behind old first in_size env told.additions stands specifies.walks.behind) specifies.specified.type between_members in
-      let walked = then_walks at_end old first middle env told.additions inside.additions (specifiers_parts false env m.specifiers) parts_inside specifies.walks declared.found.walks in
+      let Own = IsBegunAmong false env m.specifiers in
+      let walked = walks_then Own NoTag Own at_end old first middle env told.additions inside.additions (specifiers_parts false env m.specifiers) parts_inside (λ s tag own. own)
+      (λ s tag never. absurd never) specifies.walks declared.found.walks in
       let codes : own_codes typed (breaches_in specified.breaches.items) ≡ breaches at_end env (AMember others.fields m) =
       ap (own_codes typed) specifies.specified.breaches ∙ ap (λ b. own_codes b (all_specifier_rules InType false env m.specifiers)) declared.typed ∙ sym (members_are_asked at_end env others.fields m) in
       let own = subst (λ bs. KeepsCodes (kept_in middle) (mark m.spot m.ordinal) bs (kept_in new)) codes
@@ -383,6 +388,9 @@ module _ (at_end : Env) (old first middle new : Checker) (in_size : Bool) (env :
           begun = λ s begun. ap (λ (names : InScope). slice_get names.structs s) same.names ∙ walked.begun s begun;
           behind = in_same middle new (extend env (both told.additions inside.additions)) same walked.behind;
           keeps = codes_are_kept_behind_parts at_end env (AMember others.fields m) (kept_in old) (kept_in middle) (kept_in new) refl walked.keeps own;
+          records = told_of_node Own at_end old new env (AMember others.fields m) refl (λ s tag own. own)
+              (told_still Own at_end old middle new (parts at_end env (AMember others.fields m)) walked.sound.ready.table_is (subst (IsLonger middle.types) (sym same.types) (longer_same middle.types)) same.records
+              walked.records);
         };
         members = subst (λ table. AreMembers table after (then_member others whole)) (sym same.types)
             (record {

@@ -16,7 +16,7 @@ use Rattle.lk_check_walk.specs.declared.checker.Checker.{Checker}
 use Rattle.lk_check_walk.specs.declared.found.Found.{Found}
 use Rattle.lk_check_walk.specs.declared.found.TypeFound.{TypeFound}
 use Rattle.lk_check_walk.proofs.Settling.{longer_refl}
-use Rattle.lk_check_walk.proofs.Walking.{expr_type_longer, known_longer, longer_trans, operand_longer, type_known_longer}
+use Rattle.lk_check_walk.proofs.Lasting.{expr_type_longer, known_longer, longer_trans, operand_longer, type_known_longer}
 
 pub no_further : (checker : Checker) → IsSound checker → IsFurther checker checker
 no_further checker sound = record { longer = longer_refl checker.types; sound = sound; outside = refl; begun = λ s begun. begun }

@@ -1,5 +1,5 @@
 -- Specifiers that are walked and gathered one after another.
-use Rattle.std.proofs.Common.{◌≡◌, ◌∙◌, ◌++◌, Bool, true, false, List, [], ◌∷◌, Option, Some, ℕ, IfSome, refl, sym, ap, subst, append_assoc}
+use Rattle.std.proofs.Common.{◌≡◌, ◌∙◌, ◌++◌, Bool, true, false, List, [], ◌∷◌, Option, ℕ, IfSome, refl, sym, subst, append_assoc}
 use Rattle.std.specs.Prelude.{◌||◌}
 use Rattle.std.proofs.lemmas.List.{append-nil}
 use Rattle.lk_types.specs.Table.{Table, IsKnown}
@@ -14,23 +14,27 @@ use Rattle.lk_typed.specs.HolderRules.{one_tag_rules, tags_rules}
 use Rattle.lk_typed.specs.Meaning.{IsReady}
 use Rattle.lk_typed.specs.Nodes.{Placed}
 use Rattle.lk_typed.specs.Parts.{specifier_parts, specifiers_parts}
+use Rattle.lk_typed.specs.Structs.{StandsAmong, struct_begun}
+use Rattle.lk_typed.specs.Structs.StandsAmong.{first, later}
 use Rattle.lk_typed.specs.Told.{SpecifierTold, no_specifier, then_specifier}
 use Rattle.lk_typed.specs.Ty.{Ty}
+use Rattle.lk_typed.specs.declared.unit.StructTag.{StructTag}
 use Rattle.lk_check_walk.proofs.Arms.{somewhere}
 use Rattle.lk_check_walk.proofs.States.{extend_both, extend_nothing}
-use Rattle.lk_check_walk.proofs.Walking.{no_walk, then_walks}
+use Rattle.lk_check_walk.proofs.Walking.{no_walk, walks_as, walks_then}
 use Rattle.lk_check_walk.specs.Specified.{IsGathered, IsSpecified}
 use Rattle.lk_check_walk.specs.Specifying.{AreGathered, AreSpecified, Gathers, Specifies}
 use Rattle.lk_check_walk.specs.Walking.{IsFurther, operand_in}
-use Rattle.lk_check_walk.specs.Walks.{IsIn, IsSound, StandsIn, Walks}
+use Rattle.lk_check_walk.specs.Truth.{IsBegunAmong, IsBegunBy, NoTag}
+use Rattle.lk_check_walk.specs.Walks.{IsIn, IsSound, StandsIn, WalksOwn}
 use Rattle.lk_check_walk.specs.declared.checker.Checker.{Checker}
 use Rattle.lk_check_walk.specs.declared.gathered.Gathered.{Gathered}
 use Rattle.lk_check_walk.specs.declared.gathered.Specified.{Specified}
 
 -- ---- any walk
 
-pub further_walks : (at_end : Env) (old new : Checker) (env : Env) (a : Additions) (ps : List Placed) → Walks at_end old new env a ps → IsFurther old new
-further_walks at_end old new env a ps w = record { longer = w.longer; sound = w.sound; outside = w.outside; begun = w.begun }
+pub further_walks : (Own : ℕ → StructTag → Type 0) (at_end : Env) (old new : Checker) (env : Env) (a : Additions) (ps : List Placed) → WalksOwn Own at_end old new env a ps ps → IsFurther old new
+further_walks Own at_end old new env a ps w = record { longer = w.longer; sound = w.sound; outside = w.outside; begun = w.begun }
 
 pub stands_behind : (old new : Checker) (in_size : Bool) (env : Env) (a : Additions) → StandsIn old (operand_in in_size) env → IsIn new (extend env a) →
     StandsIn new (operand_in in_size) (extend env a)
@@ -75,18 +79,20 @@ then_none a = same_told (both_nothing a.additions) (append-nil a.storages) (appe
 
 -- ---- gathered
 
-pub none_gathered : (at_end : Env) (checker : Checker) (env : Env) (g : Gathered) → IsSound checker → IsIn checker env → AreGathered at_end checker checker env no_specifier [] [] g g
-none_gathered at_end checker env g sound is = record {
-  walks = no_walk at_end checker env sound is;
+pub none_gathered : (Own : ℕ → StructTag → Type 0) (at_end : Env) (checker : Checker) (env : Env) (g : Gathered) → IsSound checker → IsIn checker env →
+    AreGathered Own at_end checker checker env no_specifier [] [] g g
+none_gathered Own at_end checker env g sound is = record {
+  walks = walks_as NoTag Own at_end checker checker env nothing [] (λ s tag never. absurd never) (no_walk at_end checker env sound is);
   gathered = λ others codes gathered.
       subst (λ told. IsGathered checker.types g told (codes ++ [])) (sym (then_none others)) (subst (IsGathered checker.types g others) (sym (append-nil codes)) gathered);
 }
 
-pub then_gathered : (at_end : Env) (old middle new : Checker) (env : Env) (a b : SpecifierTold) (bs cs : List Breach) (ps qs : List Placed) (before between after : Gathered) →
-    AreGathered at_end old middle env a bs ps before between → AreGathered at_end middle new (extend env a.additions) b cs qs between after →
-    AreGathered at_end old new env (then_specifier a b) (bs ++ cs) (ps ++ qs) before after
-then_gathered at_end old middle new env a b bs cs ps qs before between after f g = record {
-  walks = then_walks at_end old middle new env a.additions b.additions ps qs f.walks g.walks;
+pub then_gathered : (One Two Own : ℕ → StructTag → Type 0) (at_end : Env) (old middle new : Checker) (env : Env) (a b : SpecifierTold) (bs cs : List Breach) (ps qs : List Placed) (before between after : Gathered) →
+    ((s : ℕ) (tag : StructTag) → One s tag → Own s tag) → ((s : ℕ) (tag : StructTag) → Two s tag → Own s tag) →
+    AreGathered One at_end old middle env a bs ps before between → AreGathered Two at_end middle new (extend env a.additions) b cs qs between after →
+    AreGathered Own at_end old new env (then_specifier a b) (bs ++ cs) (ps ++ qs) before after
+then_gathered One Two Own at_end old middle new env a b bs cs ps qs before between after of_one of_two f g = record {
+  walks = walks_then One Two Own at_end old middle new env a.additions b.additions ps qs of_one of_two f.walks g.walks;
   gathered = λ others codes is.
       subst (λ told. IsGathered new.types after told (codes ++ (bs ++ cs))) (then_assoc others a b)
       (subst (IsGathered new.types after (then_specifier (then_specifier others a) b)) (append_assoc codes bs cs)
@@ -97,7 +103,7 @@ then_gathered at_end old middle new env a b bs cs ps qs before between after f g
 
 -- all of it
 pub record AreAllGathered (at_end : Env) (old new : Checker) (env : Env) (alone : Bool) (ss : List Specifier) (after : Gathered) : Type 0 where
-  pub walks : Walks at_end old new env (specifiers_found ss env alone).additions (specifiers_parts alone env ss)
+  pub walks : WalksOwn (IsBegunAmong alone env ss) at_end old new env (specifiers_found ss env alone).additions (specifiers_parts alone env ss) (specifiers_parts alone env ss)
   pub gathered : IsGathered new.types after (specifiers_found ss env alone) (tags_rules alone env ss)
 
 -- some of it is left, from this environment on
@@ -105,7 +111,7 @@ pub record AreLeft (at_end : Env) (old now : Checker) (env : Env) (in_size alone
   pub here : Env
   pub stands : StandsIn now (operand_in in_size) here
   pub all : (new : Checker) (after : Gathered) →
-      AreGathered at_end now new here (specifiers_found rest here alone) (tags_rules alone here rest) (specifiers_parts alone here rest) between after →
+      AreGathered (IsBegunAmong alone here rest) at_end now new here (specifiers_found rest here alone) (tags_rules alone here rest) (specifiers_parts alone here rest) between after →
       AreAllGathered at_end old new env alone ss after
 
 abbrev pub LeavesSpecifiers : Checker → Checker → Bool → Bool → List Specifier → List Specifier → Gathered → Type 0
@@ -118,6 +124,12 @@ leaves_all checker in_size alone ss g none at_end env is = record {
   stands = is;
   all = λ new after gathered. record { walks = gathered.walks; gathered = gathered.gathered no_specifier [] (none checker.types) };
 }
+
+-- a struct that begins at a later specifier
+begun_later : (alone : Bool) (env : Env) (s : Specifier) (rest : List Specifier) (behind : Env) → extend env (specifiers_found (s ∷ []) env alone).additions ≡ behind → (n : ℕ) (tag : StructTag) →
+    IsBegunAmong alone behind rest n tag → IsBegunAmong alone env (s ∷ rest) n tag
+begun_later alone env s rest behind is n tag own =
+    record { env' = own.env'; specifier = own.specifier; among = later (subst (λ e. StandsAmong alone e rest own.env' own.specifier) (sym is) own.among); begun = own.begun }
 
 pub leaves_rest : (old now next : Checker) (in_size alone : Bool) (ss : List Specifier) (s : Specifier) (rest : List Specifier) (between after : Gathered) →
     LeavesSpecifiers old now in_size alone ss (s ∷ rest) between → Gathers now next alone in_size s between after → LeavesSpecifiers old next in_size alone ss rest after
@@ -132,24 +144,25 @@ leaves_rest old now next in_size alone ss s rest between after leaves gathers at
       stands = stands_behind now next in_size here told.additions f.stands one.walks.behind;
       all = λ new last others.
           f.all new last
-          (subst (λ e. AreGathered at_end now new here (then_specifier told (specifiers_found rest behind alone)) (one_tag_rules here alone (out-Specifier s) ++ tags_rules alone e rest)
+          (subst (λ e. AreGathered (IsBegunAmong alone here (s ∷ rest)) at_end now new here (then_specifier told (specifiers_found rest behind alone)) (one_tag_rules here alone (out-Specifier s) ++ tags_rules alone e rest)
           (specifier_parts here (out-Specifier s) ++ specifiers_parts alone e rest) between last) (sym (extend_single here told.additions))
-          (then_gathered at_end now next new here told (specifiers_found rest behind alone) (one_tag_rules here alone (out-Specifier s)) (tags_rules alone behind rest)
-          (specifier_parts here (out-Specifier s)) (specifiers_parts alone behind rest) between after last one others));
+          (then_gathered (IsBegunBy (struct_begun here alone (out-Specifier s)) here) (IsBegunAmong alone behind rest) (IsBegunAmong alone here (s ∷ rest)) at_end now next new here told (specifiers_found rest behind alone) (one_tag_rules here alone (out-Specifier s)) (tags_rules alone behind rest)
+          (specifier_parts here (out-Specifier s)) (specifiers_parts alone behind rest) between after last (λ n tag own. record { env' = here; specifier = s; among = first; begun = own })
+          (begun_later alone here s rest behind (extend_single here told.additions)) one others));
     }
 
 pub leaves_none : (old new : Checker) (in_size alone : Bool) (ss : List Specifier) (after : Gathered) → IsSound new → LeavesSpecifiers old new in_size alone ss [] after →
     (at_end env : Env) → StandsIn old (operand_in in_size) env → AreAllGathered at_end old new env alone ss after
 leaves_none old new in_size alone ss after sound leaves at_end env is =
     let f = leaves at_end env is in
-    f.all new after (none_gathered at_end new f.here after sound f.stands.is_in)
+    f.all new after (none_gathered (IsBegunAmong alone f.here []) at_end new f.here after sound f.stands.is_in)
 
 -- one more was gathered, so the state is sound
 pub gathers_further : (old new : Checker) (in_size alone : Bool) (s : Specifier) (before after : Gathered) → Gathers old new alone in_size s before after → IsFurther old new
 gathers_further old new in_size alone s before after gathers =
     let some = somewhere old (operand_in in_size) in
     let one = gathers some.0 some.0 some.1 in
-    further_walks some.0 old new some.0 (specifier_found s some.0 alone).additions (specifier_parts some.0 (out-Specifier s)) one.walks
+    further_walks (IsBegunBy (struct_begun some.0 alone (out-Specifier s)) some.0) some.0 old new some.0 (specifier_found s some.0 alone).additions (specifier_parts some.0 (out-Specifier s)) one.walks
 
 -- ---- what they are together
 
@@ -168,7 +181,7 @@ module _ (old new : Checker) (holder : Holder) (in_size alone : Bool) (ss : List
   pub specifies_further : IsFurther old new
   specifies_further =
       let some = (somewhere old (operand_in in_size)).0 in
-      further_walks some old new some (specifiers_found ss some alone).additions (specifiers_parts alone some ss) specified_somewhere.walks
+      further_walks (IsBegunAmong alone some ss) some old new some (specifiers_found ss some alone).additions (specifiers_parts alone some ss) specified_somewhere.walks
 
   pub specifies_named : IfSome specified.named (IsKnown new.types)
   specifies_named = specified_somewhere.specified.known_named

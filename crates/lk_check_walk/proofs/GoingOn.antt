@@ -1,14 +1,13 @@
 -- A state behind another one, and what stays as it is in it.
-use Rattle.std.proofs.Common.{◌≡◌, ◌∙◌, ◌≤◌, ℕ, Bool, true, false, List, [], ◌∷◌, ◌++◌, Option, Some, None, All, IfSome, length, map, refl, sym, ap, subst, arith}
+use Rattle.std.proofs.Common.{◌≡◌, ◌∙◌, ◌≤◌, ℕ, Bool, List, [], Option, Some, None, All, IfSome, length, refl, sym, ap, subst, arith}
 use Rattle.std.specs.Prelude.{slice_get}
 use Rattle.std.specs.Option.{option_map}
 use Rattle.std.proofs.lemmas.List.{length-map}
 use Rattle.std.proofs.lemmas.List.Elements.{All-push}
 use Rattle.lk_types.proofs.GrowLemmas.{form_grown}
-use Rattle.lk_types.specs.Building.{IsLonger, IsPartOfObjects, IsPassed, IsTable}
-use Rattle.lk_types.specs.Table.{Table, IsKnown}
+use Rattle.lk_types.specs.Building.{IsPassed, IsTable}
+use Rattle.lk_types.specs.Table.{IsKnown}
 use Rattle.lk_types.specs.declared.c_type.CType.TheVariants.{Array}
-use Rattle.lk_types.specs.declared.member.StructMember.{StructMember}
 use Rattle.lk_typed.proofs.Meanings.{meaning_stays}
 use Rattle.lk_typed.specs.Env.{Env, extend, Additions}
 use Rattle.lk_typed.specs.Meaning.{meaning}
@@ -22,12 +21,11 @@ use Rattle.lk_check_walk.specs.Moves.{Grows, Puts}
 use Rattle.lk_check_walk.specs.Shaped.{IsKnownAt, IsKnownLeft as IsKnownType}
 use Rattle.lk_check_walk.specs.Shapes.{IsElementIn}
 use Rattle.lk_check_walk.specs.Specifying.{IsSame}
-use Rattle.lk_check_walk.specs.Structs.{AreListed, listed}
+use Rattle.lk_check_walk.specs.Structs.{listed}
 use Rattle.lk_check_walk.specs.Walked.{HasLayer, IsKnownWalked}
 use Rattle.lk_check_walk.specs.Walking.{IsFurther, operand_in}
 use Rattle.lk_check_walk.specs.Walks.{IsIn, IsSound, StandsIn}
 use Rattle.lk_check_walk.specs.declared.checker.Checker.{Checker}
-use Rattle.lk_check_walk.specs.declared.layers.Element.{Element}
 use Rattle.lk_check_walk.specs.declared.shapes.LayerAt.{LayerAt}
 use Rattle.lk_check_walk.specs.declared.shapes.Left.{Left}
 use Rattle.lk_check_walk.specs.declared.walked.Walked.{Walked}

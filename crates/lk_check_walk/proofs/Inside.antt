@@ -8,22 +8,21 @@ use Rattle.lk_tree.specs.declared.expression.DeclaratorForm.TheOpen.{DeclaratorF
 use Rattle.lk_tree.specs.declared.expression.DeclaratorForm.{out-DeclaratorForm}
 use Rattle.lk_tree.specs.declared.expression.Declarator.{Declarator}
 use Rattle.lk_tree.specs.declared.expression.Expr.{Expr}
-use Rattle.lk_tree.specs.declared.expression.Parameter.{Parameter}
-use Rattle.lk_typed.specs.DeclaratorRules.{Size, array_made, array_rules, function_rules, of_type, pointer_rules, unless}
+use Rattle.lk_typed.specs.DeclaratorRules.{Size, array_rules, function_rules, of_type, pointer_rules, unless}
 use Rattle.lk_typed.specs.Env.{AsOperand, Env, Role, as_operand, extend}
 use Rattle.lk_typed.specs.Expressions.{declarator_found, expr_constant, expression}
 use Rattle.lk_typed.specs.Faults.{Breach, Fault}
-use Rattle.lk_typed.specs.Layers.{DeclaratorLayer, array_by, function_by}
+use Rattle.lk_typed.specs.Layers.{DeclaratorLayer, array_by}
 use Rattle.lk_typed.specs.Meaning.{meaning}
 use Rattle.lk_typed.specs.MemberRules.{is_over, within_bounds}
 use Rattle.lk_typed.specs.Sizes.{is_broken}
 use Rattle.lk_typed.specs.NodeParts.{parts}
 use Rattle.lk_typed.specs.NodeRules.{breaches, form_rules, hiding, mark, mark_of, name_use_rules, struct_bound_rules, whole_rules}
-use Rattle.lk_typed.specs.Nodes.{ADeclarator, AnExpression, Left, Node, NameUse, Placed, Declares, IsMember, IsParameter, Unnamed, at}
-use Rattle.lk_typed.specs.Parts.{array_left, declarator_parts, function_left, inner_adds, inner_left, inner_part, perhaps, span_at}
+use Rattle.lk_typed.specs.Nodes.{ADeclarator, Left, Node, NameUse, Placed, Unnamed, at}
+use Rattle.lk_typed.specs.Parts.{array_left, declarator_parts, function_left, inner_adds, inner_left, span_at}
 use Rattle.lk_typed.specs.Layers.{pointer_made}
 use Rattle.lk_typed.specs.Stands.{Mark}
-use Rattle.lk_typed.specs.Told.{Named, Span, then_type, unless_broken}
+use Rattle.lk_typed.specs.Told.{Named, Span, unless_broken}
 use Rattle.lk_typed.specs.Ty.{Ty}
 use Rattle.lk_typed.specs.Typing.{Typing, constant_in}
 use Rattle.lk_rules.proofs.Kept.{broken_both, codes_both, breach_both, keeps_none, keeps_same, keeps_then, no_breach, no_fault, node_broken, node_faults, nodes_both, none_broken, none_hidden, the_lesser_is_kept}
@@ -32,8 +31,9 @@ use Rattle.lk_rules.specs.Keeping.{FaultAt, FaultIn, HasBreach, IsBroken, Kept, 
 use Rattle.lk_rules.specs.LayerLaws.{DeclaratorTree}
 use Rattle.lk_rules.specs.NodeLaws.{is_size_typed}
 use Rattle.lk_check_walk.proofs.FormsOf.{told_by, types_follow_forms}
+use Rattle.lk_check_walk.proofs.Entries.{AreNodesOf, nodes_beside, nodes_of_node, nodes_then}
 use Rattle.lk_check_walk.specs.Declarators.{IsDeclared, KeepsUse, codes_of_use, left_of, name_codes, use_codes}
-use Rattle.lk_check_walk.specs.FormsOf.{HasForms, sized, with_parameters, star_alone, star, named, group, array_alone, array, function_alone, function}
+use Rattle.lk_check_walk.specs.FormsOf.{HasForms, sized, star_alone, star, named, group, array_alone, array, function_alone, function}
 use Rattle.lk_check_walk.specs.Keepings.{BreaksEach, Codes, FaultOfEach, KeepsAll, KeepsEach, OfEach, codes_at}
 use Rattle.lk_check_walk.specs.Shaped.{FormAt, codes_by, is_large_shape, shaped}
 use Rattle.lk_check_walk.specs.Shapes.{APointer, AnArray, AFunction, Form, array_codes, made_of, rules_of, type_by}
@@ -467,3 +467,44 @@ unnamed_use e kept left d is =
     let t = (declarator_found d).type (span_at e left) left.type in
     subst (λ becomes. KeepsEach kept (name_codes left.behind t becomes (declarator_found d).name ++ codes_at (mark d.spot d.ordinal) (of_type t (struct_bound_rules left.behind becomes)) ∷ []) kept) (sym is)
     (unnamed_each kept left.behind (mark d.spot d.ordinal) t (declarator_found d).name)
+
+-- ---- where the nodes in a declarator stand
+
+module _ (at_end : Env) where
+  abbrev Whole : Env → Left → Declarator → List Placed
+  Whole e left d = at e (ADeclarator left d) ∷ []
+
+  parts_of : (e : Env) (left : Left) (d : Declarator) (form : DeclaratorTree) → out-DeclaratorForm d.form ≡ form → AreNodesOf at_end (declarator_parts e left form) (Whole e left d)
+  parts_of e left d form is = subst (λ form. AreNodesOf at_end (declarator_parts e left form) (Whole e left d)) is (nodes_of_node at_end e (ADeclarator left d) refl)
+
+  -- by those of the declarator inside
+  through_inner : (e : Env) (left next : Left) (d inner : Declarator) (form : DeclaratorTree) (ps : List Placed) → out-DeclaratorForm d.form ≡ form →
+      declarator_parts e left form ≡ Whole e next inner → AreNodesOf at_end ps (Whole e next inner) → AreNodesOf at_end ps (Whole e left d)
+  through_inner e left next d inner form ps is parts nodes =
+      nodes_then at_end ps (Whole e next inner) (Whole e left d) nodes (subst (λ parts. AreNodesOf at_end parts (Whole e left d)) parts (parts_of e left d form is))
+
+  -- with others behind it
+  then_beside : (e : Env) (left next : Left) (d inner : Declarator) (form : DeclaratorTree) (ps qs : List Placed) → out-DeclaratorForm d.form ≡ form →
+      declarator_parts e left form ≡ Whole e next inner ++ qs → AreNodesOf at_end ps (Whole e next inner) → AreNodesOf at_end (ps ++ qs) (Whole e left d)
+  then_beside e left next d inner form ps qs is parts nodes =
+      let whole = Whole e next inner in
+      nodes_then at_end (ps ++ qs) (whole ++ qs) (Whole e left d) (nodes_beside at_end ps whole qs nodes)
+      (subst (λ parts. AreNodesOf at_end parts (Whole e left d)) parts (parts_of e left d form is))
+
+  pub nodes_inside : (e : Env) (d : Declarator) (fs : List FormAt) (has : HasForms e d fs) (left : Left) → AreNodesOf at_end (inside has) (Whole e left d)
+  nodes_inside e d fs (star_alone {qs = qs} is) left = parts_of e left d (DeclaratorForm-F.Star qs None) is
+  nodes_inside e d fs (star {qs = qs} {inner = inner} {fs = gs} is has) left =
+      let next = inner_left left (pointer_made left.type) in
+      through_inner e left next d inner (DeclaratorForm-F.Star qs (Some inner)) (inside has) is refl (nodes_inside e inner gs has next)
+  nodes_inside e d fs (named {name = name} is) left = parts_of e left d (DeclaratorForm-F.Named name) is
+  nodes_inside e d fs (group {inner = inner} is has) left =
+      let next = record left { is_whole = false } in
+      through_inner e left next d inner (DeclaratorForm-F.Group inner) (inside has) is refl (nodes_inside e inner fs has next)
+  nodes_inside e d fs (array_alone {size = size} is) left = parts_of e left d (DeclaratorForm-F.ArrayOf None size) is
+  nodes_inside e d fs (array {inner = inner} {size = size} {fs = gs} is has) left =
+      let next = array_left e (extend e (inner_adds (Some inner) e)) left size in
+      then_beside e left next d inner (DeclaratorForm-F.ArrayOf (Some inner) size) (inside has) (size_part e (Some inner) size) is refl (nodes_inside e inner gs has next)
+  nodes_inside e d fs (function_alone {ps = ps} {dots = dots} is) left = parts_of e left d (DeclaratorForm-F.FunctionOf None ps dots) is
+  nodes_inside e d fs (function {inner = inner} {ps = ps} {dots = dots} {fs = gs} is has) left =
+      let next = function_left (extend e (inner_adds (Some inner) e)) left ps dots in
+      then_beside e left next d inner (DeclaratorForm-F.FunctionOf (Some inner) ps dots) (inside has) (parameter_parts e (Some inner) ps dots) is refl (nodes_inside e inner gs has next)

@@ -1,5 +1,5 @@
 -- Codes that are kept at a node one after another.
-use Rattle.std.proofs.Common.{◌≡◌, ◌∙◌, ◌++◌, ℕ, IfSome, Bool, true, false, List, [], ◌∷◌, Option, Some, None, map, refl, sym, ap, subst}
+use Rattle.std.proofs.Common.{◌∙◌, ◌++◌, ℕ, IfSome, Bool, true, false, List, [], ◌∷◌, Option, Some, None, refl, sym, subst}
 use Rattle.std.specs.Prelude.{if◌then◌else◌, option_map}
 use Rattle.lk_base.specs.declared.code.Code.TheVariants.{BitField}
 use Rattle.lk_types.specs.Table.{IsKnown}
@@ -18,13 +18,13 @@ use Rattle.lk_check_walk.proofs.States.{same_in}
 -- ---- states that differ by what is kept alone
 
 pub same_refl : (checker : Checker) → IsSame checker checker
-same_refl checker = record { types = refl; names = refl; outside = refl }
+same_refl checker = record { types = refl; names = refl; outside = refl; records = refl }
 
 pub same_then : (a b c : Checker) → IsSame a b → IsSame b c → IsSame a c
-same_then a b c f g = record { types = g.types ∙ f.types; names = g.names ∙ f.names; outside = g.outside ∙ f.outside }
+same_then a b c f g = record { types = g.types ∙ f.types; names = g.names ∙ f.names; outside = g.outside ∙ f.outside; records = g.records ∙ f.records }
 
 pub told_same : (old new : Checker) (at : At) (broken : Option Breach) → Tells old new at broken → IsSame old new
-told_same old new at broken tells = record { types = tells.types; names = tells.names; outside = tells.outside }
+told_same old new at broken tells = record { types = tells.types; names = tells.names; outside = tells.outside; records = tells.records }
 
 pub in_same : (old new : Checker) (env : Env) → IsSame old new → IsIn old env → IsIn new env
 in_same old new env same is = same_in old new same.types same.names same.outside env is

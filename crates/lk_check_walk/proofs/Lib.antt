@@ -36,3 +36,9 @@ pub mod NamedTypes
 pub mod WalkedForms
 pub mod Whole
 pub mod Walking
+pub mod Lasting
+pub mod Truth
+pub mod Entries
+pub mod Uses
+pub mod Words
+pub mod Tags

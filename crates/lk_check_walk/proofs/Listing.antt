@@ -1,5 +1,5 @@
 -- Parameters are found one after another (C99 6.7.5.3).
-use Rattle.std.proofs.Common.{◌≡◌, ◌∙◌, ◌++◌, ◌+◌, ◌<◌, ◌≤◌, ◌||◌, ◌&&◌, ℕ, zero, suc, Bool, true, false, not, List, [], ◌∷◌, Option, Some, None, All, IfSome, length, take, get_or, map, refl, sym, ap, subst, arith, append_assoc}
+use Rattle.std.proofs.Common.{◌≡◌, ◌∙◌, ◌++◌, ◌+◌, ◌<◌, ◌≤◌, ◌||◌, ◌&&◌, ℕ, zero, suc, Bool, true, false, not, List, [], ◌∷◌, Option, Some, None, All, IfSome, length, take, get_or, refl, sym, ap, subst, arith, append_assoc}
 use Rattle.std.specs.Prelude.{if◌then◌else◌, option_map}
 use Rattle.std.proofs.lemmas.List.{append-nil, map-append}
 use Rattle.std.proofs.lemmas.List.Elements.{All-push}
@@ -10,23 +10,24 @@ use Rattle.lk_typed.specs.Env.{Additions, Declared, Env, StructStep, Tag, both, 
 use Rattle.lk_typed.specs.Expressions.{parameter_found}
 use Rattle.lk_typed.specs.Layers.{ParameterTeller, ParametersTold, each_parameter, no_parameter, one_more, parameters_of}
 use Rattle.lk_typed.specs.Meaning.{meaning}
-use Rattle.lk_typed.specs.Nodes.{AParameter, Placed, at}
+use Rattle.lk_typed.specs.Nodes.{AParameter, at}
 use Rattle.lk_typed.specs.Parts.{is_lone, parameters_in_turn, tellers}
 use Rattle.lk_typed.specs.Told.{TypeTold}
 use Rattle.lk_typed.specs.Ty.{Ty}
-use Rattle.lk_names.specs.Growing.{InLeftScope, IsMarkOf}
+use Rattle.lk_names.specs.Growing.{IsMarkOf}
 use Rattle.lk_names.specs.declared.names.Mark.{Mark}
 use Rattle.lk_rules.specs.Keeping.{KeepsNodes}
 use Rattle.lk_check_walk.proofs.GoingOn.{grows_further, stands_behind, then_further}
 use Rattle.lk_check_walk.proofs.Shaping.{form_same, passed_stays}
 use Rattle.lk_check_walk.proofs.States.{extend_both, extend_nothing}
 use Rattle.lk_check_walk.proofs.Walking.{no_walk, then_walks}
+use Rattle.lk_check_walk.proofs.Truth.{truth_behind, truth_still}
 use Rattle.lk_check_walk.specs.Moves.{Grows}
-use Rattle.lk_check_walk.specs.Parameters.{AreListed, AreParametersFound, FindsParameter, FindsParameters, IsParameterFound, ListsParameters, has_void, types_listed, with_last}
+use Rattle.lk_check_walk.specs.Parameters.{FindsParameter, FindsParameters, ListsParameters, has_void, types_listed, with_last}
 use Rattle.lk_check_walk.specs.Scopes.{IsEntered, IsLeft}
 use Rattle.lk_check_walk.specs.Shapes.{Form, APointer, AnArray, AFunction, params_in}
-use Rattle.lk_check_walk.specs.Walking.{IsFurther, operand_in}
-use Rattle.lk_check_walk.specs.Walks.{IsIn, IsSound, StandsIn, Walks, kept_in}
+use Rattle.lk_check_walk.specs.Walking.{IsFurther}
+use Rattle.lk_check_walk.specs.Walks.{IsIn, IsSound, Walks, kept_in}
 use Rattle.lk_check_walk.specs.declared.checker.Checker.{Checker}
 use Rattle.lk_check_walk.specs.declared.layers.Layer.TheVariants as layer
 use Rattle.lk_check_walk.specs.declared.parameters.Listed.{Listed}
@@ -209,6 +210,7 @@ module _ (old first second new : Checker) (in_size dots : Bool) (ps : List Param
           begun = all_further.begun;
           behind = subst (λ a. IsIn new (extend env (past_scope a))) (sym told.additions) outer.behind;
           keeps = subst (λ k. KeepsNodes at_end k nodes (kept_in new)) begins.kept (subst (KeepsNodes at_end (kept_in first) nodes) (sym ends.kept) h.walks.keeps);
+          records = truth_behind at_end old first new nodes begins.records (truth_still at_end first second new nodes h.walks.sound.ready.table_is ends.longer ends.records h.walks.records);
         };
         types = ap (params_in new.types) types ∙ no_params new.types (lone && listed.has_void) (types_listed listed) ∙
             ap (λ b. if lone && b then Some [] else params_in new.types (types_listed listed)) h.void ∙

@@ -1,12 +1,11 @@
 -- The codes of a member's declarator, and whether its struct may have it as a field.
-use Rattle.std.proofs.Common.{◌≡◌, ◌∙◌, ◌≤◌, ◌⊎◌, inl, inr, ◌++◌, ℕ, suc, Bool, true, false, List, [], ◌∷◌, Option, Some, None, map, refl, sym, ap, subst, arith, All, IfSome, MatchOption}
+use Rattle.std.proofs.Common.{◌≡◌, ◌∙◌, ◌≤◌, inl, inr, ◌++◌, ℕ, suc, Bool, true, false, List, [], ◌∷◌, Option, Some, None, map, refl, sym, ap, subst, arith, All, IfSome}
 use Rattle.std.specs.Prelude.{◌&&◌, ◌||◌, fold, if◌then◌else◌, is_some, not, option_map}
 use Rattle.std.proofs.lemmas.Bool.{false≢true}
 use Rattle.std.proofs.lemmas.List.{append-nil, map-append}
 use Rattle.std.proofs.lemmas.List.Elements.{All-head, All-push, All-tail}
 use Rattle.std.proofs.lemmas.Option.{none-some}
 use Rattle.lk_base.specs.Code.{number_of}
-use Rattle.lk_base.specs.declared.code.Code.{Code}
 use Rattle.lk_base.specs.declared.code.Code.TheVariants.{Incomplete, LargeType, Redeclared}
 use Rattle.lk_types.specs.Building.{IsTable}
 use Rattle.lk_types.specs.Sizes as walks

@@ -16,10 +16,8 @@ use Rattle.lk_typed.specs.Told.{SpecifierTold, enum_named, meant, of_type_alone,
 use Rattle.lk_typed.specs.Ty.{Ty, Struct, int}
 use Rattle.lk_check_walk.proofs.Shaping.{known_stays}
 use Rattle.lk_check_walk.proofs.States.{extend_nothing}
-use Rattle.lk_check_walk.specs.Moves.{IsMeant}
 use Rattle.lk_check_walk.specs.Naming.{IsNamedType, IsSpecifierPut}
 use Rattle.lk_check_walk.specs.Specified.{AreOthers, IsGathered, optional_breach}
-use Rattle.lk_check_walk.specs.Specified as code
 use Rattle.lk_check_walk.specs.Walks.{IsIn}
 use Rattle.lk_check_walk.specs.declared.checker.Checker.{Checker}
 use Rattle.lk_check_walk.specs.declared.gathered.Breach.{Breach as CodeBreach}

@@ -1,20 +1,20 @@
 -- A parameter is walked: its specifiers, its declarator, and its own codes (C99 6.7.5.3).
 use Rattle.std.proofs.Common.{◌≡◌, ◌∙◌, ◌++◌, ◌||◌, ◌&&◌, ℕ, Bool, true, false, List, [], ◌∷◌, Option, Some, None, map, refl, sym, ap, subst, append_assoc}
-use Rattle.std.specs.Prelude.{if◌then◌else◌, option_map}
+use Rattle.std.specs.Prelude.{option_map}
 use Rattle.lk_tree.specs.declared.expression.Declarator.{Declarator}
 use Rattle.lk_tree.specs.declared.expression.Parameter.{Parameter, out-Parameter}
 use Rattle.lk_tree.specs.declared.expression.Specifier.{Specifier}
 use Rattle.lk_typed.specs.DeclarationRules.{InType, type_in}
 use Rattle.lk_typed.specs.DeclaratorRules.{of_type}
-use Rattle.lk_typed.specs.Env.{Additions, Env, both, extend, nothing}
+use Rattle.lk_typed.specs.Env.{Env, both, extend, nothing}
 use Rattle.lk_typed.specs.Expressions.{declarator_found, declarator_layer, parameter_found, specifier_found, specifiers_found}
 use Rattle.lk_typed.specs.Faults.{Breach}
 use Rattle.lk_typed.specs.HolderRules.{all_specifier_rules}
 use Rattle.lk_typed.specs.Layers.{has_name, is_void_type, parameter_name, parameter_told, parameter_type, type_made}
 use Rattle.lk_typed.specs.Meaning.{meaning}
-use Rattle.lk_typed.specs.NodeParts.{type_part_if_there, type_parts}
+use Rattle.lk_typed.specs.NodeParts.{type_part_if_there, type_parts, type_left}
 use Rattle.lk_typed.specs.NodeRules.{adjusted_rules, breaches, env_behind, is_named, mark, parameter_node_rules, struct_bound_rules, type_behind}
-use Rattle.lk_typed.specs.Nodes.{ADeclarator, AParameter, IsParameter, Placed, at}
+use Rattle.lk_typed.specs.Nodes.{ADeclarator, AParameter, IsParameter, at}
 use Rattle.lk_typed.specs.Parts.{specifiers_parts}
 use Rattle.lk_typed.specs.Stands.{Mark}
 use Rattle.lk_typed.specs.Told.{DeclaratorTold, SpecifierTold, TypeTold}
@@ -23,17 +23,19 @@ use Rattle.lk_rules.proofs.Kept.{codes_are_kept_behind_parts, nodes_are_kept_in_
 use Rattle.lk_rules.proofs.Layered.{parameters_follow_their_parts}
 use Rattle.lk_rules.proofs.Parts.{parameters_are_asked}
 use Rattle.lk_rules.specs.Keeping.{Kept, KeepsCodes, KeepsNodes}
-use Rattle.lk_check_walk.proofs.GoingOn.{stands_behind}
+use Rattle.lk_check_walk.specs.Truth.{IsBegunAmong, NoTag}
+use Rattle.lk_check_walk.proofs.GoingOn.{stands_behind, same_further}
 use Rattle.lk_check_walk.proofs.Inside.{none_kept_at, use_kept}
 use Rattle.lk_check_walk.proofs.Listing.{or_nothing}
 use Rattle.lk_check_walk.proofs.States.{extend_both, extend_nothing}
+use Rattle.lk_check_walk.proofs.Truth.{truth_same, told_of_node, told_still, told_then}
 use Rattle.lk_check_walk.specs.Declarators.{FindsDeclarator, IsDeclared, codes_of_use, left_of, name_codes}
 use Rattle.lk_check_walk.specs.Keepings.{Codes, KeepsEach, codes_at}
 use Rattle.lk_check_walk.specs.Parameters.{FindsParameter, IsParameterFound, IsParameterSettled, SettlesParameter, name_of}
 use Rattle.lk_check_walk.specs.Specifying.{AreSpecified, Specifies}
 use Rattle.lk_check_walk.specs.Walked.{layer_of}
 use Rattle.lk_check_walk.specs.Walking.{IsFurther, operand_in}
-use Rattle.lk_check_walk.specs.Walks.{IsIn, IsSound, StandsIn, Walks, kept_in}
+use Rattle.lk_check_walk.specs.Walks.{IsIn, StandsIn, kept_in, TellsTruth, TellsOwn}
 use Rattle.lk_check_walk.specs.declared.checker.Checker.{Checker}
 use Rattle.lk_check_walk.specs.declared.declarators.Asked.{Asked}
 use Rattle.lk_check_walk.specs.declared.declarators.DeclaratorFound.{DeclaratorFound}
@@ -130,9 +132,11 @@ module _ (env : Env) (p : Parameter) (o : Option Declarator) (is_o : (out-Parame
   -- its specifiers and its declarator were walked, and it is settled
   parameter_is : (at_end : Env) (old one two new : Checker) (lone in_size void : Bool) (found_specifiers : Specified) (found : ParameterFound) → IsFurther old new →
       AreSpecified at_end old one env InType false ss found_specifiers → (settled : IsParameterSettled two new behind m o found_specifiers.breaches.items void written found.ty) →
-      KeepsNodes at_end (kept_in one) (type_part_if_there after told true IsParameter o) settled.middle → void ≡ (lone && (parameter_found p env).is_bare_void) →
+      KeepsNodes at_end (kept_in one) (type_part_if_there after told true IsParameter o) settled.middle → TellsTruth at_end one two (type_part_if_there after told true IsParameter o) →
+      IsFurther one two → IsFurther two new → void ≡ (lone && (parameter_found p env).is_bare_void) →
       found.is_bare_void ≡ (parameter_found p env).is_bare_void → found.holds_sizeof ≡ (parameter_found p env).holds_sizeof → IsParameterFound at_end old new env lone p found
-  parameter_is at_end old one two new lone in_size void found_specifiers found further s settled nodes is_void bare holds =
+  parameter_is at_end old one two new lone in_size void found_specifiers found further s settled nodes truth second later is_void bare holds =
+      let Own = IsBegunAmong false env ss in
       let parts_of = λ (o : Option Declarator). type_parts env true IsParameter ss o in
       let inside : KeepsNodes at_end (kept_in old) (parts_of o) settled.middle =
       nodes_are_kept_in_turn at_end (kept_in old) (kept_in one) settled.middle (specifiers_parts false env ss) (type_part_if_there after told true IsParameter o) s.walks.keeps nodes in
@@ -150,6 +154,11 @@ module _ (env : Env) (p : Parameter) (o : Option Declarator) (is_o : (out-Parame
           keeps = codes_are_kept_behind_parts at_end env (AParameter lone p) (kept_in old) settled.middle (kept_in new) refl
               (subst (λ o. KeepsNodes at_end (kept_in old) (parts_of o) settled.middle) (sym is_o) inside)
               (subst (λ bs. KeepsCodes settled.middle m bs (kept_in new)) (ap rules is_void ∙ sym (rules_are at_end lone)) own);
+          records = told_of_node Own at_end old new env (AParameter lone p) refl (λ s tag own. own)
+              (subst (λ o. TellsOwn Own at_end old new (parts_of o)) (sym is_o)
+              (told_still Own at_end old two new (parts_of o) second.sound.ready.table_is later.longer settled.records
+              (told_then Own NoTag Own at_end old one two (specifiers_parts false env ss) (type_part_if_there after told true IsParameter o) s.walks.sound.ready.table_is second.longer (λ s tag own. own)
+              (λ s tag never. absurd never) s.walks.records truth)));
         };
         type = settled.type ∙ sym type_told;
         is_bare_void = bare;
@@ -180,9 +189,9 @@ declared_node at_end env one two t d asked declared left type middle is may foun
 module _ (old one two new : Checker) (lone in_size : Bool) (p : Parameter) (found_specifiers : Specified) (found : ParameterFound) (further : IsFurther old new)
     (specifies : Specifies old one InType false in_size (out-Parameter p).specifiers found_specifiers) where
   pub named_found : (d : Declarator) (asked : Asked) (declared : DeclaratorFound) → (out-Parameter p).declarator ≡ Some d → asked.may_be_absent ≡ true → asked.in_size ≡ in_size →
-      FindsDeclarator one two found_specifiers.ty d asked declared → SettlesParameter two new p found_specifiers.breaches.items false (option_map (meaning two.types) declared.ty) found.ty →
+      FindsDeclarator one two found_specifiers.ty d asked declared → IsFurther one two → IsFurther two new → SettlesParameter two new p found_specifiers.breaches.items false (option_map (meaning two.types) declared.ty) found.ty →
       found.is_bare_void ≡ false → found.holds_sizeof ≡ (found_specifiers.holds_sizeof || declared.holds_sizeof) → FindsParameter old new in_size lone p found
-  named_found d asked declared there may size finds settles void holds at_end env stands =
+  named_found d asked declared there may size finds second later settles void holds at_end env stands =
       let s = specifies at_end env stands in
       let told = specifiers_found (out-Parameter p).specifiers env false in
       let after = extend env told.additions in
@@ -197,15 +206,16 @@ module _ (old one two new : Checker) (lone in_size : Bool) (p : Parameter) (foun
       let bare : (parameter_found p env).is_bare_void ≡ false = ap (λ (t : TypeTold). t.is_bare_void) (is_told env p (Some d) there) in
       parameter_is env p (Some d) there at_end old one two new lone in_size false found_specifiers found further s settled
       (declared_node at_end after one two found_specifiers.ty d asked declared (type_in InType told) (type_made after true (type_in InType told) (declarator_found d)) settled.middle s.specified.type may inner refl settled.name)
+      (inner.records (type_left after told true IsParameter d)) second later
       (sym (ap (λ b. lone && b) bare ∙ and_false lone)) (void ∙ sym bare)
       (holds ∙ ap (λ b. b || declared.holds_sizeof) s.specified.holds_sizeof ∙ ap (λ b. told.holds_sizeof || b) inner.holds_sizeof ∙ sym (ap (λ (t : TypeTold). t.holds_sizeof) (is_told env p (Some d) there)))
 
   -- ---- without one
 
-  pub bare_found : (is_void : Bool) → (out-Parameter p).declarator ≡ None → two ≡ one → SettlesParameter one new p found_specifiers.breaches.items is_void (option_map (meaning one.types) found_specifiers.ty) found.ty →
+  pub bare_found : (is_void : Bool) → (out-Parameter p).declarator ≡ None → two ≡ one → IsFurther one new → SettlesParameter one new p found_specifiers.breaches.items is_void (option_map (meaning one.types) found_specifiers.ty) found.ty →
       is_void ≡ (lone && found.is_bare_void) → found.is_bare_void ≡ is_void_type (option_map (meaning one.types) found_specifiers.named) → found.holds_sizeof ≡ found_specifiers.holds_sizeof →
       FindsParameter old new in_size lone p found
-  bare_found is_void there same settles void bare holds at_end env stands =
+  bare_found is_void there same later settles void bare holds at_end env stands =
       let s = specifies at_end env stands in
       let told = specifiers_found (out-Parameter p).specifiers env false in
       let after = extend env told.additions in
@@ -219,5 +229,6 @@ module _ (old one two new : Checker) (lone in_size : Bool) (p : Parameter) (foun
       bare ∙ ap is_void_type s.specified.named ∙ sym (ap (λ (t : TypeTold). t.is_bare_void) (is_told env p None there)) in
       parameter_is env p None there at_end old one one new lone in_size is_void found_specifiers found further s settled
       (subst (λ k. KeepsNodes at_end (kept_in one) [] k) (sym settled.name) (nothing_is_kept at_end (kept_in one)))
+      (truth_same at_end one one refl) (same_further one s.walks.sound) later
       (void ∙ ap (λ b. lone && b) told_bare) told_bare
       (holds ∙ s.specified.holds_sizeof ∙ sym (ap (λ (t : TypeTold). t.holds_sizeof) (is_told env p None there) ∙ or_nothing told.holds_sizeof))

@@ -8,7 +8,7 @@ use Rattle.lk_tree.specs.declared.expression.Parameter.{Parameter, out-Parameter
 use Rattle.lk_types.specs.Building.{IsLonger, IsPassed, IsTable}
 use Rattle.lk_types.specs.Table.{Table}
 use Rattle.lk_typed.specs.DeclaratorRules.{adjusted, parameter_rules}
-use Rattle.lk_typed.specs.Env.{AnObject, Env, Meaning, extend, nothing}
+use Rattle.lk_typed.specs.Env.{Env, Meaning, extend}
 use Rattle.lk_typed.specs.Faults.{breach}
 use Rattle.lk_typed.specs.Layers.{has_name, parameter_name}
 use Rattle.lk_typed.specs.Meaning.{meaning}
@@ -32,7 +32,7 @@ use Rattle.lk_check_walk.specs.Shapes.{IsGrown}
 use Rattle.lk_check_walk.specs.Specified.{breaches_in}
 use Rattle.lk_check_walk.specs.Specifying.{IsSame, KeepsAt}
 use Rattle.lk_check_walk.specs.Walking.{IsFurther}
-use Rattle.lk_check_walk.specs.Walks.{IsIn, IsSound, Tells, kept_in, mark_at}
+use Rattle.lk_check_walk.specs.Walks.{IsIn, IsSound, Tells, kept_in, mark_at, recorded_in}
 use Rattle.lk_check_walk.specs.declared.checker.Checker.{Checker}
 use Rattle.lk_check_walk.specs.declared.declarators.DeclaredName.{DeclaredName}
 use Rattle.lk_check_walk.specs.declared.found.At.{At}
@@ -45,7 +45,7 @@ pub missing_is : (broken : Option Code) (t : Ty) (a b m v : Bool) → m ≡ (a |
 missing_is broken t a b m v is first second same = sym (is ∙ ap (λ a. a || b) first ∙ ap (λ b. is_some broken || b) second) ∙ same
 
 module _ (old one two new : Checker) (at : At) (code large : Option Code) (sound : IsSound old) (first : Tells old one at (option_map breach code)) (table : IsTable two.types) (grown : IsGrown one.types two.types)
-    (names : two.names ≡ one.names) (outside : two.outside ≡ one.outside) (same_kept : kept_in two ≡ kept_in one) (second : Tells two new at (option_map breach large)) where
+    (names : two.names ≡ one.names) (outside : two.outside ≡ one.outside) (same_kept : kept_in two ≡ kept_in one) (unrecorded : recorded_in two ≡ recorded_in one) (second : Tells two new at (option_map breach large)) where
   one_sound : IsSound one
   one_sound = same_sound old one (tells_same first) sound
 
@@ -55,6 +55,7 @@ module _ (old one two new : Checker) (at : At) (code large : Option Code) (sound
     sound = same_sound two new (tells_same second) (grown_sound one two one_sound table grown names);
     outside = second.outside ∙ outside ∙ first.outside;
     names = second.names ∙ names ∙ first.names;
+    records = second.records ∙ unrecorded ∙ first.records;
   }
 
   made_of_old : (t : ℕ) (made : Option ℕ) → IsMade one.types two.types (adjusted (meaning one.types t)) made → IsMade old.types two.types (adjusted (meaning old.types t)) made
@@ -121,13 +122,13 @@ declared_by old new t name n meaning is grows same goes = record {
 -- without a name it isn't
 pub not_declared : (old : Checker) (t : Option Ty) (name : Option Named) → name ≡ None → IsSound old → IsParameterDeclared old old t name
 not_declared old t name is sound = record {
-  grows = record { longer = longer_same old.types; sound = sound; outside = refl; kept = refl };
+  grows = record { longer = longer_same old.types; sound = sound; outside = refl; kept = refl; records = refl };
   goes_on = λ env inside. subst (IsIn old) (sym (extend_nothing env) ∙ ap (λ name. extend env (parameter_name name t)) (sym is)) inside;
 }
 
 module _ (old one two three new : Checker) (sound : IsSound old) (first : IsSame old one) (second : IsSame one two) (puts : Puts two three) where
   both_same : IsSame old two
-  both_same = record { types = second.types ∙ first.types; names = second.names ∙ first.names; outside = second.outside ∙ first.outside }
+  both_same = record { types = second.types ∙ first.types; names = second.names ∙ first.names; outside = second.outside ∙ first.outside; records = second.records ∙ first.records }
 
   pub settled_further : (t : Option Ty) (name : Option Named) → IsParameterDeclared three new t name → new.names.structs ≡ three.names.structs → IsFurther old new
   settled_further t name declared structs =
@@ -152,5 +153,6 @@ module _ (old one two three new : Checker) (sound : IsSound old) (first : IsSame
             (codes_are_kept_in_turn (kept_in one) (kept_in two) (kept_in three) m (breaches_in breaches) (parameter_node_rules (has_name name) void written ++ adjusted_rules env written) codes
             (subst (λ n. KeepsCodes (kept_in two) m (parameter_node_rules n void written ++ adjusted_rules env written) (kept_in three)) is a.keeps));
         type = ap (λ (table : Table). option_map (meaning table) ty) same ∙ type;
+        records = declared.grows.records ∙ puts.records ∙ both_same.records;
         behind = subst (λ t. IsIn new (extend env (parameter_name name t))) type (declared.goes_on env in_three);
       }

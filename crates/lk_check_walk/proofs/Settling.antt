@@ -198,6 +198,7 @@ settled old new e env behind form ruled look at broken found sound place tells s
       sound = sound_same old new sound tells.types tells.names;
       names = tells.names;
       outside = tells.outside;
+      records = tells.records;
       found = record {
         typing =
             subst (λ table. IsFoundTyping table found (typing_of v)) (sym tells.types)

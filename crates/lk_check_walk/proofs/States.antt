@@ -60,6 +60,7 @@ puts_then a b c first second = record {
   sound = second.sound;
   outside = second.outside ∙ first.outside;
   names = second.names ∙ first.names;
+  records = second.records ∙ first.records;
 }
 
 -- types were put

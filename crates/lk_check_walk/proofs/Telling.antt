@@ -25,7 +25,7 @@ code_told code name = record { code = code; name = name }
 pub tells_behind : (old : Checker) (at : At) (code : Code) (name : List ℕ) → first_of old.least (fault_at (mark_at at) (code_told code name)) ≡ false →
     Tells old (record old { is_broken = true }) at (Some (code_told code name))
 tells_behind old at code name h =
-    record { kept = ap (λ o. record { least = o; is_broken = true }) (not_first old.least (fault_at (mark_at at) (code_told code name)) h); types = refl; names = refl; outside = refl }
+    record { kept = ap (λ o. record { least = o; is_broken = true }) (not_first old.least (fault_at (mark_at at) (code_told code name)) h); types = refl; names = refl; outside = refl; records = refl }
 
 pub tells_before : (old : Checker) (at : At) (code : Code) (name other : List ℕ) → other ≡ name → first_of old.least (fault_at (mark_at at) (code_told code name)) ≡ true →
     Tells old (record old { least = Some (record { at = at; code = code; name = other }); is_broken = true }) at (Some (code_told code name))
@@ -37,4 +37,5 @@ tells_before old at code name other same h =
       types = refl;
       names = refl;
       outside = refl;
+      records = refl;
     }

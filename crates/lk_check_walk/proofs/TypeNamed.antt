@@ -1,21 +1,17 @@
 -- A type name: its specifiers, their codes, its declarator.
-use Rattle.std.proofs.Common.{◌≡◌, ◌∙◌, ◌++◌, ◌↔◌, ℕ, Bool, true, false, List, [], ◌∷◌, Option, Some, None, map, refl, sym, ap, subst}
+use Rattle.std.proofs.Common.{◌≡◌, ◌∙◌, ◌++◌, Bool, false, List, [], ◌∷◌, Option, Some, None, map, refl, sym, ap, subst}
 use Rattle.std.specs.Prelude.{◌||◌, slice_get}
 use Rattle.std.specs.Option.{option_map}
-use Rattle.std.proofs.lemmas.List.{append-nil}
 use Rattle.lk_types.specs.Building.{IsLonger}
 use Rattle.lk_tree.specs.declared.expression.Declarator.{Declarator}
-use Rattle.lk_tree.specs.declared.expression.Specifier.{Specifier}
 use Rattle.lk_tree.specs.declared.expression.TypeName.{TypeName, out-TypeName}
 use Rattle.lk_typed.specs.DeclarationRules.{InType, type_in}
 use Rattle.lk_typed.specs.DeclaratorRules.{of_type}
-use Rattle.lk_typed.specs.Env.{Additions, Env, both, extend, nothing}
+use Rattle.lk_typed.specs.Env.{Env, extend}
 use Rattle.lk_typed.specs.Expressions.{declarator_found, declarator_layer, specifier_found, specifiers_found, type_found}
-use Rattle.lk_typed.specs.Faults.{Breach}
-use Rattle.lk_typed.specs.HolderRules.{all_specifier_rules}
 use Rattle.lk_typed.specs.Layers.{inner_of, type_made, type_name_told}
 use Rattle.lk_typed.specs.Meaning.{meaning}
-use Rattle.lk_typed.specs.NodeParts.{parts, type_part, type_part_if_there}
+use Rattle.lk_typed.specs.NodeParts.{type_part_if_there, type_left}
 use Rattle.lk_typed.specs.NodeRules.{breaches, mark, struct_bound_rules}
 use Rattle.lk_typed.specs.Nodes.{ADeclarator, ATypeName, Left, Unnamed, Placed, at}
 use Rattle.lk_typed.specs.Parts.{span_at, specifiers_parts}
@@ -27,17 +23,18 @@ use Rattle.lk_rules.proofs.Kept.{both_are_all_of_a_node, codes_are_kept_further,
 use Rattle.lk_rules.proofs.Layered.{type_names_follow_their_parts}
 use Rattle.lk_rules.proofs.Parts.{type_names_are_asked}
 use Rattle.lk_rules.specs.Keeping.{Kept, KeepsBoth, KeepsCodes, KeepsNodes}
-use Rattle.lk_rules.specs.Laws.{name_found}
-use Rattle.lk_check_walk.proofs.Gathers.{or_false, stands_behind}
+use Rattle.lk_check_walk.specs.Truth.{IsBegunAmong, NoTag}
+use Rattle.lk_check_walk.proofs.Gathers.{or_false}
 use Rattle.lk_check_walk.proofs.Inside.{use_kept}
 use Rattle.lk_check_walk.proofs.KeepsAll.{in_same, no_codes, sound_same}
 use Rattle.lk_check_walk.proofs.States.{extend_both, extend_nothing, longer_same, longer_then}
+use Rattle.lk_check_walk.proofs.Truth.{truth_same, told_of_node, told_still, told_then}
 use Rattle.lk_check_walk.specs.Declarators.{IsDeclared, left_of, name_codes, use_codes}
-use Rattle.lk_check_walk.specs.Keepings.{Codes, KeepsEach, codes_at}
+use Rattle.lk_check_walk.specs.Keepings.{KeepsEach, codes_at}
 use Rattle.lk_check_walk.specs.Specified.{breaches_in}
 use Rattle.lk_check_walk.specs.Specifying.{AreSpecified, IsSame, KeepsAt}
-use Rattle.lk_check_walk.specs.Walking.{IsFurther, IsTypeNamed, operand_in}
-use Rattle.lk_check_walk.specs.Walks.{IsIn, IsSound, StandsIn, Walks, kept_in, mark_at}
+use Rattle.lk_check_walk.specs.Walking.{IsFurther, IsTypeNamed}
+use Rattle.lk_check_walk.specs.Walks.{IsIn, Walks, kept_in, mark_at, TellsTruth, TellsOwn}
 use Rattle.lk_check_walk.specs.declared.checker.Checker.{Checker}
 use Rattle.lk_check_walk.specs.declared.declarators.Asked.{Asked}
 use Rattle.lk_check_walk.specs.declared.declarators.DeclaratorFound.{DeclaratorFound}
@@ -94,10 +91,21 @@ module _ (at_end : Env) (old first middle new : Checker) (env : Env) (n : TypeNa
       both_are_all_of_a_node at_end env (ATypeName n) (kept_in old) (kept_in new) bs refl (λ b. (subst (IsAmong b) codes_are, subst (IsAmong b) (sym codes_are)))
       (subst (λ d. KeepsBoth at_end (kept_in old) (ps ++ inner_nodes d) node_mark bs (kept_in new)) (sym is) all)
 
-  pub type_named : (d : Option Declarator) → (out-TypeName n).declarator ≡ d → KeepsNodes at_end (kept_in middle) (inner_nodes d) (kept_in new) → IsFurther middle new →
+  node_told : (d : Option Declarator) → (out-TypeName n).declarator ≡ d → TellsTruth at_end middle new (inner_nodes d) → IsFurther middle new → TellsTruth at_end old new (at env (ATypeName n) ∷ [])
+  node_told d is truth further =
+      let ps = specifiers_parts false env (out-TypeName n).specifiers in
+      let good = specifies.walks.sound.ready.table_is in
+      let longer = subst (IsLonger first.types) (sym same.types) (longer_same first.types) in
+      let Own = IsBegunAmong false env (out-TypeName n).specifiers in
+      told_of_node Own at_end old new env (ATypeName n) refl (λ s tag own. own)
+      (subst (λ d. TellsOwn Own at_end old new (ps ++ inner_nodes d)) (sym is)
+      (told_then Own NoTag Own at_end old middle new ps (inner_nodes d) (sound_same first middle same specifies.walks.sound).ready.table_is further.longer (λ s tag own. own)
+      (λ s tag never. absurd never) (told_still Own at_end old first middle ps good longer same.records specifies.walks.records) truth))
+
+  pub type_named : (d : Option Declarator) → (out-TypeName n).declarator ≡ d → KeepsNodes at_end (kept_in middle) (inner_nodes d) (kept_in new) → TellsTruth at_end middle new (inner_nodes d) → IsFurther middle new →
       IsIn new (extend here ((inner d).additions here)) → option_map (meaning new.types) result.ty ≡ type_made here false (type_in InType told) (inner d) →
       result.holds_sizeof ≡ (told.holds_sizeof || (inner d).holds_sizeof here) → IsTypeNamed at_end old new env n result
-  type_named d is inside further behind type holds =
+  type_named d is inside truth further behind type holds =
       let found : type_found n env ≡ type_name_told (map specifier_found (out-TypeName n).specifiers) (option_map declarator_layer d) env =
       ap (λ f. f env) (type_names_follow_their_parts n) ∙ ap (λ d. type_name_told (map specifier_found (out-TypeName n).specifiers) (option_map declarator_layer d) env) is in
       record {
@@ -109,6 +117,7 @@ module _ (at_end : Env) (old first middle new : Checker) (env : Env) (n : TypeNa
               begun = λ s begun. further.begun s (ap (λ (names : InScope). slice_get names.structs s) same.names ∙ specifies.walks.begun s begun);
               behind = subst (IsIn new) (extend_both env told.additions ((inner d).additions here)) behind;
               keeps = node_kept d is inside;
+              records = node_told d is truth further;
             });
         found = record {
           type = type ∙ ap (λ (t : TypeTold). t.type) (sym found);
@@ -124,7 +133,7 @@ pub named_alone : (at_end : Env) (old first new : Checker) (env : Env) (n : Type
 named_alone at_end old first new env n specified at_n result marked specifies same keeps is type holds =
     let told = specifiers_found (out-TypeName n).specifiers env false in
     let sound = sound_same first new same specifies.walks.sound in
-    type_named at_end old first new new env n specified at_n result marked specifies same keeps None is (nothing_is_kept at_end (kept_in new))
+    type_named at_end old first new new env n specified at_n result marked specifies same keeps None is (nothing_is_kept at_end (kept_in new)) (truth_same at_end new new refl)
     (record { longer = longer_same new.types; sound = sound; outside = refl; begun = λ s begun. begun })
     (subst (IsIn new) (sym (extend_nothing (extend env told.additions))) (in_same first new (extend env told.additions) same specifies.walks.behind))
     (ap (λ table. option_map (meaning table) result.ty) same.types ∙ ap (option_map (meaning first.types)) type ∙ specifies.specified.type)
@@ -146,7 +155,7 @@ named_with at_end old first middle new in_size env n d specified at_n asked foun
     type_named at_end old first middle new env n specified at_n result marked specifies same keeps (Some d) is
     (subst (λ may. KeepsNodes at_end (kept_in middle) (at here (ADeclarator (left_of here may (type_in InType told) d Unnamed) d) ∷ []) (kept_in new)) absent
     (subst (λ t. KeepsNodes at_end (kept_in middle) (at here (ADeclarator (left_of here asked.may_be_absent t d Unnamed) d) ∷ []) (kept_in new)) left node))
-    further declared.behind
+    (declared.records (type_left here told false Unnamed d)) further declared.behind
     (ap (option_map (meaning new.types)) type ∙ declared.type ∙ ap (λ may. type_made here may (option_map (meaning middle.types) specified.ty) (declarator_found d)) absent ∙
     ap (λ t. type_made here false t (declarator_found d)) left)
     (holds ∙ ap (λ h. h || found.holds_sizeof) specifies.specified.holds_sizeof ∙ ap (λ h. told.holds_sizeof || h) declared.holds_sizeof)

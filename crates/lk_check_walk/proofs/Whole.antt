@@ -1,5 +1,5 @@
 -- A whole declarator is found: its forms were walked, and make its type (C99 6.7.5).
-use Rattle.std.proofs.Common.{◌≡◌, ◌∙◌, ◌||◌, ℕ, Bool, true, false, not, List, Option, Some, None, IfSome, reverse, refl, sym, ap, subst}
+use Rattle.std.proofs.Common.{◌≡◌, ◌∙◌, ◌||◌, ℕ, Bool, false, not, List, [], ◌∷◌, Option, IfSome, reverse, refl, sym, ap, subst}
 use Rattle.std.specs.Option.{option_map}
 use Rattle.std.proofs.lemmas.List.{reverse-reverse}
 use Rattle.lk_base.specs.declared.code.Code.{Code}
@@ -12,38 +12,39 @@ use Rattle.lk_typed.specs.Expressions.{declarator_found}
 use Rattle.lk_typed.specs.Faults.{Breach, breach}
 use Rattle.lk_typed.specs.Meaning.{meaning}
 use Rattle.lk_typed.specs.NodeRules.{mark}
-use Rattle.lk_typed.specs.Nodes.{Unnamed}
+use Rattle.lk_typed.specs.Nodes as nodes
+use Rattle.lk_typed.specs.Nodes.{ADeclarator, Unnamed}
 use Rattle.lk_typed.specs.Parts.{span_at}
 use Rattle.lk_typed.specs.Told.{Span}
-use Rattle.lk_rules.specs.Keeping.{KeepsCodes, keep}
+use Rattle.lk_rules.specs.Keeping.{KeepsCodes}
 use Rattle.lk_check_decl.specs.Breaches.{told}
 use Rattle.lk_check_walk.proofs.FormsOf.{types_follow_forms}
 use Rattle.lk_check_walk.proofs.GoingOn.{same_sound, type_same}
-use Rattle.lk_check_walk.proofs.Inside.{declarator_kept}
+use Rattle.lk_check_walk.proofs.Inside.{declarator_kept, nodes_inside}
 use Rattle.lk_check_walk.proofs.Keepings.{kept_told, unnamed_unless}
 use Rattle.lk_check_walk.proofs.States.{stays_in}
+use Rattle.lk_check_walk.proofs.Truth.{truth_of, truth_still}
 use Rattle.lk_check_walk.proofs.WalkedForms.{scope_stays}
 use Rattle.lk_check_walk.specs.Declarators.{FindsDeclarator, left_of, scope_told}
 use Rattle.lk_check_walk.specs.Keepings.{KeepsEach}
 use Rattle.lk_check_walk.specs.Moves.{Puts}
-use Rattle.lk_check_walk.specs.Shaped.{FormAt, IsLeft, IsShaped, codes_by, forms_in, is_large_shape, shaped, type_in}
+use Rattle.lk_check_walk.specs.Shaped.{IsLeft, IsShaped, codes_by, forms_in, is_large_shape, shaped, type_in}
 use Rattle.lk_check_walk.specs.Shapes.{IsElement}
 use Rattle.lk_check_walk.specs.Specifying.{IsSame}
-use Rattle.lk_check_walk.specs.Walked.{HasWalked, IsKnownWalked, IsTypeShaped, IsWholeShaped, WalksForms}
+use Rattle.lk_check_walk.specs.Walked.{IsKnownWalked, IsTypeShaped, IsWholeShaped, WalksForms, inside}
 use Rattle.lk_check_walk.specs.Walking.{IsFurther}
 use Rattle.lk_check_walk.specs.Walks.{IsIn, IsSound, Tells, kept_in, mark_at}
 use Rattle.lk_check_walk.specs.declared.checker.Checker.{Checker}
 use Rattle.lk_check_walk.specs.declared.declarators.Asked.{Asked}
 use Rattle.lk_check_walk.specs.declared.declarators.DeclaratorFound.{DeclaratorFound}
 use Rattle.lk_check_walk.specs.declared.found.At.{At}
-use Rattle.lk_check_walk.specs.declared.layers.Element.{Element}
 use Rattle.lk_check_walk.specs.declared.shapes.Left.{Left}
 use Rattle.lk_check_walk.specs.declared.walked.Walked.{Walked}
 
 -- ---- 32 is kept behind the codes of the forms
 
 pub tells_same : {old new : Checker} {at : At} {broken : Option Breach} → Tells old new at broken → IsSame old new
-tells_same tells = record { types = tells.types; names = tells.names; outside = tells.outside }
+tells_same tells = record { types = tells.types; names = tells.names; outside = tells.outside; records = tells.records }
 
 pub puts_same : (old middle new : Checker) → Puts old middle → IsSame middle new → Puts old new
 puts_same old middle new puts same = record {
@@ -51,6 +52,7 @@ puts_same old middle new puts same = record {
   sound = same_sound middle new same puts.sound;
   outside = same.outside ∙ puts.outside;
   names = same.names ∙ puts.names;
+  records = same.records ∙ puts.records;
 }
 
 abbrev large_rules : Bool → List Breach
@@ -105,4 +107,7 @@ module _ (old one new : Checker) (d : Declarator) (left : Option ℕ) (asked : A
             declarator_kept at_end env d h.forms h.has (sym stands.role) (left_of env asked.may_be_absent t d becomes) refl (kept_in old) (kept_in one) made.middle (kept_in new) last others later
             h.walked.walks.keeps (subst (λ t. KeepsEach (kept_in one) (codes_by span h.forms t) made.middle) typed made.forms)
             (subst (λ t. KeepsCodes made.middle (mark d.spot d.ordinal) (large_rules (is_large_shape span h.forms t)) (kept_in new)) typed made.large) kept;
+        records = λ given.
+            truth_of at_end old new (inside h.has) (nodes.at env (ADeclarator given d) ∷ []) (nodes_inside at_end env d h.forms h.has given)
+            (truth_still at_end old one new (inside h.has) further.sound.ready.table_is puts.longer puts.records h.walked.walks.records);
       }

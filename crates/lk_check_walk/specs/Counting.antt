@@ -12,7 +12,7 @@ use Rattle.lk_typed.specs.declared.constant.Constant.{Constant}
 use Rattle.lk_rules.specs.Keeping.{KeepsCodes}
 use Rattle.lk_check_walk.specs.Moves.{KeepsBegun}
 use Rattle.lk_check_walk.specs.Walking.{operand_in}
-use Rattle.lk_check_walk.specs.Walks.{IsIn, IsSound, StandsIn, Walks, kept_in, mark_at}
+use Rattle.lk_check_walk.specs.Walks.{IsIn, IsSound, StandsIn, Walks, kept_in, mark_at, recorded_in}
 use Rattle.lk_check_walk.specs.declared.checker.Checker.{Checker}
 use Rattle.lk_check_walk.specs.declared.found.At.{At}
 use Rattle.lk_check_walk.specs.declared.found.Found.{Found}
@@ -29,6 +29,7 @@ pub record IsSettled (old new : Checker) (env : Env) (at : At) (name : Name) (va
   pub sound : IsSound new
   pub outside : new.outside ≡ old.outside
   pub begun : KeepsBegun old.names.structs new.names.structs
+  pub records : recorded_in new ≡ recorded_in old
   pub behind : IsIn new (extend env (declares name at.ordinal (enumerator value)))
 
 -- an enumerator behind one of this value

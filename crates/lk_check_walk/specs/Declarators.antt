@@ -17,7 +17,7 @@ use Rattle.lk_names.specs.Growing.{InLeftScope, IsKnownLeft, scope_added}
 use Rattle.lk_rules.specs.Keeping.{Kept}
 use Rattle.lk_check_walk.specs.Keepings.{Codes, KeepsAll, KeepsEach, codes_at}
 use Rattle.lk_check_walk.specs.Walking.{operand_in}
-use Rattle.lk_check_walk.specs.Walks.{IsIn, StandsIn, kept_in}
+use Rattle.lk_check_walk.specs.Walks.{IsIn, StandsIn, TellsTruth, kept_in}
 use Rattle.lk_check_walk.specs.declared.checker.Checker.{Checker}
 use Rattle.lk_check_walk.specs.declared.declarators.Asked.{Asked}
 use Rattle.lk_check_walk.specs.declared.declarators.DeclaratorFound.{DeclaratorFound}
@@ -67,6 +67,8 @@ pub record IsDeclared (at_end : Env) (old new : Checker) (env : Env) (left : Opt
   -- behind the codes of that use the node is walked, whatever is kept between them and behind
   pub keeps : (becomes : NameUse) (others : List Placed) (later : List Codes) (last : Kept) → let given = left_of env asked.may_be_absent (option_map (meaning old.types) left) d becomes in
       KeepsAll at_end (kept_in new) others (codes_of_use env given d ++ later) last → KeepsAll at_end (kept_in old) (at env (ADeclarator given d) ∷ others) later last
+  -- what is recorded of the nodes in it is true, whatever it is given
+  pub records : (given : Left) → TellsTruth at_end old new (at env (ADeclarator given d) ∷ [])
 
 abbrev pub FindsDeclarator : Checker → Checker → Option ℕ → Declarator → Asked → DeclaratorFound → Type 0
 FindsDeclarator old new left d asked found = (at_end env : Env) → StandsIn old (operand_in asked.in_size) env → IsDeclared at_end old new env left d asked found

@@ -1,4 +1,6 @@
 pub mod Recorded
+pub mod Truth
+pub mod Uses
 pub mod Addresses
 pub mod Declarators
 pub mod Named

@@ -31,7 +31,7 @@ use Rattle.lk_typed.specs.declared.members.Field.{Field as CodeField}
 use Rattle.lk_check_walk.specs.Declarators.{name_codes}
 use Rattle.lk_check_walk.specs.Keepings.{Codes, KeepsEach, codes_at}
 use Rattle.lk_check_walk.specs.Walking.{operand_in}
-use Rattle.lk_check_walk.specs.Walks.{IsIn, StandsIn, Walks, kept_in}
+use Rattle.lk_check_walk.specs.Walks.{StandsIn, Walks, kept_in}
 use Rattle.lk_check_walk.specs.declared.checker.Checker.{Checker}
 use Rattle.lk_check_walk.specs.declared.fields.MembersFound.{MembersFound}
 

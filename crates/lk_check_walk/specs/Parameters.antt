@@ -3,8 +3,7 @@ use Rattle.std.specs.Prelude.{ℕ, ◌≡◌, ◌++◌, ◌||◌, Bool, false, O
 use Rattle.lk_tree.specs.declared.expression.Declarator.{Declarator}
 use Rattle.lk_tree.specs.declared.expression.Parameter.{Parameter, out-Parameter}
 use Rattle.lk_types.specs.Building.{IsPassed}
-use Rattle.lk_types.specs.Table.{Table}
-use Rattle.lk_typed.specs.Env.{Additions, Env, enter, extend, past_scope}
+use Rattle.lk_typed.specs.Env.{Env, enter, extend, past_scope}
 use Rattle.lk_typed.specs.Expressions.{declarator_found, parameter_found}
 use Rattle.lk_typed.specs.Layers.{ParameterTeller, each_parameter, has_name, parameter_name, parameter_type, parameters_of}
 use Rattle.lk_typed.specs.Meaning.{meaning}
@@ -22,7 +21,7 @@ use Rattle.lk_check_walk.specs.Moves.{GoesOn, Grows}
 use Rattle.lk_check_walk.specs.Shapes.{params_in}
 use Rattle.lk_check_walk.specs.Specified.{breaches_in}
 use Rattle.lk_check_walk.specs.Walking.{operand_in}
-use Rattle.lk_check_walk.specs.Walks.{IsIn, StandsIn, Walks, kept_in}
+use Rattle.lk_check_walk.specs.Walks.{IsIn, StandsIn, Walks, kept_in, recorded_in}
 use Rattle.lk_check_walk.specs.declared.checker.Checker.{Checker}
 use Rattle.lk_check_walk.specs.declared.gathered.Breach.{Breach}
 use Rattle.lk_check_walk.specs.declared.parameters.Listed.{Listed}
@@ -108,6 +107,7 @@ pub record IsParameterSettled (old new : Checker) (env : Env) (m : Mark) (d : Op
   pub name : KeepsEach (kept_in old) (name_codes env t IsParameter (name_of d)) middle
   pub rules : KeepsCodes middle m (breaches_in breaches ++ (parameter_node_rules (has_name (name_of d)) is_bare_void t ++ adjusted_rules env t)) (kept_in new)
   pub type : option_map (meaning new.types) ty ≡ parameter_type env (name_of d) t
+  pub records : recorded_in new ≡ recorded_in old
   pub behind : IsIn new (extend env (parameter_name (name_of d) (parameter_type env (name_of d) t)))
 
 -- of the parameter of this declarator

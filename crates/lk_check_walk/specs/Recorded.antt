@@ -1,13 +1,13 @@
 -- What is found at the nodes of a source, by their numbers.
-use Rattle.std.specs.Prelude.{ℕ, Bool, List, [], ◌∷◌, ◌++◌, Option, Some, None, if◌then◌else◌, nat_eq, nat_lt}
+use Rattle.std.specs.Prelude.{ℕ, List, [], Option, Some, None, if◌then◌else◌, nat_eq, nat_lt}
 use Rattle.std.specs.Map.{lookup}
 use Rattle.indexmap.specs.IndexMap.{insert_entry}
-use Rattle.indexmap.specs.IndexSet.{insert_key}
 use Rattle.lk_tree.specs.declared.expression.Expr.{Expr}
 use Rattle.lk_typed.specs.declared.entity.Use.{Use}
 use Rattle.lk_typed.specs.declared.unit.StructTag.{StructTag}
 use Rattle.lk_check_walk.specs.declared.found.Found.{Found}
 use Rattle.lk_check_walk.specs.declared.records.DeclaredHere.{DeclaredHere}
+use Rattle.lk_check_walk.specs.declared.records.InitialiserKind.{InitialiserKind}
 use Rattle.lk_check_walk.specs.declared.records.Meant.{Meant}
 use Rattle.lk_check_walk.specs.declared.records.NamesIn.{NamesIn}
 
@@ -19,17 +19,19 @@ pub record Recorded : Type 0 where
   pub meant : List (ℕ × Meant)
   -- the first use of the name that a node declares
   pub first_uses : List (ℕ × Use)
-  -- the nodes that declare names whose address is taken
-  pub taken : List ℕ
+  -- the first expression that takes the address of the name that a node declares
+  pub taken : List (ℕ × Use)
   -- the types that type names name
   pub named : List (ℕ × ℕ)
+  -- what initialisers are that are one expression
+  pub initialisers : List (ℕ × InitialiserKind)
   -- what declarators declare
   pub declared : List (ℕ × DeclaredHere)
   -- the tags of the structs, by the numbers of these
   pub tags : List StructTag
 
 abbrev pub nothing_recorded : Recorded
-nothing_recorded = record { founds = []; meant = []; first_uses = []; taken = []; named = []; declared = []; tags = [] }
+nothing_recorded = record { founds = []; meant = []; first_uses = []; taken = []; named = []; initialisers = []; declared = []; tags = [] }
 
 -- the first of two uses
 abbrev pub earlier : Option Use → Use → Use
@@ -37,23 +39,26 @@ earlier None later = later
 earlier (Some before) later = if nat_lt later.ordinal before.ordinal then later else before
 
 -- a use of the name that a node declares
-abbrev pub with_use : ℕ → Use → Recorded → Recorded
-with_use declaring used r = record r { first_uses = insert_entry nat_eq r.first_uses declaring (earlier (lookup (nat_eq declaring) r.first_uses) used) }
+abbrev pub with_use : ℕ → Use → List (ℕ × Use) → List (ℕ × Use)
+with_use declaring used uses = insert_entry nat_eq uses declaring (earlier (lookup (nat_eq declaring) uses) used)
 
 -- what a name stands for, where an expression is one
 abbrev pub with_word : Use → Option Meant → Recorded → Recorded
 with_word used None r = r
-with_word used (Some meant) r = with_use meant.ordinal used (record r { meant = insert_entry nat_eq r.meant used.ordinal meant })
+with_word used (Some meant) r = record r { meant = insert_entry nat_eq r.meant used.ordinal meant; first_uses = with_use meant.ordinal used r.first_uses }
 
 -- a name whose address is taken, where an expression takes one's
-abbrev pub with_taken : Option Meant → Recorded → Recorded
-with_taken None r = r
-with_taken (Some meant) r = record r { taken = insert_key nat_eq r.taken meant.ordinal }
+abbrev pub with_taken : Use → Option Meant → Recorded → Recorded
+with_taken used None r = r
+with_taken used (Some meant) r = record r { taken = with_use meant.ordinal used r.taken }
+
+abbrev pub use_of : Expr → Use
+use_of e = record { spot = e.spot; ordinal = e.ordinal }
 
 -- an expression of which this is found
 abbrev pub with_expression : Expr → Found → NamesIn → Recorded → Recorded
 with_expression e found names r =
-    with_taken names.taken (with_word (record { spot = e.spot; ordinal = e.ordinal }) names.word (record r { founds = insert_entry nat_eq r.founds e.ordinal found }))
+    with_taken (use_of e) names.taken (with_word (use_of e) names.word (record r { founds = insert_entry nat_eq r.founds e.ordinal found }))
 
 -- the type of a type name, where it has one
 abbrev pub with_named : ℕ → Option ℕ → Recorded → Recorded

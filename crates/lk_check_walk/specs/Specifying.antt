@@ -13,14 +13,18 @@ use Rattle.lk_typed.specs.Nodes.{Placed}
 use Rattle.lk_typed.specs.Parts.{items_parts, members_parts, specifier_parts, specifiers_parts}
 use Rattle.lk_typed.specs.Redeclared as spec
 use Rattle.lk_typed.specs.Redeclared.{TagUse, may_use}
+use Rattle.lk_typed.specs.Structs.{struct_begun}
 use Rattle.lk_typed.specs.Told.{SpecifierTold, before_first, enum_defined, struct_begins, struct_defined, struct_meant_by, tag_found, then_specifier}
 use Rattle.lk_typed.specs.Ty.{Ty}
 use Rattle.lk_typed.specs.declared.members.Members.{Members}
 use Rattle.lk_typed.specs.declared.members.Members.TheVariants.{Begun}
+use Rattle.lk_typed.specs.declared.unit.StructTag.{StructTag}
 use Rattle.lk_rules.specs.Keeping.{KeepsCodes}
+use Rattle.lk_check_walk.specs.Moves.{definition_begun}
 use Rattle.lk_check_walk.specs.Specified.{IsGathered, IsSpecified}
 use Rattle.lk_check_walk.specs.Walking.{operand_in}
-use Rattle.lk_check_walk.specs.Walks.{IsIn, StandsIn, Walks, kept_in, mark_at}
+use Rattle.lk_check_walk.specs.Truth.{IsBegunAmong, IsBegunBy, NoTag}
+use Rattle.lk_check_walk.specs.Walks.{IsIn, StandsIn, WalksOwn, kept_in, mark_at, recorded_in}
 use Rattle.lk_check_walk.specs.declared.checker.Checker.{Checker}
 use Rattle.lk_check_walk.specs.declared.defining.BegunStruct.{BegunStruct}
 use Rattle.lk_check_walk.specs.declared.found.At.{At}
@@ -36,12 +40,13 @@ pub record IsSame (old new : Checker) : Type 0 where
   pub types : new.types ≡ old.types
   pub names : new.names ≡ old.names
   pub outside : new.outside ≡ old.outside
+  pub records : recorded_in new ≡ recorded_in old
 
 -- ---- specifiers
 
--- specifiers that tell this are walked and gathered behind others, with their codes
-pub record AreGathered (at_end : Env) (old new : Checker) (env : Env) (told : SpecifierTold) (broken : List Breach) (nodes : List Placed) (before after : Gathered) : Type 0 where
-  pub walks : Walks at_end old new env told.additions nodes
+-- specifiers that tell this are walked and gathered behind others, with their codes; `Own` names the structs that begin at them
+pub record AreGathered (Own : ℕ → StructTag → Type 0) (at_end : Env) (old new : Checker) (env : Env) (told : SpecifierTold) (broken : List Breach) (nodes : List Placed) (before after : Gathered) : Type 0 where
+  pub walks : WalksOwn Own at_end old new env told.additions nodes nodes
   pub gathered : (others : SpecifierTold) (codes : List Breach) → IsGathered old.types before others codes →
       IsGathered new.types after (then_specifier others told) (codes ++ broken)
 
@@ -49,7 +54,7 @@ pub record AreGathered (at_end : Env) (old new : Checker) (env : Env) (told : Sp
 abbrev pub Gathers : Checker → Checker → Bool → Bool → Specifier → Gathered → Gathered → Type 0
 Gathers old new alone in_size s before after =
     (at_end env : Env) → StandsIn old (operand_in in_size) env →
-    AreGathered at_end old new env (specifier_found s env alone) (one_tag_rules env alone (out-Specifier s)) (specifier_parts env (out-Specifier s)) before after
+    AreGathered (IsBegunBy (struct_begun env alone (out-Specifier s)) env) at_end old new env (specifier_found s env alone) (one_tag_rules env alone (out-Specifier s)) (specifier_parts env (out-Specifier s)) before after
 
 -- the code of a use of a tag is gathered, which is admitted or not
 pub record IsTagUse (env : Env) (wanted : TagUse) (tag : Option Name) (before after : Gathered) (admitted : Bool) : Type 0 where
@@ -77,18 +82,18 @@ pub record BeginsStruct (new : Checker) (env : Env) (tag : Option Name) (before 
 abbrev pub GathersStruct : Checker → Checker → Bool → Option Name → List Member → Gathered → Gathered → Type 0
 GathersStruct old new in_size tag ms before after =
     (at_end env : Env) → StandsIn old (operand_in in_size) env →
-    AreGathered at_end old new env (struct_defined env tag (map member_found ms)) (optional_tag_rules env spec.DefinesStruct tag)
+    AreGathered (IsBegunBy (definition_begun env tag) env) at_end old new env (struct_defined env tag (map member_found ms)) (optional_tag_rules env spec.DefinesStruct tag)
     (members_parts (extend env (struct_begins env tag)) [] ms) before after
 
 -- `enum tag { items }`
 abbrev pub GathersEnum : Checker → Checker → Bool → Option Name → List Item → Gathered → Gathered → Type 0
 GathersEnum old new in_size tag is before after =
     (at_end env : Env) → StandsIn old (operand_in in_size) env →
-    AreGathered at_end old new env (enum_defined env tag (map item_found is)) (optional_tag_rules env spec.DefinesEnum tag) (items_parts env before_first is) before after
+    AreGathered NoTag at_end old new env (enum_defined env tag (map item_found is)) (optional_tag_rules env spec.DefinesEnum tag) (items_parts env before_first is) before after
 
 -- all of a list
 pub record AreSpecified (at_end : Env) (old new : Checker) (env : Env) (holder : Holder) (alone : Bool) (ss : List Specifier) (result : Specified) : Type 0 where
-  pub walks : Walks at_end old new env (specifiers_found ss env alone).additions (specifiers_parts alone env ss)
+  pub walks : WalksOwn (IsBegunAmong alone env ss) at_end old new env (specifiers_found ss env alone).additions (specifiers_parts alone env ss) (specifiers_parts alone env ss)
   pub specified : IsSpecified new.types holder result (specifiers_found ss env alone) (all_specifier_rules holder alone env ss)
 
 abbrev pub Specifies : Checker → Checker → Holder → Bool → Bool → List Specifier → Specified → Type 0

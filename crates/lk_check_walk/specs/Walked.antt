@@ -4,7 +4,7 @@ use Rattle.lk_base.specs.declared.code.Code.TheVariants.{LargeType}
 use Rattle.lk_tree.specs.declared.expression.Declarator.{Declarator}
 use Rattle.lk_tree.specs.declared.expression.Expr.{Expr}
 use Rattle.lk_tree.specs.declared.expression.Parameter.{Parameter}
-use Rattle.lk_typed.specs.Env.{Additions, Env, enter, extend, nothing}
+use Rattle.lk_typed.specs.Env.{Env, enter, extend, nothing}
 use Rattle.lk_typed.specs.DeclaratorRules.{unless}
 use Rattle.lk_typed.specs.Expressions.{declarator_layer, expression}
 use Rattle.lk_typed.specs.Layers.{DeclaratorLayer, inner_of}

@@ -8,11 +8,12 @@ use Rattle.lk_typed.specs.Assignments.{operator_of}
 use Rattle.lk_typed.specs.Env.{Env, as_operand, both, extend, nothing}
 use Rattle.lk_typed.specs.Expressions.{expression}
 use Rattle.lk_typed.specs.Forms.{as_right}
+use Rattle.lk_typed.specs.NodeParts.{parts}
 use Rattle.lk_typed.specs.Nodes.{AnExpression, ATypeName, at}
 use Rattle.lk_typed.specs.declared.role.Role.TheVariants.{Operand}
 use Rattle.lk_rules.specs.Laws.{name_found}
 use Rattle.lk_check_walk.specs.Moves.{KeepsBegun}
-use Rattle.lk_check_walk.specs.Walks.{IsFound, IsFoundType, IsIn, IsSound, StandsIn, Walks}
+use Rattle.lk_check_walk.specs.Walks.{IsFound, IsFoundType, IsIn, IsSound, StandsIn, Walks, WalksAndTells}
 use Rattle.lk_check_walk.specs.declared.checker.Checker.{Checker}
 use Rattle.lk_check_walk.specs.declared.found.Found.{Found}
 use Rattle.lk_check_walk.specs.declared.found.Stands.{Stands}
@@ -31,6 +32,14 @@ pub record IsFurther (old new : Checker) : Type 0 where
 pub record IsJudged (at_end : Env) (old new : Checker) (env : Env) (e : Expr) (result : Found) : Type 0 where
   pub walks : Walks at_end old new env (expression e env).adds (at env (AnExpression e) ∷ [])
   pub found : IsFound new.types env result (expression e env)
+
+-- the same before it is recorded itself: what is recorded of its parts is true
+pub record IsFormJudged (at_end : Env) (old new : Checker) (env : Env) (e : Expr) (result : Found) : Type 0 where
+  pub walks : WalksAndTells at_end old new env (expression e env).adds (at env (AnExpression e) ∷ []) (parts at_end env (AnExpression e))
+  pub found : IsFound new.types env result (expression e env)
+
+abbrev pub JudgesForm : Checker → Checker → Stands → Expr → Found → Type 0
+JudgesForm old new stands e found = (at_end env : Env) → StandsIn old stands env → IsFormJudged at_end old new env e found
 
 -- where it stands so
 abbrev pub Judges : Checker → Checker → Stands → Expr → Found → Type 0

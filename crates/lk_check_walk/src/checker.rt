@@ -9,6 +9,7 @@ ghost use Rattle.lk_typed.specs.Stands.{fault_at};
 ghost use Rattle.lk_names.specs.InScope.{env_in, nothing_in_scope};
 ghost use Rattle.lk_rules.specs.FirstFaults.{comes_before, less_or};
 ghost use Rattle.lk_rules.specs.Keeping.{keep, none_kept, watched, seen_by};
+ghost use Rattle.lk_check_walk.specs.Recorded.{nothing_recorded};
 ghost use Rattle.lk_check_walk.specs.Walks.{IsSound, Tells, fault_of, first_of, kept_in, mark_at, refusal_of};
 
 use crate::found::At;
@@ -112,6 +113,7 @@ impl Checker {
         ensures kept { IfOk result (λ checker. kept_in checker ≡ none_kept) }
         ensures outside { IfOk result (λ checker. checker.outside ≡ outside) }
         ensures names { IfOk result (λ checker. checker.names ≡ nothing_in_scope) }
+        ensures records { IfOk result (λ checker. checker.records ≡ nothing_recorded) }
     {
         let types = TypeTable::new(alloc)?;
         types.is_table();

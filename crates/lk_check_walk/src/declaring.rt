@@ -10,7 +10,7 @@ ghost use Rattle.lk_typed.specs.declared.entity.Linkage.TheVariants as linkage;
 ghost use Rattle.lk_names.specs.Uses.{breaches_told};
 ghost use Rattle.lk_rules.specs.Keeping.{KeepsCodes};
 ghost use Rattle.lk_check_walk.specs.Moves.{Grows, GoesOn};
-ghost use Rattle.lk_check_walk.specs.Walks.{IsIn, IsSound, kept_in, mark_at};
+ghost use Rattle.lk_check_walk.specs.Walks.{IsIn, IsSound, kept_in, mark_at, recorded_in};
 
 use crate::checker::Checker;
 use crate::found::At;
@@ -62,6 +62,7 @@ impl Checker {
         ensures types { OnOk result (self.new.types ≡ self.old.types) }
         ensures names { OnOk result (self.new.names ≡ self.old.names) }
         ensures outside { OnOk result (self.new.outside ≡ self.old.outside) }
+        ensures records { OnOk result (recorded_in self.new ≡ recorded_in self.old) }
         ensures keeps { OnOk result ((env : Env) → IsIn self.old env →
             KeepsCodes (kept_in self.old) (mark_at at)
             (name_rules env (plain_name name.now (meaning_in self.old.types meaning))) (kept_in self.new)) }

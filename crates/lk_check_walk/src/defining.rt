@@ -8,7 +8,7 @@ ghost use Rattle.lk_typed.specs.Told.{MemberTold, members_made, steps, struct_be
 ghost use Rattle.lk_typed.specs.Ty as ty;
 ghost use Rattle.lk_typed.specs.declared.members.Members.TheVariants as members;
 ghost use Rattle.lk_check_walk.specs.MembersOf.{AreMembers, HasFields};
-ghost use Rattle.lk_check_walk.specs.Moves.{Grows, GoesOn, IsMeant, KeepsBegun};
+ghost use Rattle.lk_check_walk.specs.Moves.{definition_begun, Grows, GrowsAlone, GoesOn, IsMeant, KeepsBegun, RecordsTag};
 ghost use Rattle.lk_check_walk.specs.Specifying.{BeginsStruct, KeepsOthersBegun, PutsType};
 ghost use Rattle.lk_check_walk.specs.Walking.{IsFurther};
 ghost use Rattle.lk_check_walk.specs.Walks.{IsIn, IsSound, kept_in};
@@ -37,13 +37,15 @@ impl Checker {
     fn defined_struct(&mut self, tag: Option<&Name>) -> Result<u32, NoMemory>
         requires { IsSound self.old }
         ensures may_begin { IfOk result (λ s. slice_get self.new.names.structs s ≡ Some members.NotYet) }
-        ensures grows { OnOk result (Grows self.old self.new) }
+        ensures grows { OnOk result (GrowsAlone self.old self.new) }
+        ensures tag { OnOk result ((env : Env) → IsIn self.old env →
+            RecordsTag self.old self.new env (definition_begun env (option_copied tag.entry))) }
         ensures begun { OnOk result (KeepsBegun self.old.names.structs self.new.names.structs) }
         ensures means { IfOk result (λ s. (env : Env) → IsIn self.old env →
             IsMeant self.new env (struct_meant_by env (option_copied tag.entry)) s) }
     {
         if !admits(&self.names, TagUse::DefinesStruct, tag) {
-            let s = self.new_struct(tag)?;
+            let s = self.new_struct(None)?;
             return Ok(s);
         }
         let s = self.struct_for(TagUse::DefinesStruct, tag)?;
@@ -54,7 +56,9 @@ impl Checker {
     pub(crate) fn begin_definition(&mut self, tag: Option<&Name>) -> Result<u32, NoMemory>
         requires { IsSound self.old }
         ensures is { IfOk result (λ s. slice_get self.new.names.structs s ≡ Some members.Begun) }
-        ensures grows { OnOk result (Grows self.old self.new) }
+        ensures grows { OnOk result (GrowsAlone self.old self.new) }
+        ensures tag { OnOk result ((env : Env) → IsIn self.old env →
+            RecordsTag self.old self.new env (definition_begun env (option_copied tag.entry))) }
         ensures begun { OnOk result (KeepsBegun self.old.names.structs self.new.names.structs) }
         ensures fresh { IfOk result (λ s. slice_get self.old.names.structs s ≡ Some members.Begun → ⊥) }
         ensures number { IfOk result (λ s. (env : Env) → IsIn self.old env →
@@ -76,6 +80,8 @@ impl Checker {
         requires { IsSound self.old }
         ensures further { OnOk result (IsFurther self.old self.new) }
         ensures kept { OnOk result (kept_in self.new ≡ kept_in self.old) }
+        ensures tag { OnOk result ((env : Env) → IsIn self.old env →
+            RecordsTag self.old self.new env (definition_begun env (option_copied tag.entry))) }
         ensures is { IfOk result (λ begun.
             slice_get self.new.names.structs begun.number ≡ Some members.Begun) }
         ensures fresh { IfOk result (λ begun.

@@ -14,7 +14,7 @@ ghost use Rattle.lk_check_walk.specs.Counting.{IsSettled, constant_found};
 ghost use Rattle.lk_check_walk.specs.Keepings.{AreUnnamed};
 ghost use Rattle.lk_check_walk.specs.Moves.{Grows, GoesOn};
 ghost use Rattle.lk_check_walk.specs.Specifying.{IsSame, KeepsAt};
-ghost use Rattle.lk_check_walk.specs.Walks.{IsIn, IsSound, kept_in, mark_at};
+ghost use Rattle.lk_check_walk.specs.Walks.{IsIn, IsSound, kept_in, mark_at, recorded_in};
 
 use crate::checker::Checker;
 use crate::found::{At, Found};
@@ -96,6 +96,7 @@ impl Checker {
         ensures types { OnOk result (self.new.types ≡ self.old.types) }
         ensures names { OnOk result (self.new.names ≡ self.old.names) }
         ensures outside { OnOk result (self.new.outside ≡ self.old.outside) }
+        ensures records { OnOk result (recorded_in self.new ≡ recorded_in self.old) }
         ensures keeps { OnOk result ((env : Env) (broken : List Breach) → IsIn self.old env →
             found.code ≡ told broken → AreUnnamed broken →
             KeepsCodes (kept_in self.old) (mark_at at)

@@ -2,7 +2,7 @@
 ghost use Rattle.std.specs.Prelude.{◌≡◌, IfOk, OnOk};
 ghost use Rattle.lk_typed.specs.Names.{IsKnownRole};
 ghost use Rattle.lk_check_walk.specs.Judging.{HasOperand};
-ghost use Rattle.lk_check_walk.specs.Walking.{IsFurther, Judges, JudgesSides, JudgesTwo, operand_in};
+ghost use Rattle.lk_check_walk.specs.Walking.{IsFurther, Judges, JudgesForm, JudgesSides, JudgesTwo, operand_in};
 ghost use Rattle.lk_check_walk.specs.Walks.{IsSound};
 
 use crate::checker::Checker;
@@ -24,8 +24,8 @@ impl Checker {
         ensures further { OnOk result (IsFurther self.old self.new) }
         ensures operand { IfOk result (λ found. HasOperand self.new.types found) }
     {
-        let found = self.judge_form(e, stands)?;
         let names = self.names_in(e);
+        let found = self.judge_form(e, stands)?;
         self.records.put_expression(e, &found, names)?;
         Ok(found)
     }
@@ -93,7 +93,7 @@ impl Checker {
     fn judge_form(&mut self, e: &Expr, stands: Stands) -> Result<Found, NoMemory>
         requires sound { IsSound self.old }
         requires role { IsKnownRole self.old.types stands.role }
-        ensures { IfOk result (λ found. Judges self.old self.new stands e.now found) }
+        ensures { IfOk result (λ found. JudgesForm self.old self.new stands e.now found) }
     {
         let in_size = stands.in_size;
         match &e.form {

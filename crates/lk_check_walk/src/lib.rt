@@ -48,4 +48,4 @@ pub use declarators::{Asked, DeclaratorFound, DeclaredName, declared_name};
 pub use found::{At, Found, Stands, TypeFound};
 pub use gathered::{Breach, Specified};
 pub use laws::types_follow_forms;
-pub use records::{DeclaredHere, Meant, Records};
+pub use records::{DeclaredHere, InitialiserKind, Meant, Records};

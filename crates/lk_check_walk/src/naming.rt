@@ -1,15 +1,17 @@
 //! Specifiers that name a type by a tag or a typedef name (C99 6.7.2.2, 6.7.2.3, 6.7.7).
 ghost use Rattle.std.specs.Prelude.{◌≡◌, [], Some, None, if◌then◌else◌, OnOk, IfOk, IfSome};
 ghost use Rattle.std.specs.Option.{option_copied, option_map};
+ghost use Rattle.lk_tree.specs.declared.expression.DeclaratorForm.TheOpen.{Specifier-F};
 ghost use Rattle.lk_types.specs.Table.{Table, IsKnown};
 ghost use Rattle.lk_typed.specs.Env.{Env, look_up, look_up_tag, nothing};
 ghost use Rattle.lk_typed.specs.HolderRules.{enum_rules};
 ghost use Rattle.lk_typed.specs.Meaning.{meaning, IsReady};
 ghost use Rattle.lk_typed.specs.Ty.{int};
 ghost use Rattle.lk_typed.specs.Redeclared.{tag_rules};
+ghost use Rattle.lk_typed.specs.Structs.{struct_begun};
 ghost use Rattle.lk_typed.specs.Told as spec;
 ghost use Rattle.lk_names.specs.Uses.{rules_use};
-ghost use Rattle.lk_check_walk.specs.Moves.{Grows, KeepsBegun};
+ghost use Rattle.lk_check_walk.specs.Moves.{begun_if_admitted, GrowsAlone, KeepsBegun, RecordsTag};
 ghost use Rattle.lk_check_walk.specs.Naming.{IsNamedType, IsSpecifierPut};
 ghost use Rattle.lk_check_walk.specs.Specifying.{IsTagUse};
 ghost use Rattle.lk_check_walk.specs.Walks.{IsIn, IsSound};
@@ -62,7 +64,9 @@ impl Checker {
     fn named_struct(&mut self, wanted: TagUse, name: &Name) -> Result<Option<TypeId>, NoMemory>
         requires { IsSound self.old }
         ensures known { IfOk result (λ t. IfSome t (IsKnown self.new.types)) }
-        ensures grows { OnOk result (Grows self.old self.new) }
+        ensures grows { OnOk result (GrowsAlone self.old self.new) }
+        ensures tag { OnOk result ((env : Env) → IsIn self.old env →
+            RecordsTag self.old self.new env (begun_if_admitted env (rules_use wanted) name.now)) }
         ensures begun { OnOk result (KeepsBegun self.old.names.structs self.new.names.structs) }
         ensures named { IfOk result (λ t. (env : Env) → IsIn self.old env →
             IsNamedType self.new env t (spec.struct_named env (rules_use wanted) name.now)) }
@@ -83,7 +87,9 @@ impl Checker {
         out: &mut Gathered,
     ) -> Result<(), NoMemory>
         requires { IsSound self.old }
-        ensures grows { OnOk result (Grows self.old self.new) }
+        ensures grows { OnOk result (GrowsAlone self.old self.new) }
+        ensures tag { OnOk result ((env : Env) → IsIn self.old env →
+            RecordsTag self.old self.new env (struct_begun env alone (Specifier-F.StructTag name.now))) }
         ensures begun { OnOk result (KeepsBegun self.old.names.structs self.new.names.structs) }
         ensures put { OnOk result ((env : Env) → IsIn self.old env →
             IsSpecifierPut self.old self.new env out.old out.new

@@ -1,4 +1,10 @@
 //! The names of which an expression speaks itself, as they are recorded.
+ghost use Rattle.std.specs.Prelude.{◌≡◌};
+ghost use Rattle.std.specs.Option.{option_copied};
+ghost use Rattle.lk_typed.specs.Env.{Env, look_up};
+ghost use Rattle.lk_typed.specs.Expressions.{expression, written};
+ghost use Rattle.lk_check_walk.specs.Uses.{AreNamesIn, IsMeant, address_by, found_by, name_written, taken_in};
+ghost use Rattle.lk_check_walk.specs.Walks.{IsIn, IsSound};
 
 use crate::checker::Checker;
 use crate::records::{Meant, NamesIn};
@@ -7,7 +13,9 @@ use lk_tree::{Expr, ExprForm, PrefixOperator};
 use lk_typed::Declared;
 
 /// The name that an expression is.
-fn word(e: &Expr) -> Option<&Name> {
+fn word(e: &Expr) -> Option<&Name>
+    ensures { option_copied result ≡ name_written (written e.now) }
+{
     match &e.form {
         ExprForm::Word(name) => Some(name),
         ExprForm::Comma(..)
@@ -32,7 +40,10 @@ fn word(e: &Expr) -> Option<&Name> {
 }
 
 /// The name that an expression is, perhaps in parentheses.
-fn word_inside(e: &Expr) -> Option<&Name> {
+#[tactic(auto, using(crate::proofs::Words::silent_word), unfolding(crate::proofs::Words::is_silent))]
+fn word_inside(e: &Expr) -> Option<&Name>
+    ensures { (env : Env) → (expression e.now env).look.word ≡ found_by env (option_copied result) }
+{
     match &e.form {
         ExprForm::Word(name) => Some(name),
         ExprForm::Paren(inner) => word_inside(inner.get()),
@@ -57,7 +68,9 @@ fn word_inside(e: &Expr) -> Option<&Name> {
 }
 
 /// The name whose address an operator takes (C99 6.5.3.2).
-fn taken_by(op: PrefixOperator, operand: &Expr) -> Option<&Name> {
+fn taken_by(op: PrefixOperator, operand: &Expr) -> Option<&Name>
+    ensures { (env : Env) → address_by op (env, operand.now) ≡ found_by env (option_copied result) }
+{
     match op {
         PrefixOperator::Address => word_inside(operand),
         PrefixOperator::Indirection
@@ -69,7 +82,9 @@ fn taken_by(op: PrefixOperator, operand: &Expr) -> Option<&Name> {
 }
 
 /// The name whose address an expression takes.
-fn taken(e: &Expr) -> Option<&Name> {
+fn taken(e: &Expr) -> Option<&Name>
+    ensures { (env : Env) → taken_in env e.now ≡ found_by env (option_copied result) }
+{
     match &e.form {
         ExprForm::Prefix(op, operand) => taken_by(*op, operand.get()),
         ExprForm::Word(_)
@@ -94,30 +109,49 @@ fn taken(e: &Expr) -> Option<&Name> {
 }
 
 /// What a declared name stands for.
-fn meant_by(found: Option<&Declared>) -> Option<Meant> {
-    match found {
-        Some(declared) => Some(Meant {
-            meaning: declared.meaning,
-            ordinal: declared.ordinal,
-        }),
-        None => None,
+fn meant_by(declared: &Declared) -> Meant
+    ensures meaning { result.meaning ≡ declared.now.meaning }
+    ensures ordinal { result.ordinal ≡ declared.now.ordinal }
+{
+    Meant {
+        meaning: declared.meaning,
+        ordinal: declared.ordinal,
     }
 }
 
 impl Checker {
+    /// What a name stands for here.
+    fn meant_here(&self, name: &Name) -> Option<Meant>
+        requires { IsSound self.now }
+        ensures { (env : Env) → IsIn self.now env →
+            IsMeant self.now.types result (look_up env name.now) }
+    {
+        match self.names.look_up(name) {
+            Some(declared) => Some(meant_by(declared)),
+            None => None,
+        }
+    }
+
     /// What a name stands for here, where there is one.
-    fn meant_here(&self, name: Option<&Name>) -> Option<Meant> {
+    fn meant_if_there(&self, name: Option<&Name>) -> Option<Meant>
+        requires { IsSound self.now }
+        ensures { (env : Env) → IsIn self.now env →
+            IsMeant self.now.types result (found_by env (option_copied name.entry)) }
+    {
         match name {
-            Some(name) => meant_by(self.names.look_up(name)),
+            Some(name) => self.meant_here(name),
             None => None,
         }
     }
 
     /// The names of which an expression speaks itself.
-    pub(crate) fn names_in(&self, e: &Expr) -> NamesIn {
+    pub(crate) fn names_in(&self, e: &Expr) -> NamesIn
+        requires { IsSound self.now }
+        ensures { (env : Env) → IsIn self.now env → AreNamesIn self.now.types env e.now result }
+    {
         NamesIn {
-            word: self.meant_here(word(e)),
-            taken: self.meant_here(taken(e)),
+            word: self.meant_if_there(word(e)),
+            taken: self.meant_if_there(taken(e)),
         }
     }
 }

@@ -1,6 +1,5 @@
 //! What is found at the nodes of a source, by their numbers.
-ghost use Rattle.std.specs.Prelude.{◌≡◌, ◌++◌, ◌∷◌, [], Some, nat_eq, IfOk, OnOk};
-ghost use Rattle.std.specs.List.{list_any};
+ghost use Rattle.std.specs.Prelude.{◌≡◌, ◌++◌, ◌∷◌, [], Some, length, nat_eq, is_some, IfOk, OnOk};
 ghost use Rattle.std.specs.Map.{lookup};
 ghost use Rattle.std.specs.Option.{option_copied};
 ghost use Rattle.indexmap.specs.IndexMap.{insert_entry};
@@ -9,7 +8,6 @@ ghost use Rattle.lk_check_walk.specs.Recorded.{nothing_recorded, with_declared, 
 
 use crate::by_number::ByNumber;
 use crate::found::Found;
-use indexmap::IndexSet;
 use lk_base::{Name, NoMemory};
 use lk_tree::Expr;
 use lk_typed::{Defines, Linkage, Meaning, StructTag, Use};
@@ -35,6 +33,15 @@ pub(crate) struct NamesIn {
     pub(crate) taken: Option<Meant>,
 }
 
+/// What an initialiser is that is one expression (C99 6.7.8, 11).
+#[derive(Clone, Copy)]
+pub enum InitialiserKind {
+    /// An initialiser word for objects of this type (POSIX, `pthread.h`).
+    Word(TypeId),
+    /// A value, or a text.
+    Value,
+}
+
 /// A name that a declaration or a definition declares. An enumerator and a parameter are none.
 #[derive(Clone, Copy)]
 pub struct DeclaredHere {
@@ -54,8 +61,9 @@ pub struct Records {
     founds: ByNumber<Found>,
     meant: ByNumber<Meant>,
     first_uses: ByNumber<Use>,
-    taken: IndexSet<u32>,
+    taken: ByNumber<Use>,
     named: ByNumber<TypeId>,
+    initialisers: ByNumber<InitialiserKind>,
     declared: ByNumber<DeclaredHere>,
     tags: Vec<StructTag>,
 }
@@ -69,8 +77,9 @@ impl Model for Records {
       founds = records.founds;
       meant = records.meant;
       first_uses = records.first_uses;
-      taken = records.taken.keys;
+      taken = records.taken;
       named = records.named;
+      initialisers = records.initialisers;
       declared = records.declared;
       tags = records.tags.items;
     } };
@@ -114,8 +123,9 @@ impl Records {
             founds: ByNumber::new(alloc),
             meant: ByNumber::new(alloc),
             first_uses: ByNumber::new(alloc),
-            taken: IndexSet::new(alloc),
+            taken: ByNumber::new(alloc),
             named: ByNumber::new(alloc),
+            initialisers: ByNumber::new(alloc),
             declared: ByNumber::new(alloc),
             tags: Vec::new(alloc),
         }
@@ -144,9 +154,9 @@ impl Records {
 
     /// Whether `&` is applied to the name that the node with this number declares, perhaps in parentheses (C99 6.5.3.2).
     pub fn is_taken(&self, declaring: u32) -> bool
-        ensures { result ≡ list_any (nat_eq declaring) self.now.taken }
+        ensures { result ≡ is_some (lookup (nat_eq declaring) self.now.taken) }
     {
-        self.taken.contains(&declaring)
+        self.taken.get(declaring).is_some()
     }
 
     /// The type that the type name with this number names.
@@ -154,6 +164,13 @@ impl Records {
         ensures { result ≡ lookup (nat_eq ordinal) self.now.named }
     {
         self.named.get(ordinal)
+    }
+
+    /// What the initialiser is that is the expression with this number.
+    pub fn initialiser(&self, ordinal: u32) -> Option<InitialiserKind>
+        ensures { result ≡ lookup (nat_eq ordinal) self.now.initialisers }
+    {
+        self.initialisers.get(ordinal)
     }
 
     /// What the declarator with this number declares, which names it.
@@ -172,7 +189,7 @@ impl Records {
     }
 
     /// Puts what a name stands for, where the expression with this number is that name.
-    pub fn put_meant(&mut self, ordinal: u32, meant: Meant) -> Result<(), NoMemory>
+    fn put_meant(&mut self, ordinal: u32, meant: Meant) -> Result<(), NoMemory>
         ensures { OnOk result (self.new ≡
             record self.old { meant = insert_entry nat_eq self.old.meant ordinal meant }) }
     {
@@ -181,7 +198,8 @@ impl Records {
 
     /// Puts a use of the name that a node declares.
     fn put_use(&mut self, declaring: u32, used: Use) -> Result<(), NoMemory>
-        ensures { OnOk result (self.new ≡ with_use declaring used self.old) }
+        ensures { OnOk result (self.new ≡
+            record self.old { first_uses = with_use declaring used self.old.first_uses }) }
     {
         let first = earlier(self.first_use(declaring), used);
         self.first_uses.put(declaring, &first)
@@ -208,13 +226,13 @@ impl Records {
     }
 
     /// Puts a name whose address an expression takes, where it takes one's.
-    fn put_taken(&mut self, taken: Option<Meant>) -> Result<(), NoMemory>
-        ensures { OnOk result (self.new ≡ with_taken taken self.old) }
+    fn put_taken(&mut self, used: Use, taken: Option<Meant>) -> Result<(), NoMemory>
+        ensures { OnOk result (self.new ≡ with_taken used taken self.old) }
     {
         match taken {
             Some(meant) => {
-                self.taken.insert(meant.ordinal)?;
-                Ok(())
+                let first = earlier(self.taken.get(meant.ordinal), used);
+                self.taken.put(meant.ordinal, &first)
             }
             None => Ok(()),
         }
@@ -235,7 +253,7 @@ impl Records {
             ordinal: e.ordinal,
         };
         self.put_word(used, names.word)?;
-        self.put_taken(names.taken)
+        self.put_taken(used, names.taken)
     }
 
     /// Puts the type of the type name with this number, where it has one.
@@ -246,6 +264,14 @@ impl Records {
             Some(ty) => { self.named.put(ordinal, &ty) }
             None => Ok(()),
         }
+    }
+
+    /// Puts what the initialiser is that is the expression with this number.
+    pub fn put_initialiser(&mut self, ordinal: u32, kind: InitialiserKind) -> Result<(), NoMemory>
+        ensures { OnOk result (self.new ≡
+            record self.old { initialisers = insert_entry nat_eq self.old.initialisers ordinal kind }) }
+    {
+        self.initialisers.put(ordinal, &kind)
     }
 
     /// Puts what the declarator with this number declares, where that has a type.
@@ -260,6 +286,13 @@ impl Records {
             Some(declared) => { self.declared.put(ordinal, &declared) }
             None => Ok(()),
         }
+    }
+
+    /// How many tags are recorded.
+    pub fn tag_count(&self) -> usize
+        ensures { result ≡ length self.now.tags }
+    {
+        self.tags.len()
     }
 
     /// Puts the tag of one more struct, where it has one.

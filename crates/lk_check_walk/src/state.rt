@@ -9,13 +9,13 @@ ghost use Rattle.lk_typed.specs.Env.{Env, Begins, Completes, Begun, Known, Fault
 ghost use Rattle.lk_typed.specs.Meaning.{meaning};
 ghost use Rattle.lk_typed.specs.Names.{tag_meaning_in};
 ghost use Rattle.lk_typed.specs.Redeclared.{DefinesStruct, may_use};
-ghost use Rattle.lk_typed.specs.Told.{meant, steps, tag_additions, tag_found};
+ghost use Rattle.lk_typed.specs.Told.{meant, steps, struct_meant, tag_additions, tag_found};
 ghost use Rattle.lk_typed.specs.Ty as ty;
 ghost use Rattle.lk_typed.specs.Typings.{field_in};
 ghost use Rattle.lk_typed.specs.declared.members.Members.TheVariants as members;
 ghost use Rattle.lk_names.specs.InScope.{HasStruct};
 ghost use Rattle.lk_names.specs.Uses.{rules_use};
-ghost use Rattle.lk_check_walk.specs.Moves.{env_of, Grows, GoesOn, IsMeant, KeepsBegun};
+ghost use Rattle.lk_check_walk.specs.Moves.{env_of, begun_where, Grows, GrowsAlone, GoesOn, IsMeant, KeepsBegun, RecordsTag};
 ghost use Rattle.lk_check_walk.specs.Structs.{member_of};
 ghost use Rattle.lk_check_walk.specs.Walks.{IsIn, IsSound};
 
@@ -33,7 +33,9 @@ impl Checker {
         requires { IsSound self.old }
         ensures number { IfOk result (λ s. s ≡ length self.old.names.structs) }
         ensures structs { OnOk result (self.new.names.structs ≡ self.old.names.structs ++ members.NotYet ∷ []) }
-        ensures grows { OnOk result (Grows self.old self.new) }
+        ensures grows { OnOk result (GrowsAlone self.old self.new) }
+        ensures tag { OnOk result ((env : Env) → IsIn self.old env →
+            RecordsTag self.old self.new env (Some (option_copied tag.entry))) }
         ensures behind { OnOk result (GoesOn self.old self.new (λ env. steps (Begins ∷ []))) }
     {
         self.types.is_table();
@@ -41,8 +43,12 @@ impl Checker {
             return Err(NoMemory);
         }
         let is_outside = self.names.is_outermost();
-        self.records.put_tag(tag, is_outside)?;
         let s = self.names.begin_struct()?;
+        // A tag is recorded of each struct, so there are as many, and this doesn't come.
+        if self.records.tag_count() != s as usize {
+            return Err(NoMemory);
+        }
+        self.records.put_tag(tag, is_outside)?;
         self.types.begin_struct()?;
         self.types.is_table();
         Ok(s)
@@ -105,7 +111,10 @@ impl Checker {
     pub(crate) fn struct_for(&mut self, wanted: TagUse, tag: Option<&Name>) -> Result<u32, NoMemory>
         requires { IsSound self.old }
         ensures known { IfOk result (λ s. s < length self.new.names.structs) }
-        ensures grows { OnOk result (Grows self.old self.new) }
+        ensures grows { OnOk result (GrowsAlone self.old self.new) }
+        ensures tag { OnOk result ((env : Env) → IsIn self.old env → RecordsTag self.old self.new env
+            (begun_where (struct_meant (tag_found env (rules_use wanted) (option_copied tag.entry)))
+            (option_copied tag.entry))) }
         ensures begun { OnOk result (KeepsBegun self.old.names.structs self.new.names.structs) }
         ensures may_begin { IfOk result (λ s. (rest : Env) → may_use (env_of self.old rest)
             (tag_found (env_of self.old rest) (rules_use wanted) (option_copied tag.entry)) DefinesStruct ≡ true →

@@ -12,6 +12,7 @@ returns-clause-puts c =
             (record { longer = made.longer; members = made.members; few = made.few }) refl;
         outside = refl;
         kept = refl;
+        records = refl;
       };
       names = refl;
     }

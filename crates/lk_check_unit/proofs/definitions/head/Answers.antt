@@ -22,7 +22,7 @@ returns-clause-heads c =
     (subst (λ bs. KeepsAt c.specifiers.new.self c.keep_all.new.self c.at_definition-at.result (breaches_in bs)) c.as_slice.ensures.value c.in_ok-keep_all.ensures.kept)
     c.in_ok-keep_all.ensures.same c.in_ok-ty.ensures.declared c.in_ok-keep_dots.ensures.kept c.in_ok-keep_dots.ensures.same
     (subst (λ ss. NamesFunction c.keep_dots.new.checker c.name_of_definition.new.checker ss c.args.node.now.declarator c.in_ok-ty.field-0.ty) c.as_slice-2.ensures.value c.in_ok-name_of_definition.ensures.names)
-    c.in_ok-ty.ensures.further.sound
+    c.in_ok-ty.ensures.further.sound c.in_ok-ty.ensures.further
     (then_further c.declarator.new.self c.keep_dots.new.checker c.name_of_definition.new.checker
     (is_further c.declarator.new.self c.keep_dots.new.checker c.in_ok-keep_dots.ensures.same c.in_ok-ty.ensures.further.sound) c.in_ok-name_of_definition.ensures.further)
     c.in_ok-ty.ensures.known c.result_of-returned.ensures.value

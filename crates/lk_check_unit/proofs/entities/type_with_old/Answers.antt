@@ -16,6 +16,7 @@ returns-in_ok-made-in-Some-clause-puts c =
             (record { longer = made.longer; members = made.members; few = λ few. made.few }) refl;
         outside = refl;
         kept = refl;
+        records = refl;
       };
       names = refl;
     }

@@ -1,12 +1,10 @@
-use Rattle.std.proofs.Common.{◌≡◌, ◌∙◌, ℕ, List, Some, None, refl, ap, sym, subst}
-use Rattle.std.specs.Option.{option_map}
+use Rattle.std.proofs.Common.{◌≡◌, ◌∙◌, ℕ, List, Some, ap}
 use Rattle.lk_base.specs.declared.spot.Spot.{Spot}
 use Rattle.lk_tree.specs.declared.expression.DeclaratorForm.TheOpen.{DeclaratorForm-F}
 use Rattle.lk_tree.specs.declared.expression.DeclaratorForm.TheVariants as form
 use Rattle.lk_typed.specs.Expressions.{declarator_found}
 use Rattle.lk_typed.specs.Told.{Named}
 use Rattle.lk_check_walk.proofs.WalkedForms.{form_of, name_found}
-use Rattle.lk_check_walk.specs.Named.{name_in}
 use Rattle.lk_check_walk.proofs.declarators.+declared_name.Goals as goal
 
 named_same : (name : List ℕ) {a b : Spot} {m n : ℕ} → a ≡ b → m ≡ n → ◌≡◌ {A = Named} (record { name = name; spot = a; ordinal = m }) (record { name = name; spot = b; ordinal = n })

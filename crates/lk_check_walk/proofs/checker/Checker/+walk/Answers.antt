@@ -1,6 +1,6 @@
 use Rattle.std.proofs.Common.{◌∙◌, ◌&&◌, [], false, true, Some, None, IfSome, All, ap, refl, subst, sym, take, arith, rules, ◌++◌, ◌∷◌, ◌+◌, drop}
 use Rattle.std.specs.Prelude.{if◌then◌else◌, is_some}
-use Rattle.lk_tree.specs.declared.expression.DeclaratorForm.TheOpen.{DeclaratorForm-F, ExprForm-F, MemberDeclarator-F, Specifier-F}
+use Rattle.lk_tree.specs.declared.expression.DeclaratorForm.TheOpen.{ExprForm-F, MemberDeclarator-F, Specifier-F}
 use Rattle.std.specs.Option.{option_map, option_copied}
 use Rattle.lk_types.specs.Building.{IsPassed}
 use Rattle.lk_typed.specs.DeclarationRules.{InType}
@@ -16,7 +16,7 @@ use Rattle.std.proofs.lemmas.List.{length-take-le, take_all}
 use Rattle.lk_typed.specs.Env.{AsOperand, as_operand, extend, nothing, look_up, look_up_tag}
 use Rattle.lk_typed.specs.Expressions.{breach_at, expression, plainly, specifiers_found}
 use Rattle.lk_typed.specs.Forms.{role_in_parentheses, role_in_prefix}
-use Rattle.lk_typed.specs.Names.{IsKnownRole, role_in}
+use Rattle.lk_typed.specs.Names.{IsKnownRole}
 use Rattle.lk_check_walk.specs.Arguments.{JudgesArguments, function_in}
 use Rattle.lk_check_walk.specs.Walking.{Judges, JudgesSides, JudgesTwo, NamesType, behind_left, behind_operand, operand_in}
 use Rattle.lk_check_walk.specs.Walks.{Settles}
@@ -24,7 +24,8 @@ use Rattle.lk_check_walk.proofs.Argued.{AreArgued, argued_then, argument_judged,
 use Rattle.lk_check_walk.proofs.Arms.{arm_call, arm_cast, arm_none, arm_one, arm_sizeof_type, arm_three, arm_two, in_role, judged_further, judged_operand, layer_is, sides_judged, two_judged}
 use Rattle.lk_check_walk.proofs.Further.{named_further, operand_further, role_known_further, then_further}
 use Rattle.lk_check_walk.proofs.Recordings.{further_recorded, judged_recorded, named_recorded}
-use Rattle.lk_check_walk.proofs.Walking.{longer_trans, no_walk}
+use Rattle.lk_check_walk.proofs.Lasting.{longer_trans}
+use Rattle.lk_check_walk.proofs.Walking.{no_walk}
 use Rattle.lk_base.specs.declared.code.Code.TheVariants.{BitField}
 use Rattle.lk_typed.specs.Faults.{breach}
 use Rattle.lk_tree.specs.declared.expression.Item.{out-Item}
@@ -32,14 +33,15 @@ use Rattle.lk_tree.specs.declared.expression.TypeName.{out-TypeName}
 use Rattle.lk_types.specs.Table.{Table, IsKnown}
 use Rattle.lk_typed.specs.HolderRules.{counted_rules, enum_rules, has_bit_field, written_rules}
 use Rattle.lk_typed.specs.Redeclared.{tag_rules}
+use Rattle.lk_typed.specs.Structs.{struct_begun}
 use Rattle.lk_typed.specs.Told.{before_first, enum_named, no_specifier, of_type_alone, struct_named, struct_use, typedef_of, written_value}
 use Rattle.lk_check_decl.specs.Twins.{holder_of}
-use Rattle.lk_check_walk.proofs.Defines.{arm, enum_gathered, further_refl, further_then, grows_further, same_further, named_gathered, nothing_put, spec_layer, storage_put, struct_gathered, word_gathered, word_put}
+use Rattle.lk_check_walk.proofs.Defines.{arm, arm_begins, begun_gathered, enum_gathered, further_refl, further_then, grows_further, same_further, named_gathered, nothing_put, spec_layer, storage_put, struct_gathered, word_gathered, word_put}
 use Rattle.lk_check_walk.specs.Specified.{breaches_in}
 use Rattle.lk_check_walk.specs.declared.fields.MembersFound.{MembersFound}
 use Rattle.lk_check_walk.specs.declared.found.At.{At}
 use Rattle.lk_check_walk.proofs.FieldsGrow.{fields_grow, fields_same}
-use Rattle.lk_check_walk.proofs.KeepsAll.{in_same, sound_same}
+use Rattle.lk_check_walk.proofs.KeepsAll.{in_same}
 use Rattle.lk_check_walk.proofs.Turns.{drop_next, drop_none}
 use Rattle.lk_check_walk.proofs.TypeNamed.{named_alone, named_with}
 use Rattle.lk_check_walk.specs.Counting.{constant_found}
@@ -59,7 +61,8 @@ use Rattle.lk_check_walk.proofs.checker.Checker.+walk.Goals as goal
 
 pub judge-returns-clause-judged : goal.judge-returns-clause-judged
 judge-returns-clause-judged t c =
-    judged_recorded c.args.self.now c.judge_form.new.self c.put_expression.new.self c.args.stands c.args.e.now c.in_ok-found.found c.in_ok-found.ensures
+    judged_recorded c.args.self.now c.judge_form.new.self c.put_expression.new.self c.args.stands c.args.e.now c.in_ok-found.found c.names_in-names.result c.requires.sound c.in_ok-put_expression.ensures
+    c.names_in-names.ensures c.in_ok-found.ensures
 
 pub judge-returns-clause-further : goal.judge-returns-clause-further
 judge-returns-clause-further t c =
@@ -511,7 +514,7 @@ specifier-returns-in_ok-struct_defined-in-Struct t c = λ at_end env stands.
     let ms = c.in-Struct.members in
     let before = c.args.out.now in
     let after = c.struct_defined.new.out in
-    arm at_end old new env c.args.alone s before after (Specifier-F.Struct tag ms) (spec_layer s (specifier_form.Struct tag ms) (Specifier-F.Struct tag ms) c.in-Struct.is (specifier_form.rolls-Struct tag ms))
+    arm_begins at_end old new env c.args.alone s before after (Specifier-F.Struct tag ms) (spec_layer s (specifier_form.Struct tag ms) (Specifier-F.Struct tag ms) c.in-Struct.is (specifier_form.rolls-Struct tag ms))
     (subst (λ tag. GathersStruct old new c.args.in_size tag ms before after) c.as_ref.ensures.value
     (subst (λ ms. GathersStruct old new c.args.in_size (option_copied c.as_ref.result) ms before after) c.list.ensures c.in_ok-struct_defined-in-Struct.ensures) at_end env stands)
 
@@ -524,9 +527,9 @@ specifier-returns-in_ok-struct_named-in-StructTag t c = λ at_end env stands.
     let before = c.args.out.now in
     let after = c.struct_named.new.out in
     let named = c.in_ok-struct_named-in-StructTag.ensures in
-    arm at_end old new env c.args.alone s before after (Specifier-F.StructTag name) (spec_layer s (specifier_form.StructTag name) (Specifier-F.StructTag name) c.in-StructTag.is (specifier_form.rolls-StructTag name))
-    (named_gathered at_end old new env (struct_named env (struct_use c.args.alone) name) (tag_rules env (struct_use c.args.alone) name) before after
-    (grows_further old new named.grows named.begun) named.grows.kept (named.put env stands.is_in))
+    arm_begins at_end old new env c.args.alone s before after (Specifier-F.StructTag name) (spec_layer s (specifier_form.StructTag name) (Specifier-F.StructTag name) c.in-StructTag.is (specifier_form.rolls-StructTag name))
+    (begun_gathered (struct_begun env c.args.alone (Specifier-F.StructTag name)) at_end old new env (struct_named env (struct_use c.args.alone) name) (tag_rules env (struct_use c.args.alone) name) before after
+    (grows_further old new named.grows named.begun) named.grows.kept (named.tag env stands.is_in) (named.put env stands.is_in))
 
 pub specifier-returns-in_ok-enum_defined-in-Enum : goal.specifier-returns-in_ok-enum_defined-in-Enum
 specifier-returns-in_ok-enum_defined-in-Enum t c = λ at_end env stands.
@@ -550,7 +553,7 @@ specifier-returns-in_ok-enum_named-in-EnumTag t c = λ at_end env stands.
     let after = c.enum_named.new.out in
     arm at_end old old env c.args.alone s before after (Specifier-F.EnumTag name) (spec_layer s (specifier_form.EnumTag name) (Specifier-F.EnumTag name) c.in-EnumTag.is (specifier_form.rolls-EnumTag name))
     (named_gathered at_end old old env (enum_named env name) (enum_rules env name (look_up_tag env name)) before after
-    (further_refl old c.requires) refl (c.in_ok-enum_named-in-EnumTag.ensures env stands.is_in))
+    (further_refl old c.requires) refl refl (c.in_ok-enum_named-in-EnumTag.ensures env stands.is_in))
 
 pub specifier-returns-in-Typedef : goal.specifier-returns-in-Typedef
 specifier-returns-in-Typedef t c = λ at_end env stands.
@@ -561,7 +564,7 @@ specifier-returns-in-Typedef t c = λ at_end env stands.
     let after = c.typedef_named.new.out in
     arm at_end old old env c.args.alone s before after (Specifier-F.Typedef name) (spec_layer s (specifier_form.Typedef name) (Specifier-F.Typedef name) c.in-Typedef.is (specifier_form.rolls-Typedef name))
     (named_gathered at_end old old env (of_type_alone nothing (typedef_of (look_up env name))) [] before after
-    (further_refl old c.requires) refl (c.typedef_named.ensures env stands.is_in))
+    (further_refl old c.requires) refl refl (c.typedef_named.ensures env stands.is_in))
 
 pub struct_defined-end_struct-requires-clause-begun : goal.struct_defined-end_struct-requires-clause-begun
 struct_defined-end_struct-requires-clause-begun t c = c.in_ok-found.ensures.further.begun c.in_ok-begun.begun.number c.in_ok-begun.ensures.is
@@ -571,7 +574,7 @@ struct_defined-returns t c = λ at_end env stands.
     let begins = c.in_ok-begun.ensures in
     let ends = c.in_ok-end_struct.ensures in
     struct_gathered at_end c.args.self.now c.begin_struct.new.self c.members.new.self c.end_struct.new.self c.args.in_size env (option_copied c.args.tag) c.args.list.now c.in_ok-begun.begun c.in_ok-found.found
-    c.args.out.now c.begin_struct.new.out c.end_struct.new.out stands c.requires begins.further begins.kept (begins.begins env stands.is_in) c.in_ok-found.ensures.found ends.grows begins.fresh ends.others ends.behind ends.put
+    c.args.out.now c.begin_struct.new.out c.end_struct.new.out stands c.requires begins.further begins.kept (begins.tag env stands.is_in) (begins.begins env stands.is_in) c.in_ok-found.ensures.found ends.grows begins.fresh ends.others ends.behind ends.put
 
 pub enum_defined-returns : goal.enum_defined-returns
 enum_defined-returns t c = λ at_end env stands.
@@ -768,7 +771,7 @@ named_type-returns-clause-known t c =
 
 pub type_name-returns-clause-named : goal.type_name-returns-clause-named
 type_name-returns-clause-named t c =
-    named_recorded c.args.self.now c.named_type.new.self c.put_named.new.self c.args.in_size c.args.n.now c.in_ok-found.found c.in_ok-found.ensures.named
+    named_recorded c.args.self.now c.named_type.new.self c.put_named.new.self c.args.in_size c.args.n.now c.in_ok-found.found c.in_ok-put_named.ensures c.in_ok-found.ensures.known c.in_ok-found.ensures.named
 
 pub type_name-returns-clause-further : goal.type_name-returns-clause-further
 type_name-returns-clause-further t c = further_recorded c.args.self.now c.named_type.new.self c.put_named.new.self c.in_ok-found.ensures.further
@@ -968,7 +971,7 @@ parameter-returns-in-Some-clause-found t c =
     let further = on.then_further old two new (on.then_further old one two c.in_ok-told.ensures.further c.in_ok-declared-in-Some.ensures.further) c.in_ok-ty-in-Some.ensures.further in
     named_found old one two new c.args.is_lone c.args.in_size c.args.p.now told _ further
     (subst (λ ss. Specifies old one InType false c.args.in_size ss told) c.list.ensures c.in_ok-told.ensures.specified) c.in-Some.d (record { may_be_absent = true; in_size = c.args.in_size }) declared c.in-Some.is refl
-    refl c.in_ok-declared-in-Some.ensures.declared (subst (λ bs. SettlesParameter two new c.args.p.now bs false (option_map (meaning two.types) declared.ty) c.in_ok-ty-in-Some.ty) c.as_slice.ensures.value
+    refl c.in_ok-declared-in-Some.ensures.declared c.in_ok-declared-in-Some.ensures.further c.in_ok-ty-in-Some.ensures.further (subst (λ bs. SettlesParameter two new c.args.p.now bs false (option_map (meaning two.types) declared.ty) c.in_ok-ty-in-Some.ty) c.as_slice.ensures.value
     c.in_ok-ty-in-Some.ensures.settled) refl c.either-holds_sizeof.ensures
 
 pub parameter-returns-in-Some-clause-further : goal.parameter-returns-in-Some-clause-further
@@ -986,7 +989,7 @@ parameter-returns-clause-found t c =
     let told = c.in_ok-told.told in
     let further = on.then_further old one new c.in_ok-told.ensures.further c.in_ok-ty-in-None.ensures.further in
     bare_found old one one new c.args.is_lone c.args.in_size c.args.p.now told _ further
-    (subst (λ ss. Specifies old one InType false c.args.in_size ss told) c.list.ensures c.in_ok-told.ensures.specified) c.both-is_void.result c.in-None.is refl
+    (subst (λ ss. Specifies old one InType false c.args.in_size ss told) c.list.ensures c.in_ok-told.ensures.specified) c.both-is_void.result c.in-None.is refl c.in_ok-ty-in-None.ensures.further
     (subst (λ bs. SettlesParameter one new c.args.p.now bs c.both-is_void.result (option_map (meaning one.types) told.ty) c.in_ok-ty-in-None.ty) c.as_slice-in-None.ensures.value c.in_ok-ty-in-None.ensures.settled)
     c.both-is_void.ensures c.is_void_type-is_bare_void.ensures refl
 

@@ -1,4 +1,4 @@
-use Rattle.std.proofs.Common.{take, All, IfSome, ◌+◌, ◌*◌, max, ◌≡◌, drop}
+use Rattle.std.proofs.Common.{take, All, IfSome, ◌+◌, ◌*◌, max, drop}
 use Rattle.lk_types.specs.Building.{IsPassed}
 use Rattle.lk_check_walk.specs.Parameters.{ListsParameters, types_listed}
 use Rattle.lk_check_walk.specs.Walking.{IsFurther}

@@ -4,6 +4,8 @@ use Rattle.lk_typed.specs.Told.{struct_meant_by}
 use Rattle.std.specs.List.{slice_get}
 use Rattle.lk_check_walk.proofs.Completing.{begun_meant}
 use Rattle.lk_check_walk.proofs.Defines.{not_yet_begun}
+use Rattle.lk_check_walk.proofs.Tags.{tag_still}
+use Rattle.lk_check_walk.specs.Moves.{definition_begun}
 use Rattle.lk_check_walk.proofs.checker.Checker.begin_definition.Goals as goal
 
 pub returns-clause-behind : goal.returns-clause-behind
@@ -16,3 +18,8 @@ pub returns-clause-fresh : goal.returns-clause-fresh
 returns-clause-fresh c = λ begun.
     let s = c.in_ok-s.s in
     not_yet_begun (slice_get c.defined_struct.new.self.names.structs s) c.in_ok-s.ensures.may_begin (c.in_ok-s.ensures.begun s begun)
+
+pub returns-clause-tag : goal.returns-clause-tag
+returns-clause-tag c = λ env is.
+    tag_still c.args.self.now c.defined_struct.new.self c.begin_members.new.self env (definition_begun env (option_copied c.args.tag)) c.begin_members.ensures.grows.records
+    (c.in_ok-s.ensures.tag env is)

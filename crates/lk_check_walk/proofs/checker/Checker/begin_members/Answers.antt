@@ -18,6 +18,7 @@ returns-clause-grows c =
       sound = step_sound old new c.args.s NotYet Begun c.requires.sound refl c.set_members.ensures.value c.requires.may_begin refl tt (c.set_members.ensures.known old.types c.requires.sound.scope tt);
       outside = refl;
       kept = refl;
+      records = refl;
     }
 
 pub returns-clause-behind : goal.returns-clause-behind

@@ -31,6 +31,7 @@ returns-clause-grows c =
           (c.set_members.ensures.known old.types c.requires.sound.scope (parts_known old.types c.args.fields.items c.new-2.result c.new-2.ensures c.requires.parts));
       outside = refl;
       kept = refl;
+      records = refl;
     }
 
 pub returns-clause-behind : goal.returns-clause-behind

@@ -1,9 +1,11 @@
-use Rattle.std.proofs.Common.{◌∙◌, ap, sym}
+use Rattle.std.proofs.Common.{◌∙◌, ap, subst, sym}
 use Rattle.std.specs.Option.{option_copied}
 use Rattle.lk_typed.specs.Env.{Env}
 use Rattle.lk_typed.specs.Redeclared.{DefinesStruct, may_use}
 use Rattle.lk_typed.specs.Told.{tag_found}
 use Rattle.lk_check_walk.proofs.Completing.{admitted_meant, as_many, blank, refused_meant}
+use Rattle.lk_check_walk.proofs.Tags.{definition_admitted, definition_refused}
+use Rattle.lk_check_walk.specs.Moves.{RecordsTag}
 use Rattle.lk_check_walk.proofs.checker.Checker.defined_struct.Goals as goal
 
 pub returns-then-not-admits-clause-means : goal.returns-then-not-admits-clause-means
@@ -24,3 +26,19 @@ returns-clause-means c = λ env is.
     admitted_meant c.struct_for.new.self env tag c.in_ok-s-2.s
     (ap (λ (e : Env). may_use e (tag_found e DefinesStruct tag) DefinesStruct) (sym is.scope) ∙ sym (c.admits.ensures old.types env) ∙ c.if-not-admits.false)
     (c.in_ok-s-2.ensures.means env is)
+
+pub returns-then-not-admits-clause-tag : goal.returns-then-not-admits-clause-tag
+returns-then-not-admits-clause-tag c = λ env is.
+    let old = c.args.self.now in
+    let tag = option_copied c.args.tag in
+    subst (RecordsTag old c.new_struct.new.self env) (sym (definition_refused env tag
+    (ap (λ (e : Env). may_use e (tag_found e DefinesStruct tag) DefinesStruct) (sym is.scope) ∙ sym (c.admits.ensures old.types env) ∙ c.if-not-admits.true)))
+    (c.in_ok-s.ensures.tag env is)
+
+pub returns-clause-tag : goal.returns-clause-tag
+returns-clause-tag c = λ env is.
+    let old = c.args.self.now in
+    let tag = option_copied c.args.tag in
+    subst (RecordsTag old c.struct_for.new.self env) (sym (definition_admitted env tag
+    (ap (λ (e : Env). may_use e (tag_found e DefinesStruct tag) DefinesStruct) (sym is.scope) ∙ sym (c.admits.ensures old.types env) ∙ c.if-not-admits.false)))
+    (c.in_ok-s-2.ensures.tag env is)

@@ -16,6 +16,7 @@ returns-clause-grows c =
       sound = step_sound old new c.args.s Begun Faulty c.requires.sound refl c.set_members.ensures.value c.requires.begun refl tt (c.set_members.ensures.known old.types c.requires.sound.scope tt);
       outside = refl;
       kept = refl;
+      records = refl;
     }
 
 pub returns-clause-behind : goal.returns-clause-behind

@@ -14,6 +14,7 @@ returns-clause-same c = record {
   types = c.in_ok-keep.ensures.types ∙ c.in_ok-keep_name.ensures.types;
   names = c.in_ok-keep.ensures.names ∙ c.in_ok-keep_name.ensures.names;
   outside = c.in_ok-keep.ensures.outside ∙ c.in_ok-keep_name.ensures.outside;
+  records = c.in_ok-keep.ensures.records ∙ c.in_ok-keep_name.ensures.records;
 }
 
 pub returns-clause-keeps : goal.returns-clause-keeps

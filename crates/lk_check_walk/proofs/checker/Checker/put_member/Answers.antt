@@ -7,8 +7,7 @@ use Rattle.lk_typed.specs.Layers.{faulty_member, field_told}
 use Rattle.lk_typed.specs.Meaning.{meaning}
 use Rattle.lk_typed.specs.Sizes.{is_complete}
 use Rattle.lk_typed.specs.Told.{then_member}
-use Rattle.lk_typed.specs.Ty.{Ty}
-use Rattle.lk_typed.specs.Typings.{field_in, structs_in}
+use Rattle.lk_typed.specs.Typings.{structs_in}
 use Rattle.lk_names.specs.InScope.{InScope}
 use Rattle.lk_check_walk.proofs.FieldsGrow.{fields_same}
 use Rattle.lk_check_walk.proofs.KeepsAll.{in_same, sound_same}

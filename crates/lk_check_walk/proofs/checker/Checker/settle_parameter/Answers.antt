@@ -1,4 +1,3 @@
-use Rattle.std.proofs.Common.{refl}
 use Rattle.std.specs.Option.{option_map}
 use Rattle.lk_tree.specs.declared.expression.Parameter.{out-Parameter}
 use Rattle.lk_typed.specs.Meaning.{meaning}

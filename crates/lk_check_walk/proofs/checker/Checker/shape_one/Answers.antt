@@ -23,6 +23,7 @@ returns-clause-puts c =
       sound = grown_sound old new c.requires.sound (subst IsTable (sym tells.types) c.is_table.ensures) (subst (IsGrown old.types) (sym tells.types) c.made_by.ensures.grown) tells.names;
       outside = tells.outside;
       names = tells.names;
+      records = tells.records;
     }
 
 pub returns-clause-made : goal.returns-clause-made

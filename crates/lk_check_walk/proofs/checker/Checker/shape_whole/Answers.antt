@@ -1,4 +1,4 @@
-use Rattle.std.proofs.Common.{◌∙◌, IfSome, ap, refl, sym, subst}
+use Rattle.std.proofs.Common.{IfSome, refl, sym, subst}
 use Rattle.lk_types.specs.Table.{Table, IsKnown}
 use Rattle.lk_check_walk.proofs.GoingOn.{puts_further, scope_known}
 use Rattle.lk_check_walk.proofs.WalkedForms.{place_is}

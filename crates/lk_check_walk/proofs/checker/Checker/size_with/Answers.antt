@@ -1,4 +1,4 @@
-use Rattle.std.proofs.Common.{◌≡◌, ◌∙◌, ◌++◌, ◌∷◌, [], Some, true, All, map, sym, ap, subst}
+use Rattle.std.proofs.Common.{◌≡◌, ◌∙◌, ◌∷◌, [], Some, true, All, map, sym, ap, subst}
 use Rattle.std.specs.Prelude.{◌&&◌, IfSome, is_some}
 use Rattle.lk_types.specs.Sizes.{fields_size}
 use Rattle.lk_types.specs.Table.{Table, IsKnown}
@@ -12,7 +12,6 @@ use Rattle.lk_typed.specs.Sizes.{is_complete}
 use Rattle.lk_typed.specs.Typings.{field_in, structs_in}
 use Rattle.lk_rules.specs.Keeping.{KeepsCodes}
 use Rattle.lk_check_walk.proofs.Arms.{somewhere}
-use Rattle.lk_check_walk.proofs.FieldsGrow.{fields_known}
 use Rattle.lk_check_walk.proofs.KeepsAll.{in_same, one_each, same_then, sound_same, then_each}
 use Rattle.lk_check_walk.proofs.MemberCodes.{free_complete, if_free, size_there, there_where}
 use Rattle.lk_check_walk.specs.Declarators.{name_codes}

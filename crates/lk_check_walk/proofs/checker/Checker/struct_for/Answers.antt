@@ -1,4 +1,4 @@
-use Rattle.std.proofs.Common.{◌≡◌, ◌∙◌, ◌<◌, ◌++◌, ℕ, List, [], ◌∷◌, Option, Some, IfSome, ap, length, subst, sym}
+use Rattle.std.proofs.Common.{◌≡◌, ◌∙◌, ◌<◌, ◌++◌, ℕ, List, [], ◌∷◌, Option, Some, IfSome, ap, length, refl, subst, sym}
 use Rattle.std.specs.List.{slice_get}
 use Rattle.std.specs.Option.{option_copied}
 use Rattle.lk_typed.specs.Env.{Env, Begins, extend}
@@ -8,6 +8,7 @@ use Rattle.lk_typed.specs.declared.members.Members.TheVariants.{NotYet, Begun}
 use Rattle.lk_names.specs.Uses.{rules_use}
 use Rattle.lk_check_walk.proofs.Completing.{as_many, begun_before, known_meant, last_is, may_begin, new_meant, open_is}
 use Rattle.lk_check_walk.specs.Moves.{env_of}
+use Rattle.lk_check_walk.proofs.Tags.{tag_new, tag_none, tag_still}
 use Rattle.lk_check_walk.proofs.checker.Checker.struct_for.Goals as goal
 
 pub returns-in-Some-clause-known : goal.returns-in-Some-clause-known
@@ -50,3 +51,19 @@ returns-in_ok-put_tag-in-None-clause-means c = λ env is.
     (ap (λ (e : Env). struct_meant (tag_found e (rules_use c.args.wanted) tag)) (sym is.scope) ∙ sym (c.known_struct.ensures.value old.types env) ∙ c.in-None.is)
     (c.in_ok-s-in-None.ensures.number ∙ sym (as_many old env is))
     (c.in_ok-put_tag-in-None.ensures.behind (extend env (steps (Begins ∷ []))) (c.in_ok-s-in-None.ensures.behind env is))
+
+pub returns-in-Some-clause-tag : goal.returns-in-Some-clause-tag
+returns-in-Some-clause-tag c = λ env is.
+    let old = c.args.self.now in
+    let tag = option_copied c.args.tag in
+    tag_none old old env (struct_meant (tag_found env (rules_use c.args.wanted) tag)) tag c.in-Some.s
+    (ap (λ (e : Env). struct_meant (tag_found e (rules_use c.args.wanted) tag)) (sym is.scope) ∙ sym (c.known_struct.ensures.value old.types env) ∙ c.in-Some.is) refl
+
+pub returns-in_ok-put_tag-in-None-clause-tag : goal.returns-in_ok-put_tag-in-None-clause-tag
+returns-in_ok-put_tag-in-None-clause-tag c = λ env is.
+    let old = c.args.self.now in
+    let new = c.put_tag.new.self in
+    let tag = option_copied c.args.tag in
+    tag_new old new env (struct_meant (tag_found env (rules_use c.args.wanted) tag)) tag
+    (ap (λ (e : Env). struct_meant (tag_found e (rules_use c.args.wanted) tag)) (sym is.scope) ∙ sym (c.known_struct.ensures.value old.types env) ∙ c.in-None.is)
+    (tag_still old c.new_struct.new.self new env (Some tag) c.in_ok-put_tag-in-None.ensures.grows.records (c.in_ok-s-in-None.ensures.tag env is))

@@ -5,6 +5,7 @@ use Rattle.lk_typed.specs.Told.{struct_named}
 use Rattle.lk_names.specs.Uses.{rules_use}
 use Rattle.lk_check_walk.proofs.NamedTypes.{named_put}
 use Rattle.lk_check_walk.specs.Naming.{IsNamedType}
+use Rattle.lk_check_walk.specs.Moves.{RecordsTag, begun_if_admitted}
 use Rattle.lk_check_walk.proofs.checker.Checker.struct_named.Goals as goal
 
 pub returns-clause-put : goal.returns-clause-put
@@ -18,3 +19,8 @@ returns-clause-put c = λ env is.
     (c.in_ok-breach.ensures old.types env ∙ ap (λ (e : Env). tag_rules e (rules_use c.struct_use-wanted.result) name) is.scope ∙ ap (λ (u : TagUse). tag_rules env u name) c.struct_use-wanted.ensures)
     c.in_ok-put_breach.ensures (λ table told codes. c.put_type.ensures table told codes)
     (subst (λ (u : TagUse). IsNamedType new env c.in_ok-t.t (struct_named env u name)) c.struct_use-wanted.ensures (c.in_ok-t.ensures.named env is))
+
+pub returns-clause-tag : goal.returns-clause-tag
+returns-clause-tag c = λ env is.
+    let name = c.args.name.now in
+    subst (λ (u : TagUse). RecordsTag c.args.self.now c.named_struct.new.self env (begun_if_admitted env u name)) c.struct_use-wanted.ensures (c.in_ok-t.ensures.tag env is)

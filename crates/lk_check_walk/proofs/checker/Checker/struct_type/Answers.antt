@@ -21,4 +21,5 @@ returns-clause-grows c =
           (put_grown old.types new.types (forms.Struct c.args.s) c.in_ok-t.t c.is_table.ensures c.is_table-2.ensures c.put.ensures.longer c.in_ok-t.ensures.put tt) refl;
       outside = refl;
       kept = refl;
+      records = refl;
     }
