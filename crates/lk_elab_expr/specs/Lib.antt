@@ -1,2 +1,16 @@
+pub mod CastForms
+pub mod Converting
+pub mod Deciding
+pub mod Elaborating
 pub mod Elements
+pub mod Fields
+pub mod Keeping
+pub mod Known
+pub mod Leading
+pub mod Leaves
+pub mod LibraryForms
 pub mod OperandTypes
+pub mod PassedArguments
+pub mod Standing
+pub mod Telling
+pub mod Walking

@@ -1,4 +1,6 @@
 //! Allocations (C99 7.20.3): the type of an element, and how many there are.
+ghost use Rattle.std.specs.Prelude.{OnOk};
+ghost use Rattle.lk_elab_expr.specs.Leading.{Grows};
 
 use crate::elaborator::Elaborator;
 use crate::expressions::part_of;
@@ -127,7 +129,9 @@ fn size_of(walk: &Elaborator, e: &Expr, role: Role) -> Result<Size, NoMemory> {
 }
 
 /// The number of the type of an element.
-fn element_number(walk: &mut Elaborator, element: &ExprType) -> Result<TypeId, NoMemory> {
+fn element_number(walk: &mut Elaborator, element: &ExprType) -> Result<TypeId, NoMemory>
+    ensures { OnOk result (Grows walk.old walk.new) }
+{
     let element = known_type(walk.types.table(), element)?;
     listed(&mut walk.types, &element)
 }
@@ -148,7 +152,9 @@ pub(crate) fn sized_allocation(
     walk: &mut Elaborator,
     arguments: &[Expr],
     role: Role,
-) -> Result<Allocation, NoMemory> {
+) -> Result<Allocation, NoMemory>
+    ensures { OnOk result (Grows walk.old walk.new) }
+{
     match arguments.get(0) {
         Some(size) => {
             let Size { element, count } = size_of(walk, size, role)?;
@@ -163,7 +169,9 @@ pub(crate) fn sized_allocation(
 }
 
 /// The number of the type of an element, by the second argument of `calloc`, which is a `sizeof`.
-fn zeroed_element(walk: &mut Elaborator, size: &Expr) -> Result<TypeId, NoMemory> {
+fn zeroed_element(walk: &mut Elaborator, size: &Expr) -> Result<TypeId, NoMemory>
+    ensures { OnOk result (Grows walk.old walk.new) }
+{
     match counted_by(walk, size)? {
         Some(element) => element_number(walk, &element),
         None => Err(nowhere()),
@@ -174,7 +182,9 @@ fn zeroed_element(walk: &mut Elaborator, size: &Expr) -> Result<TypeId, NoMemory
 pub(crate) fn zeroed_allocation(
     walk: &mut Elaborator,
     arguments: &[Expr],
-) -> Result<Allocation, NoMemory> {
+) -> Result<Allocation, NoMemory>
+    ensures { OnOk result (Grows walk.old walk.new) }
+{
     match arguments.get(1) {
         Some(size) => Ok(Allocation {
             element: zeroed_element(walk, size)?,
@@ -191,7 +201,9 @@ fn counted(
     walk: &mut Elaborator,
     e: &Expr,
     folded: bool,
-) -> Result<Option<Boxed<TypedExpr>>, NoMemory> {
+) -> Result<Option<Boxed<TypedExpr>>, NoMemory>
+    ensures { OnOk result (Grows walk.old walk.new) }
+{
     match converted_operand(walk, e.ordinal, &ExprType::Listed(TypeId::SIZE)) {
         Ok(part) => Ok(Some(part_of(walk, e, part, folded)?)),
         Err(NoMemory) => Err(NoMemory),
@@ -205,7 +217,9 @@ fn counted_by_factor(
     e: &Expr,
     is_left: bool,
     folded: bool,
-) -> Result<Option<Boxed<TypedExpr>>, NoMemory> {
+) -> Result<Option<Boxed<TypedExpr>>, NoMemory>
+    ensures { OnOk result (Grows walk.old walk.new) }
+{
     match &e.form {
         ExprForm::Binary(_, left, right) => {
             if is_left {
@@ -242,7 +256,9 @@ fn count_of(
     e: &Expr,
     count: Count,
     folded: bool,
-) -> Result<Option<Boxed<TypedExpr>>, NoMemory> {
+) -> Result<Option<Boxed<TypedExpr>>, NoMemory>
+    ensures { OnOk result (Grows walk.old walk.new) }
+{
     match count {
         Count::One => Ok(None),
         Count::Whole => counted(walk, e, folded),
@@ -258,7 +274,9 @@ pub(crate) fn allocate(
     allocation: Allocation,
     arguments: &[Expr],
     folded: bool,
-) -> Result<TypedForm, NoMemory> {
+) -> Result<TypedForm, NoMemory>
+    ensures { OnOk result (Grows walk.old walk.new) }
+{
     match arguments {
         [counting, ..] => {
             let count = count_of(walk, counting, allocation.count, folded)?;

@@ -1,4 +1,8 @@
 //! Arguments of calls (C99 6.5.2.2).
+ghost use Rattle.std.specs.Prelude.{IfOk, OnOk};
+ghost use Rattle.lk_elab_expr.specs.Known.{OfEach};
+ghost use Rattle.lk_elab_expr.specs.Leading.{Grows};
+ghost use Rattle.lk_elab_expr.specs.PassedArguments.{IsPassedFor};
 
 use crate::elaborator::Elaborator;
 use crate::expressions::part_node;
@@ -12,15 +16,23 @@ use lk_tree::Expr;
 use lk_typed::TypedExpr;
 
 /// How the argument with an index is passed to the function with a number, where that has a parameter for it.
-fn passing_at(walk: &Elaborator, function: u32, index: usize) -> Result<Option<Passing>, NoMemory> {
-    let look = found_of(walk, function)?.look;
+fn passing_at(walk: &Elaborator, function: u32, index: usize) -> Result<Option<Passing>, NoMemory>
+    ensures { IfOk result (λ pass. OfEach walk.now function (λ f.
+        IsPassedFor walk.now.types f index pass)) }
+{
+    let found = found_of(walk, function)?;
     let typing = typing_at(walk, function)?;
-    let function = Argument { typing, look };
+    let function = Argument {
+        typing,
+        look: found.look,
+    };
     Ok(passing(walk.types.table(), &function, index))
 }
 
 /// What stands for an argument behind those that have a parameter: it is promoted (C99 6.5.2.2, 7).
-fn further(walk: &mut Elaborator, argument: u32) -> Result<Part, NoMemory> {
+fn further(walk: &mut Elaborator, argument: u32) -> Result<Part, NoMemory>
+    ensures { OnOk result (Grows walk.old walk.new) }
+{
     let target = promoted_at(walk, argument)?;
     converted_operand(walk, argument, &target)
 }
@@ -31,7 +43,9 @@ fn passed_as(
     walk: &mut Elaborator,
     pass: Option<Passing>,
     argument: u32,
-) -> Result<Option<Part>, NoMemory> {
+) -> Result<Option<Part>, NoMemory>
+    ensures { OnOk result (Grows walk.old walk.new) }
+{
     match pass {
         Some(Passing::Converted(target)) => Ok(Some(given(walk, argument, &target)?)),
         Some(Passing::NullFor(_) | Passing::Routine) => Ok(None),
@@ -47,10 +61,32 @@ fn argument_part(
     function: u32,
     index: usize,
     argument: u32,
-) -> Result<Option<Part>, NoMemory> {
+) -> Result<Option<Part>, NoMemory>
+    ensures { OnOk result (Grows walk.old walk.new) }
+{
     match passing_at(walk, function, index) {
         Ok(pass) => passed_as(walk, pass, argument),
         Err(NoMemory) => Err(NoMemory),
+    }
+}
+
+/// Puts what stands for an argument, where it computes something.
+#[cycle(walk)]
+fn put_part(
+    walk: &mut Elaborator,
+    e: &Expr,
+    part: Option<Part>,
+    folded: bool,
+    out: &mut Seq<TypedExpr>,
+) -> Result<(), NoMemory>
+    ensures { OnOk result (Grows walk.old walk.new) }
+{
+    match part {
+        Some(part) => {
+            let node = part_node(walk, e, part, folded)?;
+            out.push(node)
+        }
+        None => Ok(()),
     }
 }
 
@@ -63,13 +99,11 @@ fn put_argument(
     e: &Expr,
     folded: bool,
     out: &mut Seq<TypedExpr>,
-) -> Result<(), NoMemory> {
+) -> Result<(), NoMemory>
+    ensures { OnOk result (Grows walk.old walk.new) }
+{
     match argument_part(walk, function, index, e.ordinal) {
-        Ok(Some(part)) => {
-            let node = part_node(walk, e, part, folded)?;
-            out.push(node)
-        }
-        Ok(None) => Ok(()),
+        Ok(part) => put_part(walk, e, part, folded, out),
         Err(NoMemory) => Err(NoMemory),
     }
 }
@@ -81,7 +115,9 @@ pub(crate) fn passed_arguments(
     function: u32,
     arguments: &[Expr],
     folded: bool,
-) -> Result<Seq<TypedExpr>, NoMemory> {
+) -> Result<Seq<TypedExpr>, NoMemory>
+    ensures { OnOk result (Grows walk.old walk.new) }
+{
     let mut out = Seq::new(Vec::new(walk.alloc));
     for (index, e) in arguments.iter().enumerate() {
         put_argument(walk, function, index, e, folded, &mut out)?;

@@ -1,4 +1,6 @@
 //! Calls (C99 6.5.2.2).
+ghost use Rattle.std.specs.Prelude.{OnOk};
+ghost use Rattle.lk_elab_expr.specs.Leading.{Grows};
 
 use crate::allocations::{Allocation, allocate, sized_allocation, zeroed_allocation};
 use crate::arguments::passed_arguments;
@@ -89,7 +91,9 @@ fn library_calling(
     known: LibraryFunction,
     arguments: &[Expr],
     role: Role,
-) -> Result<Calling, NoMemory> {
+) -> Result<Calling, NoMemory>
+    ensures { OnOk result (Grows walk.old walk.new) }
+{
     match known {
         LibraryFunction::Malloc => Ok(Calling::Allocating(sized_allocation(
             walk, arguments, role,
@@ -130,7 +134,9 @@ fn how_called(
     function: &Expr,
     arguments: &[Expr],
     role: Role,
-) -> Result<Calling, NoMemory> {
+) -> Result<Calling, NoMemory>
+    ensures { OnOk result (Grows walk.old walk.new) }
+{
     match named_called(walk, function)? {
         Some(Called::Library(known)) => library_calling(walk, known, arguments, role),
         Some(Called::Extern(entity)) => Ok(Calling::Named(Called::Extern(entity))),
@@ -156,7 +162,9 @@ fn call_named(
     function: u32,
     arguments: &[Expr],
     folded: bool,
-) -> Result<TypedForm, NoMemory> {
+) -> Result<TypedForm, NoMemory>
+    ensures { OnOk result (Grows walk.old walk.new) }
+{
     let values = passed_arguments(walk, function, arguments, folded)?;
     call_with(walk.alloc, called, values)
 }
@@ -169,7 +177,9 @@ fn call_create(
     function: u32,
     arguments: &[Expr],
     folded: bool,
-) -> Result<TypedForm, NoMemory> {
+) -> Result<TypedForm, NoMemory>
+    ensures { OnOk result (Grows walk.old walk.new) }
+{
     let values = passed_arguments(walk, function, arguments, folded)?;
     Ok(TypedForm::Library(create(walk.alloc, routine, values)?))
 }
@@ -180,7 +190,9 @@ fn pointer_of(
     walk: &mut Elaborator,
     function: &Expr,
     folded: bool,
-) -> Result<Boxed<TypedExpr>, NoMemory> {
+) -> Result<Boxed<TypedExpr>, NoMemory>
+    ensures { OnOk result (Grows walk.old walk.new) }
+{
     match value_as(walk, function.ordinal, Role::Function) {
         Ok(part) => part_of(walk, function, part, folded),
         Err(NoMemory) => Err(NoMemory),
@@ -194,10 +206,33 @@ fn call_pointed(
     function: &Expr,
     arguments: &[Expr],
     folded: bool,
-) -> Result<TypedForm, NoMemory> {
+) -> Result<TypedForm, NoMemory>
+    ensures { OnOk result (Grows walk.old walk.new) }
+{
     let pointer = pointer_of(walk, function, folded)?;
     let values = passed_arguments(walk, function.ordinal, arguments, folded)?;
     Ok(TypedForm::Call(Callee::Pointer(pointer), values))
+}
+
+/// A call that is made so.
+#[cycle(walk)]
+fn call_so(
+    walk: &mut Elaborator,
+    calling: Calling,
+    function: &Expr,
+    arguments: &[Expr],
+    folded: bool,
+) -> Result<TypedForm, NoMemory>
+    ensures { OnOk result (Grows walk.old walk.new) }
+{
+    match calling {
+        Calling::Allocating(allocation) => allocate(walk, allocation, arguments, folded),
+        Calling::Creating(routine) => {
+            call_create(walk, routine, function.ordinal, arguments, folded)
+        }
+        Calling::Named(called) => call_named(walk, called, function.ordinal, arguments, folded),
+        Calling::Pointed => call_pointed(walk, function, arguments, folded),
+    }
 }
 
 /// A call that stands so.
@@ -207,14 +242,11 @@ pub(crate) fn call(
     function: &Expr,
     arguments: &[Expr],
     way: Way,
-) -> Result<TypedForm, NoMemory> {
-    let folded = way.folded;
-    match how_called(walk, function, arguments, way.role)? {
-        Calling::Allocating(allocation) => allocate(walk, allocation, arguments, folded),
-        Calling::Creating(routine) => {
-            call_create(walk, routine, function.ordinal, arguments, folded)
-        }
-        Calling::Named(called) => call_named(walk, called, function.ordinal, arguments, folded),
-        Calling::Pointed => call_pointed(walk, function, arguments, folded),
+) -> Result<TypedForm, NoMemory>
+    ensures { OnOk result (Grows walk.old walk.new) }
+{
+    match how_called(walk, function, arguments, way.role) {
+        Ok(calling) => call_so(walk, calling, function, arguments, way.folded),
+        Err(NoMemory) => Err(NoMemory),
     }
 }

@@ -1,6 +1,10 @@
 //! Casts (C99 6.5.4).
-ghost use Rattle.lk_typed.specs.Meaning.{IsKnownType};
+ghost use Rattle.std.specs.Prelude.{◌≡◌, ◌&&◌, IfOk, OnOk};
+ghost use Rattle.lk_typed.specs.Meaning.{IsKnownType, meaning_of};
+ghost use Rattle.lk_typed.specs.Ty as ty;
 ghost use Rattle.lk_typed.specs.Typings.{IsOperand};
+ghost use Rattle.lk_elab_expr.specs.CastForms.{DecidesCast, casting};
+ghost use Rattle.lk_elab_expr.specs.Leading.{Grows};
 
 use crate::elaborator::Elaborator;
 use crate::forms::{One, OneForm};
@@ -25,6 +29,8 @@ enum Casting {
 fn cast_to(types: &TypeTable, target: &ExprType, v: &Typed) -> Casting
     requires target { IsKnownType types.now target.now }
     requires value { IsOperand types.now v.now }
+    ensures { result ≡ casting (ty.is_void (meaning_of types.now target.now))
+        (ty.is_pointer (meaning_of types.now target.now) && v.now.is_null) }
 {
     if is_void(types, target) {
         Casting::Discard
@@ -36,14 +42,21 @@ fn cast_to(types: &TypeTable, target: &ExprType, v: &Typed) -> Casting
 }
 
 /// A cast of the operand with a number to the type that the type name with that number names.
-pub(crate) fn cast(walk: &mut Elaborator, target: u32, operand: u32) -> Result<One, NoMemory> {
+pub(crate) fn cast(walk: &mut Elaborator, target: u32, operand: u32) -> Result<One, NoMemory>
+    ensures one { IfOk result (DecidesCast walk.old walk.new target operand) }
+    ensures grows { OnOk result (Grows walk.old walk.new) }
+{
     let ty = ExprType::Listed(type_named_at(walk, target)?);
     let v = value_at(walk, operand)?;
-    let form = match cast_to(walk.types.table(), &ty, &v) {
-        Casting::Null => return Ok(One::Null),
-        Casting::Discard => OneForm::Discard,
-        Casting::Convert => OneForm::Convert,
-    };
-    let part = value_as(walk, operand, Role::ConvertedTo(ty))?;
-    Ok(One::Of(form, part))
+    match cast_to(walk.types.table(), &ty, &v) {
+        Casting::Null => Ok(One::Null),
+        Casting::Discard => {
+            let part = value_as(walk, operand, Role::ConvertedTo(ty))?;
+            Ok(One::Of(OneForm::Discard, part))
+        }
+        Casting::Convert => {
+            let part = value_as(walk, operand, Role::ConvertedTo(ty))?;
+            Ok(One::Of(OneForm::Convert, part))
+        }
+    }
 }

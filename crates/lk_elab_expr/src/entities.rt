@@ -1,7 +1,10 @@
 //! The functions and objects of static storage that a source declares (C99 6.2.2, 6.2.4, 3).
-ghost use Rattle.std.specs.Prelude.{OnOk};
+ghost use Rattle.std.specs.Prelude.{◌≡◌, Some, IfOk, OnOk, nat_eq};
+ghost use Rattle.std.specs.Map.{lookup};
 ghost use Rattle.lk_typed.specs.Elements.{HasFewElements};
+ghost use Rattle.lk_elab_expr.specs.Keeping.{KeepsNumbers};
 
+use crate::locals::put_number;
 use crate::type_numbers::known;
 use crate::unreached::nowhere;
 use indexmap::IndexMap;
@@ -176,7 +179,9 @@ impl Entities {
     }
 
     /// The entity that a node declares. What is named as an expression was declared before.
-    pub fn declared_at(&self, ordinal: u32) -> Result<u32, NoMemory> {
+    pub fn declared_at(&self, ordinal: u32) -> Result<u32, NoMemory>
+        ensures { IfOk result (λ entity. lookup (nat_eq ordinal) self.now.by_ordinal.entries ≡ Some entity) }
+    {
         match self.by_ordinal.get(&ordinal) {
             Some(entity) => Ok(*entity),
             None => Err(nowhere()),
@@ -193,7 +198,9 @@ impl Entities {
     }
 
     /// Keeps the entity of a name with linkage.
-    fn keep_name(&mut self, linkage: Linkage, name: &Name, entity: u32) -> Result<(), NoMemory> {
+    fn keep_name(&mut self, linkage: Linkage, name: &Name, entity: u32) -> Result<(), NoMemory>
+        ensures { OnOk result (self.new.by_ordinal ≡ self.old.by_ordinal) }
+    {
         match linkage {
             Linkage::External => {
                 self.external.insert(name.copy()?, entity)?;
@@ -207,11 +214,13 @@ impl Entities {
     }
 
     /// Begins an entity.
-    fn begin(&mut self, named: NamedEntity) -> Result<(), NoMemory> {
+    fn begin(&mut self, named: NamedEntity) -> Result<(), NoMemory>
+        ensures { OnOk result (KeepsNumbers self.old.by_ordinal.entries self.new.by_ordinal.entries) }
+    {
         let Ok(number) = u32::try_from(self.list.len()) else {
             return Err(NoMemory);
         };
-        self.by_ordinal.insert(named.ordinal, number)?;
+        put_number(&mut self.by_ordinal, named.ordinal, number)?;
         self.keep_name(named.linkage, &named.name, number)?;
         let entity = entity_of(self.alloc, named)?;
         self.list.push(entity)?;
@@ -219,8 +228,10 @@ impl Entities {
     }
 
     /// One more declaration of an entity.
-    fn declare_again(&mut self, number: u32, declaration: Declaration) -> Result<(), NoMemory> {
-        self.by_ordinal.insert(declaration.ordinal, number)?;
+    fn declare_again(&mut self, number: u32, declaration: Declaration) -> Result<(), NoMemory>
+        ensures { OnOk result (KeepsNumbers self.old.by_ordinal.entries self.new.by_ordinal.entries) }
+    {
+        put_number(&mut self.by_ordinal, declaration.ordinal, number)?;
         match self.list.get_mut(number as usize) {
             Some(entity) => entity.declarations.push(declaration),
             None => Err(nowhere()),
@@ -228,10 +239,18 @@ impl Entities {
     }
 
     /// A name that is declared (`AreEntities`).
-    pub fn declare(&mut self, named: NamedEntity) -> Result<(), NoMemory> {
+    pub fn declare(&mut self, named: NamedEntity) -> Result<(), NoMemory>
+        ensures { OnOk result (KeepsNumbers self.old.by_ordinal.entries self.new.by_ordinal.entries) }
+    {
         match self.before(named.linkage, &named.name) {
-            Some(number) => self.declare_again(number, declaration_of(&named)),
-            None => self.begin(named),
+            Some(number) => {
+                self.declare_again(number, declaration_of(&named))?;
+                Ok(())
+            }
+            None => {
+                self.begin(named)?;
+                Ok(())
+            }
         }
     }
 }

@@ -1,8 +1,14 @@
 //! Expressions (C99 6.5), by the operands that they have.
+ghost use Rattle.std.specs.Prelude.{◌≡◌, IfOk, OnOk};
+ghost use Rattle.lk_typed.specs.declared.expression.TypedForm.{out-TypedForm};
+ghost use Rattle.lk_elab_expr.specs.Elaborating.{Elaborates, ElaboratesTo};
+ghost use Rattle.lk_elab_expr.specs.Leading.{Grows};
+ghost use Rattle.lk_elab_expr.specs.Standing.{IsNodeOf};
+ghost use Rattle.lk_elab_expr.specs.Walking.{Forms, FormsChoice, FormsOfOne, FormsOfThree, FormsOfTwo, FormsWithOne, FormsWithTwo, MakesItself, MakesPart};
 
 use crate::calls::call;
 use crate::elaborator::Elaborator;
-use crate::forms::{One, OneForm, Three, Two, form_of_one, form_of_two};
+use crate::forms::{One, Three, Two, form_of_one, form_of_two};
 use crate::found::node_type_at;
 use crate::one_operand::one_of;
 use crate::operators::choice;
@@ -17,7 +23,9 @@ use lk_typed::{ExprType, TypedExpr, TypedForm};
 use lk_types::TypeId;
 
 /// The node of an expression, by its type and what it is made of.
-fn node_of(e: &Expr, ty: TypeId, form: TypedForm) -> TypedExpr {
+fn node_of(e: &Expr, ty: TypeId, form: TypedForm) -> TypedExpr
+    ensures { IsNodeOf e.now ty (out-TypedForm form) result }
+{
     TypedExpr {
         spot: e.spot,
         ordinal: e.ordinal,
@@ -33,7 +41,10 @@ pub(crate) fn part_node(
     e: &Expr,
     part: Part,
     folded: bool,
-) -> Result<TypedExpr, NoMemory> {
+) -> Result<TypedExpr, NoMemory>
+    ensures made { IfOk result (MakesPart walk.old walk.new e.now part folded) }
+    ensures grows { OnOk result (Grows walk.old walk.new) }
+{
     match part {
         Part::Operand(role, making) => {
             let node = expression_in(walk, e, Way { role, folded })?;
@@ -51,37 +62,32 @@ pub(crate) fn part_of(
     e: &Expr,
     part: Part,
     folded: bool,
-) -> Result<Boxed<TypedExpr>, NoMemory> {
+) -> Result<Boxed<TypedExpr>, NoMemory>
+    ensures made { IfOk result (MakesPart walk.old walk.new e.now part folded) }
+    ensures grows { OnOk result (Grows walk.old walk.new) }
+{
     let node = part_node(walk, e, part, folded)?;
     Boxed::new(walk.alloc, node)
 }
 
-/// What stands for a left and a right operand.
-#[cycle(walk)]
-fn two_parts(
-    walk: &mut Elaborator,
-    left: &Expr,
-    first: Part,
-    right: &Expr,
-    second: Part,
-    folded: bool,
-) -> Result<(Boxed<TypedExpr>, Boxed<TypedExpr>), NoMemory> {
-    let a = part_of(walk, left, first, folded)?;
-    let b = part_of(walk, right, second, folded)?;
-    Ok((a, b))
-}
-
-/// An expression of what stands for one operand.
+/// An expression of what stands for its operand.
 #[cycle(walk)]
 fn of_one(
     walk: &mut Elaborator,
     operand: &Expr,
-    form: OneForm,
-    part: Part,
+    one: One,
     folded: bool,
-) -> Result<TypedForm, NoMemory> {
-    let a = part_of(walk, operand, part, folded)?;
-    Ok(form_of_one(form, a))
+) -> Result<TypedForm, NoMemory>
+    ensures made { IfOk result (FormsOfOne walk.old walk.new operand.now one folded) }
+    ensures grows { OnOk result (Grows walk.old walk.new) }
+{
+    match one {
+        One::Null => Ok(TypedForm::Null),
+        One::Of(form, part) => {
+            let a = part_of(walk, operand, part, folded)?;
+            Ok(form_of_one(form, a))
+        }
+    }
 }
 
 /// What an expression with one operand is made of.
@@ -91,10 +97,12 @@ fn with_one(
     e: &Expr,
     operand: &Expr,
     folded: bool,
-) -> Result<TypedForm, NoMemory> {
+) -> Result<TypedForm, NoMemory>
+    ensures made { IfOk result (FormsWithOne walk.old walk.new e.now operand.now folded) }
+    ensures grows { OnOk result (Grows walk.old walk.new) }
+{
     match one_of(walk, &e.form, operand.ordinal) {
-        Ok(One::Null) => Ok(TypedForm::Null),
-        Ok(One::Of(form, part)) => of_one(walk, operand, form, part, folded),
+        Ok(one) => of_one(walk, operand, one, folded),
         Err(NoMemory) => Err(NoMemory),
     }
 }
@@ -107,8 +115,12 @@ fn of_two(
     right: &Expr,
     two: Two,
     folded: bool,
-) -> Result<TypedForm, NoMemory> {
-    let (a, b) = two_parts(walk, left, two.left, right, two.right, folded)?;
+) -> Result<TypedForm, NoMemory>
+    ensures made { IfOk result (FormsOfTwo walk.old walk.new left.now right.now two folded) }
+    ensures grows { OnOk result (Grows walk.old walk.new) }
+{
+    let a = part_of(walk, left, two.left, folded)?;
+    let b = part_of(walk, right, two.right, folded)?;
     Ok(form_of_two(two.form, a, b))
 }
 
@@ -120,7 +132,10 @@ fn with_two(
     left: &Expr,
     right: &Expr,
     folded: bool,
-) -> Result<TypedForm, NoMemory> {
+) -> Result<TypedForm, NoMemory>
+    ensures made { IfOk result (FormsWithTwo walk.old walk.new e.now left.now right.now folded) }
+    ensures grows { OnOk result (Grows walk.old walk.new) }
+{
     match two_of(walk, &e.form, left.ordinal, right.ordinal, folded) {
         Ok(two) => of_two(walk, left, right, two, folded),
         Err(NoMemory) => Err(NoMemory),
@@ -136,10 +151,15 @@ fn of_three(
     other: &Expr,
     three: Three,
     folded: bool,
-) -> Result<TypedForm, NoMemory> {
-    let c = part_of(walk, condition, three.condition, folded)?;
-    let (a, b) = two_parts(walk, taken, three.taken, other, three.other, folded)?;
-    Ok(TypedForm::Choice(c, a, b))
+) -> Result<TypedForm, NoMemory>
+    ensures made { IfOk result (
+        FormsOfThree walk.old walk.new condition.now taken.now other.now three folded) }
+    ensures grows { OnOk result (Grows walk.old walk.new) }
+{
+    let a = part_of(walk, condition, three.condition, folded)?;
+    let b = part_of(walk, taken, three.taken, folded)?;
+    let d = part_of(walk, other, three.other, folded)?;
+    Ok(TypedForm::Choice(a, b, d))
 }
 
 /// What `?:` is made of, with this number.
@@ -151,7 +171,11 @@ fn with_three(
     taken: &Expr,
     other: &Expr,
     folded: bool,
-) -> Result<TypedForm, NoMemory> {
+) -> Result<TypedForm, NoMemory>
+    ensures made { IfOk result (
+        FormsChoice walk.old walk.new ordinal condition.now taken.now other.now folded) }
+    ensures grows { OnOk result (Grows walk.old walk.new) }
+{
     match choice(
         walk,
         ordinal,
@@ -166,7 +190,10 @@ fn with_three(
 
 /// What an expression is made of that stands so.
 #[cycle(walk)]
-fn form_of(walk: &mut Elaborator, e: &Expr, way: Way) -> Result<TypedForm, NoMemory> {
+fn form_of(walk: &mut Elaborator, e: &Expr, way: Way) -> Result<TypedForm, NoMemory>
+    ensures made { IfOk result (Forms walk.old walk.new e.now way) }
+    ensures grows { OnOk result (Grows walk.old walk.new) }
+{
     let folded = way.folded;
     match &e.form {
         ExprForm::Comma(left, right)
@@ -204,7 +231,10 @@ pub(crate) fn expression_in(
     walk: &mut Elaborator,
     e: &Expr,
     way: Way,
-) -> Result<TypedExpr, NoMemory> {
+) -> Result<TypedExpr, NoMemory>
+    ensures made { IfOk result (MakesItself walk.old walk.new e.now way) }
+    ensures grows { OnOk result (Grows walk.old walk.new) }
+{
     let ty = node_type_at(walk, e.ordinal)?;
     let form = form_of(walk, e, way)?;
     Ok(node_of(e, ty, form))
@@ -212,7 +242,10 @@ pub(crate) fn expression_in(
 
 /// An expression itself that nothing converts directly (`IsTyped`). `folded` says that it stands in an address constant
 /// (C99 6.6, 9).
-pub fn expression(walk: &mut Elaborator, e: &Expr, folded: bool) -> Result<TypedExpr, NoMemory> {
+pub fn expression(walk: &mut Elaborator, e: &Expr, folded: bool) -> Result<TypedExpr, NoMemory>
+    ensures made { IfOk result (Elaborates walk.old walk.new e.now folded) }
+    ensures grows { OnOk result (Grows walk.old walk.new) }
+{
     expression_in(walk, e, Way::operand(folded))
 }
 
@@ -223,7 +256,10 @@ pub fn given_value(
     e: &Expr,
     target: &ExprType,
     folded: bool,
-) -> Result<TypedExpr, NoMemory> {
+) -> Result<TypedExpr, NoMemory>
+    ensures made { IfOk result (ElaboratesTo walk.old walk.new e.now target.now folded) }
+    ensures grows { OnOk result (Grows walk.old walk.new) }
+{
     match given(walk, e.ordinal, target) {
         Ok(part) => part_node(walk, e, part, folded),
         Err(NoMemory) => Err(NoMemory),

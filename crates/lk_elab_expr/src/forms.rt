@@ -1,4 +1,7 @@
 //! Expressions by the operands that they have: what they are of these, and what stands for each.
+ghost use Rattle.std.specs.Prelude.{◌≡◌};
+ghost use Rattle.lk_typed.specs.declared.expression.TypedForm.{out-TypedForm};
+ghost use Rattle.lk_elab_expr.specs.Standing.{form_of_one, form_of_two};
 
 use crate::parts::Part;
 use lk_arith::{Op, UnaryOp};
@@ -60,7 +63,9 @@ pub(crate) struct Three {
 }
 
 /// An expression of one operand.
-pub(crate) fn form_of_one(form: OneForm, a: Boxed<TypedExpr>) -> TypedForm {
+pub(crate) fn form_of_one(form: OneForm, a: Boxed<TypedExpr>) -> TypedForm
+    ensures { out-TypedForm result ≡ form_of_one form a }
+{
     match form {
         OneForm::Paren => TypedForm::Paren(a),
         OneForm::Member(number) => TypedForm::Member(a, number),
@@ -75,7 +80,9 @@ pub(crate) fn form_of_one(form: OneForm, a: Boxed<TypedExpr>) -> TypedForm {
 }
 
 /// An expression of two operands.
-pub(crate) fn form_of_two(form: TwoForm, a: Boxed<TypedExpr>, b: Boxed<TypedExpr>) -> TypedForm {
+pub(crate) fn form_of_two(form: TwoForm, a: Boxed<TypedExpr>, b: Boxed<TypedExpr>) -> TypedForm
+    ensures { out-TypedForm result ≡ form_of_two form a b }
+{
     match form {
         TwoForm::Index => TypedForm::Index(a, b),
         TwoForm::Binary(op) => TypedForm::Binary(op, a, b),

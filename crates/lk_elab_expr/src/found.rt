@@ -1,8 +1,12 @@
 //! What the checker found at the nodes of expressions.
-ghost use Rattle.std.specs.Prelude.{◌↔◌, IfOk, IsTrue};
+ghost use Rattle.std.specs.Prelude.{◌↔◌, ◌≡◌, IfOk, IsTrue, OnOk};
 ghost use Rattle.lk_types.specs.Table.{IsKnown};
+ghost use Rattle.lk_typed.specs.Elaborated as spec;
 ghost use Rattle.lk_typed.specs.Typings.{IsOperand};
 ghost use Rattle.lk_check_walk.specs.Judging.{HasOperand};
+ghost use Rattle.lk_elab_expr.specs.Known.{HasConstant, HasNodeType, HasTyping, HasValue, IsFoundAt, IsNamedAt, OfEach};
+ghost use Rattle.lk_elab_expr.specs.Leading.{Grows};
+ghost use Rattle.lk_elab_expr.specs.Telling.{IsMeant};
 
 use crate::elaborator::Elaborator;
 use crate::type_numbers::{is_number, known, node_type};
@@ -25,7 +29,8 @@ fn is_operand(types: &TypeTable, typing: &Typed) -> bool
 
 /// What is known of the expression with a number. Each has a type where no fault holds.
 pub fn typing_at(walk: &Elaborator, ordinal: u32) -> Result<Typed, NoMemory>
-    ensures { IfOk result (IsOperand walk.now.types) }
+    ensures operand { IfOk result (IsOperand walk.now.types) }
+    ensures typing { IfOk result (λ t. OfEach walk.now ordinal (λ p. HasTyping walk.now.types p t)) }
 {
     let found = found_of(walk, ordinal)?;
     match found.typing {
@@ -46,7 +51,8 @@ fn is_of_source(types: &TypeTable, found: &Found) -> bool
 
 /// What was found of the expression with a number. Each was judged.
 pub fn found_of(walk: &Elaborator, ordinal: u32) -> Result<Found, NoMemory>
-    ensures { IfOk result (HasOperand walk.now.types) }
+    ensures operand { IfOk result (HasOperand walk.now.types) }
+    ensures found { IfOk result (λ f. OfEach walk.now ordinal (λ p. IsFoundAt walk.now.types p f)) }
 {
     match walk.records.found(ordinal) {
         Some(found) => {
@@ -60,10 +66,19 @@ pub fn found_of(walk: &Elaborator, ordinal: u32) -> Result<Found, NoMemory>
     }
 }
 
+/// What an expression of which this is known is as an integer constant expression.
+fn constant_of(typing: &Typed) -> Constant
+    ensures { result ≡ typing.now.constant }
+{
+    typing.constant
+}
+
 /// What the expression with a number is as an integer constant expression.
-pub(crate) fn constant_at(walk: &Elaborator, ordinal: u32) -> Result<Constant, NoMemory> {
+pub(crate) fn constant_at(walk: &Elaborator, ordinal: u32) -> Result<Constant, NoMemory>
+    ensures { IfOk result (λ constant. OfEach walk.now ordinal (λ p. HasConstant p constant)) }
+{
     match typing_at(walk, ordinal) {
-        Ok(typing) => Ok(typing.constant),
+        Ok(typing) => Ok(constant_of(&typing)),
         Err(NoMemory) => Err(NoMemory),
     }
 }
@@ -80,7 +95,9 @@ pub(crate) fn called_at(
 }
 
 /// Whether a `sizeof` stands in the expression with a number.
-pub(crate) fn holds_sizeof(walk: &Elaborator, ordinal: u32) -> Result<bool, NoMemory> {
+pub(crate) fn holds_sizeof(walk: &Elaborator, ordinal: u32) -> Result<bool, NoMemory>
+    ensures { IfOk result (λ holds. OfEach walk.now ordinal (λ p. spec.holds_sizeof p ≡ holds)) }
+{
     match found_of(walk, ordinal) {
         Ok(found) => Ok(found.look.holds_sizeof),
         Err(NoMemory) => Err(NoMemory),
@@ -89,21 +106,25 @@ pub(crate) fn holds_sizeof(walk: &Elaborator, ordinal: u32) -> Result<bool, NoMe
 
 /// What is known of the expression whose node this is.
 pub fn typing_of(walk: &Elaborator, node: &TypedExpr) -> Result<Typed, NoMemory>
-    ensures { IfOk result (IsOperand walk.now.types) }
+    ensures operand { IfOk result (IsOperand walk.now.types) }
+    ensures typing { IfOk result (λ t. OfEach walk.now node.now.ordinal (λ p. HasTyping walk.now.types p t)) }
 {
     typing_at(walk, node.ordinal)
 }
 
 /// What is known of the value of the expression with a number.
 pub fn value_at(walk: &Elaborator, ordinal: u32) -> Result<Typed, NoMemory>
-    ensures { IfOk result (IsOperand walk.now.types) }
+    ensures operand { IfOk result (IsOperand walk.now.types) }
+    ensures value { IfOk result (λ v. OfEach walk.now ordinal (λ p. HasValue walk.now.types p v)) }
 {
     let typing = typing_at(walk, ordinal)?;
     Ok(value(walk.types.table(), &typing))
 }
 
 /// What the name with a number stands for. Each was declared.
-pub(crate) fn meant_at(walk: &Elaborator, ordinal: u32) -> Result<Meant, NoMemory> {
+pub(crate) fn meant_at(walk: &Elaborator, ordinal: u32) -> Result<Meant, NoMemory>
+    ensures { IfOk result (λ m. OfEach walk.now ordinal (λ p. IsMeant walk.now.types p m)) }
+{
     match walk.records.meant(ordinal) {
         Some(meant) => Ok(meant),
         None => Err(nowhere()),
@@ -112,7 +133,8 @@ pub(crate) fn meant_at(walk: &Elaborator, ordinal: u32) -> Result<Meant, NoMemor
 
 /// The type that the type name with a number names. Each names one where no fault holds.
 pub(crate) fn type_named_at(walk: &Elaborator, ordinal: u32) -> Result<TypeId, NoMemory>
-    ensures { IfOk result (IsKnown walk.now.types) }
+    ensures known { IfOk result (IsKnown walk.now.types) }
+    ensures named { IfOk result (λ t. IsNamedAt walk.now ordinal t) }
 {
     match walk.records.type_named(ordinal) {
         Some(t) => known(walk.types.table(), t),
@@ -121,7 +143,11 @@ pub(crate) fn type_named_at(walk: &Elaborator, ordinal: u32) -> Result<TypeId, N
 }
 
 /// The type of the node of the expression with a number.
-pub(crate) fn node_type_at(walk: &mut Elaborator, ordinal: u32) -> Result<TypeId, NoMemory> {
+pub(crate) fn node_type_at(walk: &mut Elaborator, ordinal: u32) -> Result<TypeId, NoMemory>
+    ensures means { IfOk result (λ t. OfEach walk.old ordinal (λ p. HasNodeType walk.new.types p t)) }
+    ensures grows { OnOk result (Grows walk.old walk.new) }
+{
     let typing = typing_at(walk, ordinal)?;
-    node_type(&mut walk.types, &typing.ty)
+    let t = node_type(&mut walk.types, &typing.ty)?;
+    Ok(t)
 }

@@ -1,4 +1,7 @@
 //! Calls of the library, by those of their arguments that compute something (POSIX, `pthread.h`; C99 7.19, 7.20).
+ghost use Rattle.std.specs.Prelude.{◌≡◌, ◌++◌, [], ◌∷◌, IfOk, OnOk};
+ghost use Rattle.lk_typed.specs.declared.library.LibraryCall.{out-LibraryCall};
+ghost use Rattle.lk_elab_expr.specs.LibraryForms.{IsCallOf, IsCreate, IsOfOne, IsOfTwo, IsPrint, call_of_none, call_of_one, call_of_two, making_for};
 
 use crate::elaborator::Elaborator;
 use crate::names::entity_at;
@@ -54,7 +57,9 @@ enum Making {
 }
 
 /// What is made of the arguments of a function (`call_rows`).
-fn making_of(function: LibraryFunction) -> Making {
+fn making_of(function: LibraryFunction) -> Making
+    ensures { result ≡ making_for function }
+{
     match function {
         LibraryFunction::Join => Making::OfOne(OneValue::Join),
         LibraryFunction::Detach => Making::OfOne(OneValue::Detach),
@@ -89,7 +94,9 @@ fn making_of(function: LibraryFunction) -> Making {
 }
 
 /// A call of no argument.
-fn of_none(making: NoValue) -> LibraryCall {
+fn of_none(making: NoValue) -> LibraryCall
+    ensures { out-LibraryCall result ≡ call_of_none making }
+{
     match making {
         NoValue::SelfId => LibraryCall::SelfId,
         NoValue::Abort => LibraryCall::Exit(None),
@@ -97,7 +104,9 @@ fn of_none(making: NoValue) -> LibraryCall {
 }
 
 /// A call of one argument.
-fn of_one(making: OneValue, a: Boxed<TypedExpr>) -> LibraryCall {
+fn of_one(making: OneValue, a: Boxed<TypedExpr>) -> LibraryCall
+    ensures { out-LibraryCall result ≡ call_of_one making a }
+{
     match making {
         OneValue::Join => LibraryCall::Join(a),
         OneValue::Detach => LibraryCall::Detach(a),
@@ -114,7 +123,9 @@ fn of_one(making: OneValue, a: Boxed<TypedExpr>) -> LibraryCall {
 }
 
 /// A call of two arguments.
-fn of_two(making: TwoValues, a: Boxed<TypedExpr>, b: Boxed<TypedExpr>) -> LibraryCall {
+fn of_two(making: TwoValues, a: Boxed<TypedExpr>, b: Boxed<TypedExpr>) -> LibraryCall
+    ensures { out-LibraryCall result ≡ call_of_two making a b }
+{
     match making {
         TwoValues::Equal => LibraryCall::Equal(a, b),
         TwoValues::Wait => LibraryCall::Wait(a, b),
@@ -122,10 +133,26 @@ fn of_two(making: TwoValues, a: Boxed<TypedExpr>, b: Boxed<TypedExpr>) -> Librar
 }
 
 /// The last argument. There are as many as the function has parameters that compute something.
-fn last(alloc: Global, values: &mut Seq<TypedExpr>) -> Result<Boxed<TypedExpr>, NoMemory> {
+fn last(alloc: Global, values: &mut Seq<TypedExpr>) -> Result<Boxed<TypedExpr>, NoMemory>
+    ensures { IfOk result (λ a. values.old ≡ values.new ++ a ∷ []) }
+{
     match values.pop() {
-        Some(value) => Boxed::new(alloc, value),
+        Some(value) => {
+            let value = Boxed::new(alloc, value)?;
+            Ok(value)
+        }
         None => Err(nowhere()),
+    }
+}
+
+/// No argument is left.
+fn nothing_left(values: &Seq<TypedExpr>) -> Result<(), NoMemory>
+    ensures { OnOk result (values.now ≡ []) }
+{
+    if values.list().is_empty() {
+        Ok(())
+    } else {
+        Err(nowhere())
     }
 }
 
@@ -134,33 +161,32 @@ fn call_of_one(
     alloc: Global,
     making: OneValue,
     mut values: Seq<TypedExpr>,
-) -> Result<LibraryCall, NoMemory> {
+) -> Result<LibraryCall, NoMemory>
+    ensures { IfOk result (λ call. IsOfOne making values (out-LibraryCall call)) }
+{
     let a = last(alloc, &mut values)?;
+    nothing_left(&values)?;
     Ok(of_one(making, a))
-}
-
-/// The two arguments that are given.
-fn two(
-    alloc: Global,
-    mut values: Seq<TypedExpr>,
-) -> Result<(Boxed<TypedExpr>, Boxed<TypedExpr>), NoMemory> {
-    let b = last(alloc, &mut values)?;
-    let a = last(alloc, &mut values)?;
-    Ok((a, b))
 }
 
 /// A call of the two arguments that are given.
 fn call_of_two(
     alloc: Global,
     making: TwoValues,
-    values: Seq<TypedExpr>,
-) -> Result<LibraryCall, NoMemory> {
-    let (a, b) = two(alloc, values)?;
+    mut values: Seq<TypedExpr>,
+) -> Result<LibraryCall, NoMemory>
+    ensures { IfOk result (λ call. IsOfTwo making values (out-LibraryCall call)) }
+{
+    let b = last(alloc, &mut values)?;
+    let a = last(alloc, &mut values)?;
+    nothing_left(&values)?;
     Ok(of_two(making, a, b))
 }
 
 /// `printf`: the format, and the later arguments in their order.
-fn print(alloc: Global, values: Seq<TypedExpr>) -> Result<LibraryCall, NoMemory> {
+fn print(alloc: Global, values: Seq<TypedExpr>) -> Result<LibraryCall, NoMemory>
+    ensures { IfOk result (λ call. IsPrint values (out-LibraryCall call)) }
+{
     let mut values = values.into_vec();
     if values.is_empty() {
         return Err(nowhere());
@@ -174,9 +200,14 @@ pub(crate) fn library_call(
     alloc: Global,
     function: LibraryFunction,
     values: Seq<TypedExpr>,
-) -> Result<LibraryCall, NoMemory> {
+) -> Result<LibraryCall, NoMemory>
+    ensures { IfOk result (λ call. IsCallOf function values (out-LibraryCall call)) }
+{
     match making_of(function) {
-        Making::OfNone(making) => Ok(of_none(making)),
+        Making::OfNone(making) => {
+            nothing_left(&values)?;
+            Ok(of_none(making))
+        }
         Making::OfOne(making) => call_of_one(alloc, making, values),
         Making::OfTwo(making) => call_of_two(alloc, making, values),
         Making::OfAll => Ok(LibraryCall::Compute(values)),
@@ -228,8 +259,12 @@ pub(crate) fn routine_of(walk: &Elaborator, arguments: &[Expr]) -> Result<u32, N
 pub(crate) fn create(
     alloc: Global,
     routine: u32,
-    values: Seq<TypedExpr>,
-) -> Result<LibraryCall, NoMemory> {
-    let (id, argument) = two(alloc, values)?;
+    mut values: Seq<TypedExpr>,
+) -> Result<LibraryCall, NoMemory>
+    ensures { IfOk result (λ call. IsCreate routine values (out-LibraryCall call)) }
+{
+    let argument = last(alloc, &mut values)?;
+    let id = last(alloc, &mut values)?;
+    nothing_left(&values)?;
     Ok(LibraryCall::Create(id, routine, argument))
 }

@@ -1,4 +1,8 @@
 //! The locals of a body (C99 6.2.4, 4; 6.9.1, 9).
+ghost use Rattle.std.specs.Prelude.{◌≡◌, Some, IfOk, OnOk, nat_eq};
+ghost use Rattle.std.specs.Map.{lookup};
+ghost use Rattle.lk_elab_expr.specs.Keeping.{KeepsNumbers};
+ghost use Rattle.lk_elab_expr.specs.Leading.{GoesOn};
 
 use crate::elaborator::Elaborator;
 use crate::type_numbers::known;
@@ -16,6 +20,20 @@ pub struct Locals {
     list: Vec<Local>,
     /// The number of the local that each node declares.
     numbers: IndexMap<u32, u32>,
+}
+
+/// Gives a number to a node, which has none yet.
+pub(crate) fn put_number(
+    numbers: &mut IndexMap<u32, u32>,
+    ordinal: u32,
+    number: u32,
+) -> Result<(), NoMemory>
+    ensures { OnOk result (KeepsNumbers numbers.old.entries numbers.new.entries) }
+{
+    match numbers.insert(ordinal, number)? {
+        Some(_) => Err(nowhere()),
+        None => Ok(()),
+    }
 }
 
 impl Locals {
@@ -37,7 +55,9 @@ impl Locals {
 
     /// The number of the local that a node declares. An object of automatic storage that is named in a body was declared
     /// in it before.
-    pub fn number_of(&self, ordinal: u32) -> Result<u32, NoMemory> {
+    pub fn number_of(&self, ordinal: u32) -> Result<u32, NoMemory>
+        ensures { IfOk result (λ number. lookup (nat_eq ordinal) self.now.numbers.entries ≡ Some number) }
+    {
         match self.numbers.get(&ordinal) {
             Some(number) => Ok(*number),
             None => Err(nowhere()),
@@ -45,9 +65,11 @@ impl Locals {
     }
 
     /// One more local.
-    fn put(&mut self, local: Local) -> Result<(), NoMemory> {
+    fn put(&mut self, local: Local) -> Result<(), NoMemory>
+        ensures { OnOk result (KeepsNumbers self.old.numbers.entries self.new.numbers.entries) }
+    {
         let number = self.count()?;
-        self.numbers.insert(local.ordinal, number)?;
+        put_number(&mut self.numbers, local.ordinal, number)?;
         self.list.push(local)?;
         Ok(())
     }
@@ -73,7 +95,9 @@ pub fn put_local(
     ty: TypeId,
     spot: Spot,
     ordinal: u32,
-) -> Result<(), NoMemory> {
+) -> Result<(), NoMemory>
+    ensures goes_on { OnOk result (GoesOn walk.old walk.new) }
+{
     let is_slot = is_slot(walk, ty, ordinal)?;
     walk.locals.put(Local {
         name,
@@ -81,5 +105,6 @@ pub fn put_local(
         spot,
         ordinal,
         is_slot,
-    })
+    })?;
+    Ok(())
 }

@@ -1,5 +1,13 @@
 //! Names as expressions (C99 6.5.1, 2).
 
+ghost use Rattle.std.specs.Prelude.{◌≡◌, Bool, Some, IfOk};
+ghost use Rattle.lk_typed.specs.Tables.{Tables};
+ghost use Rattle.lk_typed.specs.declared.expression.TypedForm.{out-TypedForm};
+ghost use Rattle.lk_elab_expr.specs.Known.{OfEach};
+ghost use Rattle.lk_elab_expr.specs.Leading.{Leads};
+ghost use Rattle.lk_elab_expr.specs.Leaves.{IsStorage};
+ghost use Rattle.lk_elab_expr.specs.Standing.{IsFormOf};
+
 use crate::elaborator::Elaborator;
 use crate::found::meant_at;
 use crate::unreached::nowhere;
@@ -51,7 +59,9 @@ pub(crate) fn entity_at(walk: &Elaborator, ordinal: u32) -> Result<u32, NoMemory
 }
 
 /// The object of a name, by how long it lasts and the node that declares it.
-fn storage_of(walk: &Elaborator, lasts: Duration, ordinal: u32) -> Result<Storage, NoMemory> {
+fn storage_of(walk: &Elaborator, lasts: Duration, ordinal: u32) -> Result<Storage, NoMemory>
+    ensures { IfOk result (IsStorage walk.now lasts ordinal) }
+{
     match lasts {
         Duration::Static => Ok(Storage::Entity(walk.entities.declared_at(ordinal)?)),
         Duration::Automatic => Ok(Storage::Local(walk.locals.number_of(ordinal)?)),
@@ -59,11 +69,15 @@ fn storage_of(walk: &Elaborator, lasts: Duration, ordinal: u32) -> Result<Storag
 }
 
 /// The name with a number. It is an object, a function or an enumerator: other names are no expressions.
-pub(crate) fn word(walk: &Elaborator, ordinal: u32) -> Result<TypedForm, NoMemory> {
+pub(crate) fn word(walk: &Elaborator, ordinal: u32) -> Result<TypedForm, NoMemory>
+    ensures { IfOk result (λ form. OfEach walk.now ordinal (λ p. (tables : Tables) → Leads walk.now tables →
+        (folded : Bool) → IsFormOf tables folded p (out-TypedForm form))) }
+{
     let meant = meant_at(walk, ordinal)?;
     match meant.meaning {
         Meaning::Object(_, lasts) => {
-            Ok(TypedForm::Object(storage_of(walk, lasts, meant.ordinal)?))
+            let storage = storage_of(walk, lasts, meant.ordinal)?;
+            Ok(TypedForm::Object(storage))
         }
         Meaning::Function(_) => {
             let entity = walk.entities.declared_at(meant.ordinal)?;

@@ -1,4 +1,7 @@
 //! Expressions with one operand.
+ghost use Rattle.std.specs.Prelude.{IfOk, OnOk};
+ghost use Rattle.lk_elab_expr.specs.Leading.{Grows};
+ghost use Rattle.lk_elab_expr.specs.Walking.{DecidesOneOf};
 
 use crate::casts::cast;
 use crate::elaborator::Elaborator;
@@ -13,11 +16,10 @@ use lk_tree::ExprForm;
 use lk_typed::Change;
 
 /// An expression of this form, with one operand, which has this number.
-pub(crate) fn one_of(
-    walk: &mut Elaborator,
-    form: &ExprForm,
-    operand: u32,
-) -> Result<One, NoMemory> {
+pub(crate) fn one_of(walk: &mut Elaborator, form: &ExprForm, operand: u32) -> Result<One, NoMemory>
+    ensures one { IfOk result (DecidesOneOf walk.old walk.new form.now operand) }
+    ensures grows { OnOk result (Grows walk.old walk.new) }
+{
     match form {
         ExprForm::Cast(target, _) => cast(walk, target.get().ordinal, operand),
         ExprForm::Pre(op, _) => step(walk, *op, Change::Before, operand),

@@ -97,6 +97,7 @@ fn usual_types(types: &TypeTable, a: &Typed, b: &Typed, others: OperandTypes) ->
     requires ready { IsReady types.now }
     requires first { IsOperand types.now a.now }
     requires second { IsOperand types.now b.now }
+    ensures known { AreKnown types.now others → AreKnown types.now result }
     ensures value { ForBoth types.now a.now b.now (λ x y.
         types_in types.now result ≡ spec.usual_types x y (types_in types.now others)) }
 {
@@ -122,6 +123,9 @@ fn compared_types(types: &TypeTable, a: &Typed, b: &Typed) -> OperandTypes
     requires ready { IsReady types.now }
     requires first { IsOperand types.now a.now }
     requires second { IsOperand types.now b.now }
+    ensures known { AreKnown types.now result }
+    ensures value { ForBoth types.now a.now b.now (λ x y.
+        types_in types.now result ≡ spec.compared_types x y) }
 {
     if are_same_pointers(types, &a.ty, &b.ty) {
         own_types(a, b)
@@ -154,6 +158,9 @@ pub(crate) fn operand_types(types: &TypeTable, row: BinaryRow, a: &Typed, b: &Ty
     requires ready { IsReady types.now }
     requires first { IsOperand types.now a.now }
     requires second { IsOperand types.now b.now }
+    ensures known { AreKnown types.now result }
+    ensures value { ForBoth types.now a.now b.now (λ x y.
+        types_in types.now result ≡ spec.operand_types row x y) }
 {
     match row {
         BinaryRow::Logical(_) => own_types(a, b),
@@ -178,6 +185,7 @@ fn is_move(types: &TypeTable, a: &Typed, b: &Typed) -> bool
 pub(crate) fn moves_by_right(types: &TypeTable, row: BinaryRow, a: &Typed, b: &Typed) -> bool
     requires first { IsOperand types.now a.now }
     requires second { IsOperand types.now b.now }
+    ensures { ForBoth types.now a.now b.now (λ x y. result ≡ spec.moves_by_right row x y) }
 {
     match row {
         BinaryRow::Sum | BinaryRow::Difference => is_move(types, a, b),

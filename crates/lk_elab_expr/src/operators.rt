@@ -1,5 +1,19 @@
 //! Operators that compute (C99 6.5.3.3 to 6.5.15, 6.5.17).
 
+ghost use Rattle.std.specs.Prelude.{◌≡◌, ◌&&◌, Bool, Some, IfOk, OnOk};
+ghost use Rattle.lk_tree.specs.declared.expression.DeclaratorForm.TheOpen.{ExprForm-F};
+ghost use Rattle.lk_tree.specs.declared.operators.BinaryOperator.{BinaryOperator};
+ghost use Rattle.lk_tree.specs.declared.operators.PrefixOperator.{PrefixOperator};
+ghost use Rattle.lk_tree.specs.declared.operators.PrefixOperator.TheVariants as prefixes;
+ghost use Rattle.lk_typed.specs.Elaborated.{InPlace, form_of};
+ghost use Rattle.lk_typed.specs.Meaning.{IsKnownType};
+ghost use Rattle.lk_typed.specs.Operands as spec;
+ghost use Rattle.lk_typed.specs.Operators as rows;
+ghost use Rattle.lk_elab_expr.specs.Deciding.{AreValues, DecidesOne, DecidesThree, DecidesTwo, FindsOperands, decided_by};
+ghost use Rattle.lk_elab_expr.specs.Known.{IsPromotedAt, OfEach};
+ghost use Rattle.lk_elab_expr.specs.Leading.{Grows};
+ghost use Rattle.lk_elab_expr.specs.OperandTypes.{AreKnown};
+
 use crate::elaborator::Elaborator;
 use crate::forms::{One, OneForm, Three, Two, TwoForm};
 use crate::found::{typing_at, value_at};
@@ -8,6 +22,7 @@ use crate::operands::{
 };
 use crate::parts::{converted_operand, operand, value_of};
 use crate::places::{address, indirection};
+use crate::unreached::nowhere;
 use lk_arith::{Op, UnaryOp};
 use lk_base::NoMemory;
 use lk_check_expr::row_of;
@@ -19,40 +34,59 @@ pub(crate) fn prefix(
     walk: &mut Elaborator,
     op: PrefixOperator,
     operand: u32,
-) -> Result<One, NoMemory> {
+) -> Result<One, NoMemory>
+    ensures one { IfOk result (
+        DecidesOne walk.old walk.new operand (λ p i. form_of p ≡ ExprForm-F.Prefix op i)) }
+    ensures grows { OnOk result (Grows walk.old walk.new) }
+{
     match op {
         PrefixOperator::Address => Ok(address()),
         PrefixOperator::Indirection => indirection(walk, operand),
-        PrefixOperator::Plus
-        | PrefixOperator::Minus
-        | PrefixOperator::Complement
-        | PrefixOperator::Not => unary(walk, op, operand),
+        PrefixOperator::Plus | PrefixOperator::Minus | PrefixOperator::Complement => {
+            unary(walk, op, operand)
+        }
+        PrefixOperator::Not => negation(walk, operand),
     }
 }
 
-/// An operator before the operand with a number, which computes.
-fn unary(walk: &mut Elaborator, op: PrefixOperator, operand: u32) -> Result<One, NoMemory> {
+/// An operator before the operand with a number, which is promoted.
+fn unary(walk: &mut Elaborator, op: PrefixOperator, operand: u32) -> Result<One, NoMemory>
+    ensures one { IfOk result (
+        DecidesOne walk.old walk.new operand (λ p i. form_of p ≡ ExprForm-F.Prefix op i)) }
+    ensures grows { OnOk result (Grows walk.old walk.new) }
+{
     match promoting(op) {
         Some(computes) => promoted_operand(walk, computes, operand),
-        None => negation(walk, operand),
+        None => Err(nowhere()),
     }
 }
 
 /// The type to which an operand is promoted.
-pub(crate) fn promoted_at(walk: &Elaborator, ordinal: u32) -> Result<ExprType, NoMemory> {
+pub(crate) fn promoted_at(walk: &Elaborator, ordinal: u32) -> Result<ExprType, NoMemory>
+    ensures known { IfOk result (IsKnownType walk.now.types) }
+    ensures promoted { IfOk result (λ ty. OfEach walk.now ordinal (λ p. IsPromotedAt walk.now.types p ty)) }
+{
     let v = value_at(walk, ordinal)?;
     Ok(promoted_type(walk.types.table(), &v.ty))
 }
 
 /// An operator whose operand is promoted (C99 6.5.3.3, 2 to 4).
-fn promoted_operand(walk: &mut Elaborator, op: UnaryOp, operand: u32) -> Result<One, NoMemory> {
+fn promoted_operand(walk: &mut Elaborator, op: UnaryOp, operand: u32) -> Result<One, NoMemory>
+    ensures one { (o : PrefixOperator) → spec.promoting o ≡ Some op → IfOk result (
+        DecidesOne walk.old walk.new operand (λ p i. form_of p ≡ ExprForm-F.Prefix o i)) }
+    ensures grows { OnOk result (Grows walk.old walk.new) }
+{
     let target = promoted_at(walk, operand)?;
     let part = converted_operand(walk, operand, &target)?;
     Ok(One::Of(OneForm::Unary(op), part))
 }
 
 /// `!` tests its operand as a condition does (C99 6.5.3.3, 5).
-fn negation(walk: &mut Elaborator, operand: u32) -> Result<One, NoMemory> {
+fn negation(walk: &mut Elaborator, operand: u32) -> Result<One, NoMemory>
+    ensures one { IfOk result (
+        DecidesOne walk.old walk.new operand (λ p i. form_of p ≡ ExprForm-F.Prefix prefixes.Not i)) }
+    ensures grows { OnOk result (Grows walk.old walk.new) }
+{
     let part = value_of(walk, operand)?;
     Ok(One::Of(OneForm::Unary(UnaryOp::Not), part))
 }
@@ -64,7 +98,11 @@ pub(crate) fn binary(
     left: u32,
     right: u32,
     folded: bool,
-) -> Result<Two, NoMemory> {
+) -> Result<Two, NoMemory>
+    ensures two { IfOk result (
+        DecidesTwo walk.old walk.new left right folded (λ p l r. form_of p ≡ ExprForm-F.Binary op l r)) }
+    ensures grows { OnOk result (Grows walk.old walk.new) }
+{
     let row = row_of(op);
     match computed_by(row) {
         Some(computes) => computed(walk, row, computes, left, right, folded),
@@ -87,7 +125,10 @@ pub(crate) fn operands_at(
     row: BinaryRow,
     left: u32,
     right: u32,
-) -> Result<Operands, NoMemory> {
+) -> Result<Operands, NoMemory>
+    ensures known { IfOk result (λ operands. AreKnown walk.now.types operands.types) }
+    ensures operands { IfOk result (FindsOperands walk.now row left right) }
+{
     let x = value_at(walk, left)?;
     let y = value_at(walk, right)?;
     let types = walk.types.table();
@@ -95,6 +136,13 @@ pub(crate) fn operands_at(
         types: operand_types(types, row, &x, &y),
         moves: moves_by_right(types, row, &x, &y),
     })
+}
+
+/// Whether a pointer moves by an operand in an address constant.
+fn moves_folded(folded: bool, moves: bool) -> bool
+    ensures { result ≡ folded && moves }
+{
+    folded && moves
 }
 
 /// An operator that computes, whose operands are converted.
@@ -105,10 +153,15 @@ fn computed(
     left: u32,
     right: u32,
     folded: bool,
-) -> Result<Two, NoMemory> {
+) -> Result<Two, NoMemory>
+    ensures two { (o : BinaryOperator) → rows.row_of o ≡ row → spec.computed_by row ≡ Some op → IfOk result (
+        DecidesTwo walk.old walk.new left right folded (λ p l r. form_of p ≡ ExprForm-F.Binary o l r)) }
+    ensures grows { OnOk result (Grows walk.old walk.new) }
+{
     let operands = operands_at(walk, row, left, right)?;
     let first = converted_operand(walk, left, &operands.types.left)?;
-    let second = operand(walk, right, &operands.types.right, folded && operands.moves)?;
+    let moves = moves_folded(folded, operands.moves);
+    let second = operand(walk, right, &operands.types.right, moves)?;
     Ok(Two {
         form: TwoForm::Binary(op),
         left: first,
@@ -117,7 +170,9 @@ fn computed(
 }
 
 /// `&&` or `||` (C99 6.5.13, 6.5.14).
-fn decided_by(row: BinaryRow) -> TwoForm {
+fn decided_by(row: BinaryRow) -> TwoForm
+    ensures { result ≡ decided_by row }
+{
     match row {
         BinaryRow::Logical(true) => TwoForm::Or,
         BinaryRow::Logical(false)
@@ -131,7 +186,10 @@ fn decided_by(row: BinaryRow) -> TwoForm {
 }
 
 /// An expression of the values of the operands with these numbers.
-fn by_values(walk: &mut Elaborator, form: TwoForm, left: u32, right: u32) -> Result<Two, NoMemory> {
+fn by_values(walk: &mut Elaborator, form: TwoForm, left: u32, right: u32) -> Result<Two, NoMemory>
+    ensures values { IfOk result (AreValues walk.old walk.new left right form) }
+    ensures grows { OnOk result (Grows walk.old walk.new) }
+{
     let first = value_of(walk, left)?;
     let second = value_of(walk, right)?;
     Ok(Two {
@@ -142,7 +200,11 @@ fn by_values(walk: &mut Elaborator, form: TwoForm, left: u32, right: u32) -> Res
 }
 
 /// `left, right` (C99 6.5.17).
-pub(crate) fn comma(walk: &mut Elaborator, left: u32, right: u32) -> Result<Two, NoMemory> {
+pub(crate) fn comma(walk: &mut Elaborator, left: u32, right: u32) -> Result<Two, NoMemory>
+    ensures two { (folded : Bool) → IfOk result (
+        DecidesTwo walk.old walk.new left right folded (λ p l r. form_of p ≡ ExprForm-F.Comma l r)) }
+    ensures grows { OnOk result (Grows walk.old walk.new) }
+{
     by_values(walk, TwoForm::Comma, left, right)
 }
 
@@ -153,14 +215,19 @@ pub(crate) fn choice(
     condition: u32,
     taken: u32,
     other: u32,
-) -> Result<Three, NoMemory> {
+) -> Result<Three, NoMemory>
+    ensures three { IfOk result (λ three. (p c l r : InPlace) → form_of p ≡ ExprForm-F.Choice c l r →
+        p.1.ordinal ≡ ordinal → c.1.ordinal ≡ condition → l.1.ordinal ≡ taken → r.1.ordinal ≡ other →
+        DecidesThree walk.old walk.new p c l r three) }
+    ensures grows { OnOk result (Grows walk.old walk.new) }
+{
     let typing = typing_at(walk, ordinal)?;
-    let condition = value_of(walk, condition)?;
-    let taken = converted_operand(walk, taken, &typing.ty)?;
-    let other = converted_operand(walk, other, &typing.ty)?;
+    let first = value_of(walk, condition)?;
+    let second = converted_operand(walk, taken, &typing.ty)?;
+    let third = converted_operand(walk, other, &typing.ty)?;
     Ok(Three {
-        condition,
-        taken,
-        other,
+        condition: first,
+        taken: second,
+        other: third,
     })
 }

@@ -1,9 +1,21 @@
 //! What stands in an expression for an operand: itself, its value, or its value converted (`IsTyped`, `IsValue`,
 //! `IsConverted`).
 
+ghost use Rattle.std.specs.Prelude.{◌≡◌, Bool, IfOk, OnOk, true};
+ghost use Rattle.std.specs.Option.{option_map};
+ghost use Rattle.lk_typed.specs.Elaborated.{InPlace, IsTyped, IsValue};
+ghost use Rattle.lk_typed.specs.Meaning.{meaning_of};
+ghost use Rattle.lk_typed.specs.Tables.{Tables};
+ghost use Rattle.lk_typed.specs.Typing as typing;
+ghost use Rattle.lk_typed.specs.declared.expression.TypedExpr.{TypedExpr};
+ghost use Rattle.lk_elab_expr.specs.Converting.{ConvertedTo, Gives, GivesNumber, IsGivenAs, KeepsRole, OperandOf, StandsAnyhow};
+ghost use Rattle.lk_elab_expr.specs.Leading.{Grows};
+ghost use Rattle.lk_elab_expr.specs.Standing.{IsConversion, IsPart};
+
 use crate::elaborator::Elaborator;
 use crate::found::value_at;
 use crate::type_numbers::{known_type, listed};
+use crate::unreached::nowhere;
 use crate::values::{Conversion, Making, Valued, conversion_at, valued_at};
 use lk_base::NoMemory;
 use lk_typed::{Constant, ExprType, Role};
@@ -21,7 +33,11 @@ pub(crate) enum Part {
 }
 
 /// An operand itself: it isn't read.
-pub(crate) fn itself() -> Part {
+pub(crate) fn itself() -> Part
+    ensures typed { (tables : Tables) (folded : Bool) (p : InPlace) (t : TypedExpr) →
+        IsPart tables folded p result t → IsTyped tables folded p t }
+    ensures role { StandsAnyhow result }
+{
     Part::Operand(
         Role::Operand,
         Making {
@@ -32,21 +48,37 @@ pub(crate) fn itself() -> Part {
 }
 
 /// The value of the operand with a number, which stands as this.
-pub(crate) fn value_as(walk: &mut Elaborator, ordinal: u32, role: Role) -> Result<Part, NoMemory> {
-    let making = Making {
-        valued: valued_at(walk, ordinal)?,
-        converted_to: None,
-    };
-    Ok(Part::Operand(role, making))
+pub(crate) fn value_as(walk: &mut Elaborator, ordinal: u32, role: Role) -> Result<Part, NoMemory>
+    ensures value { IfOk result (λ part. Gives walk.old walk.new ordinal part IsValue) }
+    ensures role { IfOk result (KeepsRole role) }
+    ensures grows { OnOk result (Grows walk.old walk.new) }
+{
+    let valued = valued_at(walk, ordinal)?;
+    Ok(Part::Operand(
+        role,
+        Making {
+            valued,
+            converted_to: None,
+        },
+    ))
 }
 
 /// The value of the operand with a number.
-pub(crate) fn value_of(walk: &mut Elaborator, ordinal: u32) -> Result<Part, NoMemory> {
-    value_as(walk, ordinal, Role::Operand)
+pub(crate) fn value_of(walk: &mut Elaborator, ordinal: u32) -> Result<Part, NoMemory>
+    ensures value { IfOk result (λ part. Gives walk.old walk.new ordinal part IsValue) }
+    ensures role { IfOk result StandsAnyhow }
+    ensures grows { OnOk result (Grows walk.old walk.new) }
+{
+    let part = value_as(walk, ordinal, Role::Operand)?;
+    Ok(part)
 }
 
 /// A value that is converted so, of an operand that stands as this.
-fn converted_part(conversion: Conversion, role: Role) -> Part {
+fn converted_part(conversion: Conversion, role: Role) -> Part
+    ensures made { (tables : Tables) (folded : Bool) (p : InPlace) (t : TypedExpr) →
+        IsPart tables folded p result t → IsConversion tables folded p conversion t }
+    ensures role { KeepsRole role result }
+{
     match conversion {
         Conversion::Null(ty) => Part::Null(ty),
         Conversion::Made(making) => Part::Operand(role, making),
@@ -58,7 +90,12 @@ pub(crate) fn converted_operand(
     walk: &mut Elaborator,
     ordinal: u32,
     target: &ExprType,
-) -> Result<Part, NoMemory> {
+) -> Result<Part, NoMemory>
+    ensures converted { IfOk result (λ part.
+        Gives walk.old walk.new ordinal part (ConvertedTo (meaning_of walk.old.types target.now))) }
+    ensures role { IfOk result StandsAnyhow }
+    ensures grows { OnOk result (Grows walk.old walk.new) }
+{
     let conversion = conversion_at(walk, ordinal, target)?;
     Ok(converted_part(conversion, Role::Operand))
 }
@@ -69,13 +106,20 @@ pub(crate) fn given(
     walk: &mut Elaborator,
     ordinal: u32,
     target: &ExprType,
-) -> Result<Part, NoMemory> {
+) -> Result<Part, NoMemory>
+    ensures converted { IfOk result (λ part.
+        Gives walk.old walk.new ordinal part (ConvertedTo (meaning_of walk.old.types target.now))) }
+    ensures role { IfOk result (IsGivenAs walk.old walk.new target.now) }
+    ensures grows { OnOk result (Grows walk.old walk.new) }
+{
     let conversion = conversion_at(walk, ordinal, target)?;
     Ok(converted_part(conversion, Role::ConvertedTo(*target)))
 }
 
 /// The value of an integer constant expression.
-fn known_value(constant: Constant) -> Option<i128> {
+fn known_value(constant: Constant) -> Option<i128>
+    ensures { result ≡ typing.known_value constant }
+{
     match constant {
         Constant::Known(number) => Some(number),
         Constant::NotConstant | Constant::Undefined => None,
@@ -83,19 +127,29 @@ fn known_value(constant: Constant) -> Option<i128> {
 }
 
 /// A number of a type.
-fn number_of(walk: &mut Elaborator, target: &ExprType, number: i128) -> Result<Part, NoMemory> {
+fn number_of(walk: &mut Elaborator, target: &ExprType, number: i128) -> Result<Part, NoMemory>
+    ensures number { IfOk result (λ part.
+        GivesNumber walk.old walk.new part number (meaning_of walk.old.types target.now)) }
+    ensures role { IfOk result StandsAnyhow }
+    ensures grows { OnOk result (Grows walk.old walk.new) }
+{
     let target = known_type(walk.types.table(), target)?;
     let ty = listed(&mut walk.types, &target)?;
     Ok(Part::Number(number, ty))
 }
 
-/// The operand with a number by which a pointer moves in an address constant: the number that it is, where it is a
-/// constant.
-fn moving(walk: &mut Elaborator, ordinal: u32, target: &ExprType) -> Result<Part, NoMemory> {
+/// The operand with a number by which a pointer moves in an address constant: the number that it is. It is a constant
+/// (C99 6.6, 9).
+fn moving(walk: &mut Elaborator, ordinal: u32, target: &ExprType) -> Result<Part, NoMemory>
+    ensures operand { IfOk result (λ part.
+        Gives walk.old walk.new ordinal part (OperandOf true (meaning_of walk.old.types target.now))) }
+    ensures role { IfOk result StandsAnyhow }
+    ensures grows { OnOk result (Grows walk.old walk.new) }
+{
     let v = value_at(walk, ordinal)?;
     match known_value(v.constant) {
         Some(number) => number_of(walk, target, number),
-        None => converted_operand(walk, ordinal, target),
+        None => Err(nowhere()),
     }
 }
 
@@ -105,7 +159,12 @@ pub(crate) fn operand(
     ordinal: u32,
     target: &ExprType,
     moves: bool,
-) -> Result<Part, NoMemory> {
+) -> Result<Part, NoMemory>
+    ensures operand { IfOk result (λ part.
+        Gives walk.old walk.new ordinal part (OperandOf moves (meaning_of walk.old.types target.now))) }
+    ensures role { IfOk result StandsAnyhow }
+    ensures grows { OnOk result (Grows walk.old walk.new) }
+{
     if moves {
         moving(walk, ordinal, target)
     } else {

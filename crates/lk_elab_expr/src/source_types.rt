@@ -68,6 +68,8 @@ impl SourceTypes {
         ensures means { IfOk result (λ t. meaning self.new t ≡ Pointer (meaning self.old target)) }
         ensures known { IfOk result (IsKnown self.new) }
         ensures longer { IsLonger self.old self.new }
+        ensures members { self.new.members ≡ self.old.members }
+        ensures ready { IsReady self.new }
     {
         let made = pointer_to(&mut self.table, target);
         self.table.is_table();

@@ -1,4 +1,7 @@
 //! Expressions with two operands.
+ghost use Rattle.std.specs.Prelude.{IfOk, OnOk};
+ghost use Rattle.lk_elab_expr.specs.Leading.{Grows};
+ghost use Rattle.lk_elab_expr.specs.Walking.{DecidesTwoOf};
 
 use crate::elaborator::Elaborator;
 use crate::forms::Two;
@@ -16,7 +19,10 @@ pub(crate) fn two_of(
     left: u32,
     right: u32,
     folded: bool,
-) -> Result<Two, NoMemory> {
+) -> Result<Two, NoMemory>
+    ensures two { IfOk result (DecidesTwoOf walk.old walk.new form.now left right folded) }
+    ensures grows { OnOk result (Grows walk.old walk.new) }
+{
     match form {
         ExprForm::Comma(_, _) => comma(walk, left, right),
         ExprForm::Assign(op, _, _) => assign(walk, *op, left, right),

@@ -3,7 +3,7 @@ ghost use Rattle.std.specs.Prelude.{◌≡◌, ◌↔◌, IfOk, IfSome, IsTrue, 
 ghost use Rattle.std.specs.Option.{option_map};
 ghost use Rattle.lk_types.specs.Building.{IsLonger};
 ghost use Rattle.lk_types.specs.Table.{IsKnown};
-ghost use Rattle.lk_typed.specs.Meaning.{IsKnownType, meaning, meaning_of};
+ghost use Rattle.lk_typed.specs.Meaning.{IsKnownType, IsReady, meaning, meaning_of};
 ghost use Rattle.lk_typed.specs.Operands.{node_type};
 ghost use Rattle.lk_elab_expr.specs.Elements.{element_type};
 
@@ -50,6 +50,8 @@ pub(crate) fn listed(types: &mut SourceTypes, ty: &ExprType) -> Result<TypeId, N
     ensures means { IfOk result (λ t. meaning types.new t ≡ meaning_of types.old ty.now) }
     ensures known { IfOk result (IsKnown types.new) }
     ensures longer { OnOk result (IsLonger types.old types.new) }
+    ensures members { OnOk result (types.new.members ≡ types.old.members) }
+    ensures ready { OnOk result (IsReady types.old → IsReady types.new) }
 {
     match ty {
         ExprType::Listed(t) => Ok(*t),
@@ -63,6 +65,8 @@ pub(crate) fn node_type(types: &mut SourceTypes, ty: &ExprType) -> Result<TypeId
     ensures means { IfOk result (λ t. meaning types.new t ≡ node_type (meaning_of types.old ty.now)) }
     ensures known { IfOk result (IsKnown types.new) }
     ensures longer { OnOk result (IsLonger types.old types.new) }
+    ensures members { OnOk result (types.new.members ≡ types.old.members) }
+    ensures ready { OnOk result (IsReady types.old → IsReady types.new) }
 {
     let t = listed(types, ty)?;
     if is_function(types.table(), &ExprType::Listed(t)) {

@@ -1,6 +1,16 @@
 //! The value of an expression, and the value converted to a type (C99 6.3).
-ghost use Rattle.lk_typed.specs.Meaning.{IsKnownType};
+ghost use Rattle.std.specs.Prelude.{◌≡◌, ◌&&◌, Bool, IfOk, OnOk};
+ghost use Rattle.lk_typed.specs.Elaborated.{InPlace, IsTyped};
+ghost use Rattle.lk_typed.specs.Meaning.{IsKnownType, meaning_of};
+ghost use Rattle.lk_typed.specs.Operators as operators;
+ghost use Rattle.lk_typed.specs.Tables.{Tables};
+ghost use Rattle.lk_typed.specs.Ty as ty;
 ghost use Rattle.lk_typed.specs.Typings.{IsOperand};
+ghost use Rattle.lk_typed.specs.declared.expression.Callee.TheOpen.{TypedForm-F};
+ghost use Rattle.lk_elab_expr.specs.Converting.{GivesConversion, GivesUnconverted, GivesValue, GivesWritten, converting, valued_as};
+ghost use Rattle.lk_elab_expr.specs.Elaborating.{ElaboratesConverted, ElaboratesValue};
+ghost use Rattle.lk_elab_expr.specs.Leading.{Grows};
+ghost use Rattle.lk_elab_expr.specs.Standing.{IsConversion, IsMadeBy, IsNodeFor, IsValuedBy};
 
 use crate::elaborator::Elaborator;
 use crate::found::{typing_at, value_at};
@@ -43,6 +53,8 @@ pub(crate) enum Conversion {
 /// How the value of an expression is had of which this is known and which is no array.
 fn scalar_valued(types: &TypeTable, typing: &Typed) -> Valued
     requires { IsOperand types.now typing.now }
+    ensures { result ≡
+        valued_as (typing.now.is_place && operators.is_scalar (meaning_of types.now typing.now.ty)) }
 {
     if typing.is_place && is_scalar(types, &typing.ty) {
         Valued::Read
@@ -52,7 +64,10 @@ fn scalar_valued(types: &TypeTable, typing: &Typed) -> Valued
 }
 
 /// How the value of the expression with a number is had.
-pub(crate) fn valued_at(walk: &mut Elaborator, ordinal: u32) -> Result<Valued, NoMemory> {
+pub(crate) fn valued_at(walk: &mut Elaborator, ordinal: u32) -> Result<Valued, NoMemory>
+    ensures value { IfOk result (GivesValue walk.old walk.new ordinal) }
+    ensures grows { OnOk result (Grows walk.old walk.new) }
+{
     let typing = typing_at(walk, ordinal)?;
     match element_of(walk.types.table(), &typing.ty) {
         Some(element) => Ok(Valued::FirstElement(walk.types.pointer(element)?)),
@@ -61,7 +76,9 @@ pub(crate) fn valued_at(walk: &mut Elaborator, ordinal: u32) -> Result<Valued, N
 }
 
 /// A place of scalar type that is read.
-fn read(alloc: Global, node: TypedExpr) -> Result<TypedExpr, NoMemory> {
+fn read(alloc: Global, node: TypedExpr) -> Result<TypedExpr, NoMemory>
+    ensures { IfOk result (IsNodeFor node node.ty (TypedForm-F.Load node)) }
+{
     let (spot, ordinal, ty) = (node.spot, node.ordinal, node.ty);
     let inner = Boxed::new(alloc, node)?;
     Ok(TypedExpr {
@@ -73,7 +90,9 @@ fn read(alloc: Global, node: TypedExpr) -> Result<TypedExpr, NoMemory> {
 }
 
 /// An array that becomes the pointer to its first element, of this type.
-fn first_element(alloc: Global, ty: TypeId, node: TypedExpr) -> Result<TypedExpr, NoMemory> {
+fn first_element(alloc: Global, ty: TypeId, node: TypedExpr) -> Result<TypedExpr, NoMemory>
+    ensures { IfOk result (IsNodeFor node ty (TypedForm-F.Decay node)) }
+{
     let (spot, ordinal) = (node.spot, node.ordinal);
     let inner = Boxed::new(alloc, node)?;
     Ok(TypedExpr {
@@ -85,7 +104,9 @@ fn first_element(alloc: Global, ty: TypeId, node: TypedExpr) -> Result<TypedExpr
 }
 
 /// A value whose conversion to this type is written out.
-fn convert(alloc: Global, ty: TypeId, value: TypedExpr) -> Result<TypedExpr, NoMemory> {
+fn convert(alloc: Global, ty: TypeId, value: TypedExpr) -> Result<TypedExpr, NoMemory>
+    ensures { IfOk result (IsNodeFor value ty (TypedForm-F.Convert value)) }
+{
     let (spot, ordinal) = (value.spot, value.ordinal);
     let inner = Boxed::new(alloc, value)?;
     Ok(TypedExpr {
@@ -97,7 +118,9 @@ fn convert(alloc: Global, ty: TypeId, value: TypedExpr) -> Result<TypedExpr, NoM
 }
 
 /// The value of an expression with this node, which is had so.
-fn valued_node(alloc: Global, valued: Valued, node: TypedExpr) -> Result<TypedExpr, NoMemory> {
+fn valued_node(alloc: Global, valued: Valued, node: TypedExpr) -> Result<TypedExpr, NoMemory>
+    ensures { IfOk result (IsValuedBy valued node) }
+{
     match valued {
         Valued::FirstElement(ty) => first_element(alloc, ty, node),
         Valued::Read => read(alloc, node),
@@ -106,7 +129,9 @@ fn valued_node(alloc: Global, valued: Valued, node: TypedExpr) -> Result<TypedEx
 }
 
 /// What is made so of the node of an expression.
-pub(crate) fn made(alloc: Global, making: Making, node: TypedExpr) -> Result<TypedExpr, NoMemory> {
+pub(crate) fn made(alloc: Global, making: Making, node: TypedExpr) -> Result<TypedExpr, NoMemory>
+    ensures { IfOk result (IsMadeBy making node) }
+{
     let value = valued_node(alloc, making.valued, node)?;
     match making.converted_to {
         Some(ty) => convert(alloc, ty, value),
@@ -115,7 +140,10 @@ pub(crate) fn made(alloc: Global, making: Making, node: TypedExpr) -> Result<Typ
 }
 
 /// The value of an expression (`IsValue`; C99 6.3.2.1, 2 to 4).
-pub fn value_node(walk: &mut Elaborator, node: TypedExpr) -> Result<TypedExpr, NoMemory> {
+pub fn value_node(walk: &mut Elaborator, node: TypedExpr) -> Result<TypedExpr, NoMemory>
+    ensures value { IfOk result (ElaboratesValue walk.old walk.new node) }
+    ensures grows { OnOk result (Grows walk.old walk.new) }
+{
     let valued = valued_at(walk, node.ordinal)?;
     valued_node(walk.alloc, valued, node)
 }
@@ -135,6 +163,9 @@ enum Converting {
 fn how_converted(types: &TypeTable, v: &Typed, target: &ExprType) -> Converting
     requires value { IsOperand types.now v.now }
     requires target { IsKnownType types.now target.now }
+    ensures { result ≡ converting
+        (ty.is_same (meaning_of types.now v.now.ty) (meaning_of types.now target.now))
+        (ty.is_pointer (meaning_of types.now target.now) && v.now.is_null) }
 {
     if are_same(types, &v.ty, target) {
         Converting::Alike
@@ -145,32 +176,57 @@ fn how_converted(types: &TypeTable, v: &Typed, target: &ExprType) -> Converting
     }
 }
 
+/// The value of the expression with a number, which has the type.
+fn alike(walk: &mut Elaborator, ordinal: u32) -> Result<Conversion, NoMemory>
+    ensures value { IfOk result (λ made. GivesUnconverted walk.old walk.new ordinal made) }
+    ensures grows { OnOk result (Grows walk.old walk.new) }
+{
+    let valued = valued_at(walk, ordinal)?;
+    Ok(Conversion::Made(Making {
+        valued,
+        converted_to: None,
+    }))
+}
+
+/// The value of the expression with a number, whose conversion to a type is written out.
+fn written(walk: &mut Elaborator, ordinal: u32, target: &ExprType) -> Result<Conversion, NoMemory>
+    requires { IsKnownType walk.old.types target.now }
+    ensures value { IfOk result (λ made.
+        GivesWritten walk.old walk.new ordinal made (meaning_of walk.old.types target.now)) }
+    ensures grows { OnOk result (Grows walk.old walk.new) }
+{
+    let ty = listed(&mut walk.types, target)?;
+    let valued = valued_at(walk, ordinal)?;
+    Ok(Conversion::Made(Making {
+        valued,
+        converted_to: Some(ty),
+    }))
+}
+
 /// What the value of the expression with a number is, converted to a type of the table or to a pointer to one.
 pub(crate) fn conversion_at(
     walk: &mut Elaborator,
     ordinal: u32,
     target: &ExprType,
-) -> Result<Conversion, NoMemory> {
+) -> Result<Conversion, NoMemory>
+    ensures converts { IfOk result (λ made.
+        GivesConversion walk.old walk.new ordinal made (meaning_of walk.old.types target.now)) }
+    ensures known { OnOk result (IsKnownType walk.old.types target.now) }
+    ensures grows { OnOk result (Grows walk.old walk.new) }
+{
     let v = value_at(walk, ordinal)?;
     let target = known_type(walk.types.table(), target)?;
     match how_converted(walk.types.table(), &v, &target) {
-        Converting::Alike => Ok(Conversion::Made(Making {
-            valued: valued_at(walk, ordinal)?,
-            converted_to: None,
-        })),
+        Converting::Alike => alike(walk, ordinal),
         Converting::Null => Ok(Conversion::Null(listed(&mut walk.types, &target)?)),
-        Converting::Written => {
-            let ty = listed(&mut walk.types, &target)?;
-            Ok(Conversion::Made(Making {
-                valued: valued_at(walk, ordinal)?,
-                converted_to: Some(ty),
-            }))
-        }
+        Converting::Written => written(walk, ordinal, &target),
     }
 }
 
 /// A null pointer of this type in the place of an expression.
-fn null_node(node: TypedExpr, ty: TypeId) -> TypedExpr {
+fn null_node(node: TypedExpr, ty: TypeId) -> TypedExpr
+    ensures { IsNodeFor node ty TypedForm-F.Null result }
+{
     TypedExpr {
         spot: node.spot,
         ordinal: node.ordinal,
@@ -184,7 +240,10 @@ fn converted_node(
     alloc: Global,
     conversion: Conversion,
     node: TypedExpr,
-) -> Result<TypedExpr, NoMemory> {
+) -> Result<TypedExpr, NoMemory>
+    ensures { IfOk result (λ t. (tables : Tables) (folded : Bool) (p : InPlace) →
+        IsTyped tables folded p node → IsConversion tables folded p conversion t) }
+{
     match conversion {
         Conversion::Null(ty) => Ok(null_node(node, ty)),
         Conversion::Made(making) => made(alloc, making, node),
@@ -196,7 +255,10 @@ pub fn converted(
     walk: &mut Elaborator,
     node: TypedExpr,
     target: &ExprType,
-) -> Result<TypedExpr, NoMemory> {
+) -> Result<TypedExpr, NoMemory>
+    ensures converted { IfOk result (ElaboratesConverted walk.old walk.new node target.now) }
+    ensures grows { OnOk result (Grows walk.old walk.new) }
+{
     match conversion_at(walk, node.ordinal, target) {
         Ok(conversion) => converted_node(walk.alloc, conversion, node),
         Err(NoMemory) => Err(NoMemory),

@@ -1,4 +1,6 @@
 //! How an expression stands.
+ghost use Rattle.std.specs.Prelude.{◌≡◌};
+ghost use Rattle.lk_typed.specs.declared.role.Role.TheVariants.{Operand};
 
 use lk_typed::Role;
 
@@ -12,7 +14,10 @@ pub(crate) struct Way {
 
 impl Way {
     /// An operand, or a value that nothing converts directly.
-    pub(crate) fn operand(folded: bool) -> Way {
+    pub(crate) fn operand(folded: bool) -> Way
+        ensures role { result.role ≡ Operand }
+        ensures folded { result.folded ≡ folded }
+    {
         Way {
             role: Role::Operand,
             folded,

@@ -1,4 +1,11 @@
 //! Expressions whose operands aren't computed, and those that have none.
+ghost use Rattle.std.specs.Prelude.{Bool, IfOk};
+ghost use Rattle.lk_typed.specs.Env.{Env};
+ghost use Rattle.lk_typed.specs.Tables.{Tables};
+ghost use Rattle.lk_typed.specs.declared.expression.TypedForm.{out-TypedForm};
+ghost use Rattle.lk_elab_expr.specs.Leading.{Leads};
+ghost use Rattle.lk_elab_expr.specs.Standing.{IsFormOf};
+ghost use Rattle.lk_elab_expr.specs.Telling.{IsTrueOf};
 
 use crate::elaborator::Elaborator;
 use crate::literals::text;
@@ -10,7 +17,10 @@ use lk_tree::{Expr, ExprForm};
 use lk_typed::TypedForm;
 
 /// What a `sizeof`, a name or a constant is made of.
-pub(crate) fn leaf(walk: &Elaborator, e: &Expr) -> Result<TypedForm, NoMemory> {
+pub(crate) fn leaf(walk: &Elaborator, e: &Expr) -> Result<TypedForm, NoMemory>
+    ensures { IfOk result (λ form. (env : Env) → IsTrueOf walk.now (env, e.now) → (tables : Tables) →
+        Leads walk.now tables → (folded : Bool) → IsFormOf tables folded (env, e.now) (out-TypedForm form)) }
+{
     match &e.form {
         ExprForm::SizeofExpr(_) | ExprForm::SizeofType(_) => size(walk, e.ordinal),
         ExprForm::Word(_) => word(walk, e.ordinal),

@@ -1,6 +1,7 @@
 use Rattle.std.proofs.Common.{◌+◌, ◌*◌, max}
 use denote.Param.Weighed.{most}
 use Rattle.lk_tree.specs.declared.expression.Expr.{size-Expr}
+use Rattle.lk_elab_expr.specs.Leading.{Grows}
 use Rattle.lk_elab_expr.proofs.+walk.Given as goal
 
 abbrev pub decreases-expressions::form_of : goal.decreases-expressions::form_of
@@ -16,10 +17,7 @@ abbrev pub decreases-expressions::part_of : goal.decreases-expressions::part_of
 decreases-expressions::part_of l = 10 * size-Expr l.e.now + 3
 
 abbrev pub decreases-arguments::put_argument : goal.decreases-arguments::put_argument
-decreases-arguments::put_argument l = 10 * size-Expr l.e.now + 3
-
-abbrev pub decreases-expressions::two_parts : goal.decreases-expressions::two_parts
-decreases-expressions::two_parts l = 10 * max (size-Expr l.left.now) (size-Expr l.right.now) + 4
+decreases-arguments::put_argument l = 10 * size-Expr l.e.now + 4
 
 abbrev pub decreases-expressions::with_one : goal.decreases-expressions::with_one
 decreases-expressions::with_one l = 10 * size-Expr l.operand.now + 5
@@ -40,22 +38,22 @@ abbrev pub decreases-allocations::count_of : goal.decreases-allocations::count_o
 decreases-allocations::count_of l = 10 * size-Expr l.e.now + 6
 
 abbrev pub decreases-arguments::passed_arguments : goal.decreases-arguments::passed_arguments
-decreases-arguments::passed_arguments l = 10 * goal.size-arguments::passed_arguments l + 4
+decreases-arguments::passed_arguments l = 10 * goal.size-arguments::passed_arguments l + 5
 
 abbrev pub decreases-allocations::allocate : goal.decreases-allocations::allocate
 decreases-allocations::allocate l = 10 * goal.size-allocations::allocate l + 7
 
 abbrev pub decreases-calls::call_named : goal.decreases-calls::call_named
-decreases-calls::call_named l = 10 * goal.size-calls::call_named l + 5
+decreases-calls::call_named l = 10 * goal.size-calls::call_named l + 6
 
 abbrev pub decreases-calls::call_create : goal.decreases-calls::call_create
-decreases-calls::call_create l = 10 * goal.size-calls::call_create l + 5
+decreases-calls::call_create l = 10 * goal.size-calls::call_create l + 6
 
 abbrev pub decreases-calls::call_pointed : goal.decreases-calls::call_pointed
-decreases-calls::call_pointed l = 10 * max (size-Expr l.function.now) (most (λ x. size-Expr x) l.arguments.now) + 5
+decreases-calls::call_pointed l = 10 * max (size-Expr l.function.now) (most (λ x. size-Expr x) l.arguments.now) + 6
 
 abbrev pub decreases-calls::call : goal.decreases-calls::call
-decreases-calls::call l = 10 * max (size-Expr l.function.now) (most (λ x. size-Expr x) l.arguments.now) + 8
+decreases-calls::call l = 10 * max (size-Expr l.function.now) (most (λ x. size-Expr x) l.arguments.now) + 9
 
 abbrev pub decreases-expressions::of_one : goal.decreases-expressions::of_one
 decreases-expressions::of_one l = 10 * size-Expr l.operand.now + 4
@@ -68,3 +66,12 @@ decreases-expressions::of_three l = 10 * max (size-Expr l.condition.now) (max (s
 
 abbrev pub decreases-calls::pointer_of : goal.decreases-calls::pointer_of
 decreases-calls::pointer_of l = 10 * size-Expr l.function.now + 4
+
+abbrev pub decreases-calls::call_so : goal.decreases-calls::call_so
+decreases-calls::call_so l = 10 * max (size-Expr l.function.now) (most (λ x. size-Expr x) l.arguments.now) + 8
+
+abbrev pub invariant-arguments::passed_arguments-loop-index : goal.invariant-arguments::passed_arguments-loop-index
+invariant-arguments::passed_arguments-loop-index l = Grows l.fn.walk l.walk
+
+abbrev pub decreases-arguments::put_part : goal.decreases-arguments::put_part
+decreases-arguments::put_part l = 10 * size-Expr l.e.now + 3
