@@ -1,19 +1,28 @@
 //! The cells of a local that its initialiser doesn't name (C99 6.7.8, 21).
-
+ghost use Rattle.std.specs.Prelude.{◌≡◌, IfOk, OnOk, []};
 ghost use Rattle.lk_types.specs.Table.{IsKnown};
+ghost use Rattle.lk_typed.specs.Meaning.{meaning};
+ghost use Rattle.lk_elaborate.specs.Cells.{cells_given};
+ghost use Rattle.lk_elaborate.specs.Giving.{Puts};
+ghost use Rattle.lk_elaborate.specs.Places.{ArePut, IsPlacePut};
+ghost use Rattle.lk_elaborate.specs.Settled.{fields_listed};
+ghost use Rattle.lk_elaborate.specs.declared.advancing.Turn.TheVariants.{Member};
 
-use crate::advancing::Way;
-use crate::named_cells::NamedCells;
+use crate::advancing::{Turn, first_absent, first_cell, longer_way};
+use crate::givens::PartGiven;
+use crate::named_cells::{named_cells, those_alike};
 use lk_base::{CellStep, NoMemory, Seq};
 use lk_elab_expr::known;
-use lk_typed::{AbsentCells, LocalPart};
+use lk_typed::AbsentCells;
 use lk_types::{CType, TypeId, TypeTable};
 use std::alloc::Global;
 
-/// The step to the member with this number.
-fn step_to(number: usize) -> Result<CellStep, NoMemory> {
+/// The turn to the member with this number.
+fn turn_to(number: usize) -> Result<Turn, NoMemory>
+    ensures { IfOk result (λ turn. turn ≡ Member number) }
+{
     match u32::try_from(number) {
-        Ok(number) => Ok(CellStep::Field(number)),
+        Ok(number) => Ok(Turn::Member(number)),
         Err(_) => Err(NoMemory),
     }
 }
@@ -21,15 +30,18 @@ fn step_to(number: usize) -> Result<CellStep, NoMemory> {
 /// Puts the absent cells of a place, where there are some (`AreAbsentCells`).
 fn put_place(
     alloc: Global,
-    cells: &mut NamedCells,
-    way: &Way,
+    cells: &[Seq<CellStep>],
+    way: &[Turn],
     out: &mut Vec<AbsentCells>,
-) -> Result<(), NoMemory> {
-    let named = cells.take(way.steps())?;
-    match way.first_absent(alloc, named.as_slice())? {
+) -> Result<(), NoMemory>
+    ensures { OnOk result (Puts out.old.items out.new.items (IsPlacePut cells.now way.now)) }
+{
+    let first = first_cell(alloc, way)?;
+    let named = those_alike(alloc, first.list(), cells)?;
+    match first_absent(alloc, way, named.as_slice())? {
         Some(first) => {
             out.push(AbsentCells {
-                first: Seq::new(first),
+                first,
                 named: Seq::new(named),
             })?;
             Ok(())
@@ -43,24 +55,29 @@ fn put_absent(
     alloc: Global,
     types: &TypeTable,
     t: TypeId,
-    cells: &mut NamedCells,
-    way: &Way,
+    cells: &[Seq<CellStep>],
+    way: &[Turn],
     out: &mut Vec<AbsentCells>,
 ) -> Result<(), NoMemory>
     requires { IsKnown types.now t }
+    ensures { OnOk result (Puts out.old.items out.new.items
+        (ArePut (fields_listed types.now) cells.now way.now (meaning types.now t))) }
 {
     match types.get(t) {
         CType::Int(_) | CType::ThreadId | CType::Pointer(_) | CType::Mutex | CType::Cond => {
             put_place(alloc, cells, way, out)
         }
         CType::Array(element, count) => {
-            let inner = way.longer(alloc, CellStep::Index(0), *count)?;
-            put_absent(alloc, types, *element, cells, &inner, out)
+            if *count == 0 {
+                return Ok(());
+            }
+            let inner = longer_way(alloc, way, Turn::Element(*count))?;
+            put_absent(alloc, types, *element, cells, inner.list(), out)
         }
         CType::Struct(s) => {
             for (number, member) in types.members(*s).iter().enumerate() {
-                let inner = way.longer(alloc, step_to(number)?, 1)?;
-                put_absent(alloc, types, member.ty, cells, &inner, out)?;
+                let inner = longer_way(alloc, way, turn_to(number)?)?;
+                put_absent(alloc, types, member.ty, cells, inner.list(), out)?;
             }
             Ok(())
         }
@@ -73,13 +90,16 @@ fn put_all_absent(
     alloc: Global,
     types: &TypeTable,
     t: TypeId,
-    parts: &[LocalPart],
+    parts: &[PartGiven<'_>],
     out: &mut Vec<AbsentCells>,
-) -> Result<(), NoMemory> {
+) -> Result<(), NoMemory>
+    ensures { OnOk result (Puts out.old.items out.new.items
+        (ArePut (fields_listed types.now) (cells_given parts.now) [] (meaning types.now t))) }
+{
     let t = known(types, t)?;
-    let mut cells = NamedCells::of(alloc, parts)?;
-    let way = Way::empty(alloc);
-    put_absent(alloc, types, t, &mut cells, &way, out)
+    let cells = named_cells(alloc, parts)?;
+    let way = Vec::new(alloc);
+    put_absent(alloc, types, t, cells.as_slice(), way.as_slice(), out)
 }
 
 /// The cells of an object of this type that these parts don't name, by places (`AreAllAbsent`).
@@ -87,8 +107,11 @@ pub(crate) fn absent_cells(
     alloc: Global,
     types: &TypeTable,
     t: TypeId,
-    parts: &[LocalPart],
-) -> Result<Vec<AbsentCells>, NoMemory> {
+    parts: &[PartGiven<'_>],
+) -> Result<Vec<AbsentCells>, NoMemory>
+    ensures { IfOk result (λ absent.
+        ArePut (fields_listed types.now) (cells_given parts.now) [] (meaning types.now t) absent.items) }
+{
     let mut out = Vec::new(alloc);
     put_all_absent(alloc, types, t, parts, &mut out)?;
     Ok(out)

@@ -1,100 +1,58 @@
 //! The cells of one place, which differ in indices alone, in their order.
+ghost use Rattle.std.specs.Prelude.{◌≡◌, ◌++◌, ◌∷◌, [], IfOk, OnOk, Some};
+ghost use Rattle.lk_typed.specs.Stands.{IsIn};
+ghost use Rattle.lk_elaborate.specs.Places as spec;
+ghost use Rattle.lk_elaborate.specs.Places.{IsFirstAbsent, carried};
+ghost use Rattle.lk_elaborate.specs.declared.advancing.Turn.TheVariants.{Element};
 
-use crate::paths::longer_path;
+use crate::paths::{are_same_paths, is_path_among, longer_front};
 use lk_base::{CellStep, NoMemory, Seq};
+use lk_elab_expr::nowhere;
 use std::alloc::Global;
 
-/// Steps to the first cell of a place, each with how many elements its array has; a member is one of one.
-#[derive(Drop)]
-pub(crate) struct Way {
-    steps: Seq<CellStep>,
-    counts: Seq<u64>,
+/// A turn of the way to a place.
+#[derive(Clone, Copy)]
+pub(crate) enum Turn {
+    /// To the member with this number.
+    Member(u32),
+    /// To an element of an array of so many.
+    Element(u64),
 }
 
-/// These counts and one more, of their own.
-fn longer_counts(alloc: Global, counts: &[u64], count: u64) -> Result<Seq<u64>, NoMemory> {
-    let mut longer = Vec::from_slice(alloc, counts)?;
-    longer.push(count)?;
+/// These turns and one more, of their own.
+pub(crate) fn longer_way(alloc: Global, way: &[Turn], turn: Turn) -> Result<Seq<Turn>, NoMemory>
+    ensures { IfOk result (λ longer. longer ≡ way.now ++ turn ∷ []) }
+{
+    let mut longer = Vec::from_slice(alloc, way)?;
+    longer.push(turn)?;
     Ok(Seq::new(longer))
 }
 
-impl Way {
-    /// The way to the object itself.
-    pub(crate) fn empty(alloc: Global) -> Way {
-        Way {
-            steps: Seq::new(Vec::new(alloc)),
-            counts: Seq::new(Vec::new(alloc)),
-        }
-    }
-
-    /// The steps.
-    pub(crate) fn steps(&self) -> &[CellStep] {
-        self.steps.list()
-    }
-
-    /// The way with one more step.
-    pub(crate) fn longer(
-        &self,
-        alloc: Global,
-        step: CellStep,
-        count: u64,
-    ) -> Result<Way, NoMemory> {
-        let steps = longer_path(alloc, self.steps.list(), step)?;
-        let counts = longer_counts(alloc, self.counts.list(), count)?;
-        Ok(Way { steps, counts })
-    }
-
-    /// How many elements the array has of which a step leads to one.
-    fn count_at(&self, place: usize) -> u64 {
-        match self.counts.list().get(place) {
-            Some(count) => *count,
-            None => 1,
-        }
-    }
-
-    /// The first cell of the place that is none of these, which stand in the order of their paths.
-    pub(crate) fn first_absent(
-        &self,
-        alloc: Global,
-        named: &[Seq<CellStep>],
-    ) -> Result<Option<Vec<CellStep>>, NoMemory> {
-        let mut cell = Vec::from_slice(alloc, self.steps.list())?;
-        for other in named {
-            if other.list() != cell.as_slice() {
-                return Ok(Some(cell));
-            }
-            if !self.advance(&mut cell) {
-                return Ok(None);
-            }
-        }
-        Ok(Some(cell))
-    }
-
-    /// Moves on to the next cell of the place: whether there is one.
-    fn advance(&self, cell: &mut Vec<CellStep>) -> bool {
-        for place in (0..cell.len()).rev() {
-            match next_step(cell[place], self.count_at(place)) {
-                Some(step) => {
-                    cell[place] = step;
-                    return true;
-                }
-                None => cell[place] = first_step(cell[place]),
-            }
-        }
-        false
+/// The step with which a turn begins.
+fn first_step(turn: Turn) -> CellStep
+    ensures { result ≡ spec.first_step turn }
+{
+    match turn {
+        Turn::Member(number) => CellStep::Field(number),
+        Turn::Element(_) => CellStep::Index(0),
     }
 }
 
-/// The step with which an array begins.
-pub(crate) fn first_step(step: CellStep) -> CellStep {
-    match step {
-        CellStep::Field(number) => CellStep::Field(number),
-        CellStep::Index(_) => CellStep::Index(0),
+/// The first cell of a place.
+pub(crate) fn first_cell(alloc: Global, way: &[Turn]) -> Result<Seq<CellStep>, NoMemory>
+    ensures { IfOk result (λ cell. cell ≡ spec.first_cell way.now) }
+{
+    let mut cell = Vec::new(alloc);
+    for turn in way {
+        cell.push(first_step(*turn))?;
     }
+    Ok(Seq::new(cell))
 }
 
-/// The step behind one, where its array has another element.
-fn next_step(step: CellStep, count: u64) -> Option<CellStep> {
+/// The step behind one to an element of an array of so many, where there is another element.
+fn next_element(count: u64, step: CellStep) -> Option<CellStep>
+    ensures { result ≡ spec.next_step (Element count) step }
+{
     match step {
         CellStep::Field(_) => None,
         CellStep::Index(index) => {
@@ -105,4 +63,85 @@ fn next_step(step: CellStep, count: u64) -> Option<CellStep> {
             }
         }
     }
+}
+
+/// The step behind one, where its array has another element.
+fn next_step(turn: Turn, step: CellStep) -> Option<CellStep>
+    ensures { result ≡ spec.next_step turn step }
+{
+    match turn {
+        Turn::Member(_) => None,
+        Turn::Element(count) => next_element(count, step),
+    }
+}
+
+/// The first cell behind a step, where there is one.
+fn cell_behind(
+    alloc: Global,
+    step: Option<CellStep>,
+    way: &[Turn],
+) -> Result<Option<Seq<CellStep>>, NoMemory>
+    ensures { IfOk result (λ cell. cell ≡ carried step way.now) }
+{
+    match step {
+        Some(step) => {
+            let first = first_cell(alloc, way)?;
+            let cell = longer_front(alloc, step, first.list())?;
+            Ok(Some(cell))
+        }
+        None => Ok(None),
+    }
+}
+
+/// The next cell of a place, if there is one.
+fn next_cell(
+    alloc: Global,
+    way: &[Turn],
+    cell: &[CellStep],
+) -> Result<Option<Seq<CellStep>>, NoMemory>
+    ensures { IfOk result (λ next. next ≡ spec.next_cell way.now cell.now) }
+{
+    let (Some((turn, turns)), Some((step, steps))) = (way.split_first(), cell.split_first()) else {
+        return Ok(None);
+    };
+    match next_cell(alloc, turns, steps)? {
+        Some(next) => {
+            let cell = longer_front(alloc, *step, next.list())?;
+            Ok(Some(cell))
+        }
+        None => cell_behind(alloc, next_step(*turn, *step), turns),
+    }
+}
+
+/// The cell, which is none of these.
+fn unnamed(cell: Seq<CellStep>, named: &[Seq<CellStep>]) -> Result<Option<Seq<CellStep>>, NoMemory>
+    ensures value { IfOk result (λ same. same ≡ Some cell) }
+    ensures unnamed { OnOk result (IsIn cell named.now → ⊥) }
+{
+    if is_path_among(cell.list(), named) {
+        Err(nowhere())
+    } else {
+        Ok(Some(cell))
+    }
+}
+
+/// The first cell of a place that is none of these, which stand in the order of their paths.
+pub(crate) fn first_absent(
+    alloc: Global,
+    way: &[Turn],
+    named: &[Seq<CellStep>],
+) -> Result<Option<Seq<CellStep>>, NoMemory>
+    ensures { IfOk result (IsFirstAbsent way.now named.now) }
+{
+    let mut cell = first_cell(alloc, way)?;
+    for other in named {
+        if !are_same_paths(other.list(), cell.list()) {
+            return unnamed(cell, named);
+        }
+        match next_cell(alloc, way, cell.list())? {
+            Some(next) => cell = next,
+            None => return Ok(None),
+        }
+    }
+    unnamed(cell, named)
 }

@@ -1,4 +1,7 @@
 //! Definitions of functions (C99 6.9.1).
+ghost use Rattle.std.specs.Prelude.{IfOk, OnOk};
+ghost use Rattle.lk_elab_expr.specs.Leading.{GoesOn};
+ghost use Rattle.lk_elaborate.specs.Defining.{IsRoundIn, MakesBlock};
 
 use crate::declarations::{declared_type, name_in, put_name};
 use crate::labels::labels_of;
@@ -8,7 +11,7 @@ use crate::type_forms::result_type;
 use lk_base::{NoMemory, Seq};
 use lk_check_unit::items_of;
 use lk_elab_expr::{Elaborator, Locals};
-use lk_tree::{Function, Stmt};
+use lk_tree::Function;
 use lk_typed::{Body, Local, TypedStmt, TypedStmtForm};
 use lk_types::TypeId;
 use std::mem;
@@ -32,19 +35,24 @@ fn begin_definition(walk: &mut Elaborator, node: &Function) -> Result<Head, NoMe
 }
 
 /// What stands round the statements of the body of a function of this type.
-fn around_in(walk: &Elaborator, body: &Stmt, t: TypeId) -> Result<Around, NoMemory> {
+fn around_in(walk: &Elaborator, node: &Function, t: TypeId) -> Result<Around, NoMemory>
+    ensures { IfOk result (IsRoundIn walk.now node.now t) }
+{
     let returned = result_type(walk.types.table(), t)?;
-    let labels = labels_of(walk.alloc, body)?;
+    let labels = labels_of(walk.alloc, &node.body)?;
     Ok(Around { labels, returned })
 }
 
 /// The block of the body of a function of this type.
-fn body_block(walk: &mut Elaborator, body: &Stmt, t: TypeId) -> Result<TypedStmt, NoMemory> {
-    let around = around_in(walk, body, t)?;
-    let items = block_items(walk, items_of(body), &around)?;
+fn body_block(walk: &mut Elaborator, node: &Function, t: TypeId) -> Result<TypedStmt, NoMemory>
+    ensures makes { IfOk result (MakesBlock walk.old walk.new node.now t) }
+    ensures goes_on { OnOk result (GoesOn walk.old walk.new) }
+{
+    let around = around_in(walk, node, t)?;
+    let items = block_items(walk, items_of(&node.body), &around)?;
     Ok(TypedStmt {
-        spot: body.spot,
-        ordinal: body.ordinal,
+        spot: node.body.spot,
+        ordinal: node.body.ordinal,
         form: TypedStmtForm::Block(items),
     })
 }
@@ -80,6 +88,6 @@ fn put_body(
 pub(crate) fn definition(walk: &mut Elaborator, node: &Function) -> Result<(), NoMemory> {
     let Head { entity, ty } = begin_definition(walk, node)?;
     let parameters = put_parameters(walk, &node.declarator, ty)?;
-    let block = body_block(walk, &node.body, ty)?;
+    let block = body_block(walk, node, ty)?;
     put_body(walk, node, entity, parameters, block)
 }

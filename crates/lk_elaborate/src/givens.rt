@@ -1,15 +1,28 @@
 //! What an initialiser gives to the parts of an object, in the order of the entries (C99 6.7.8, 10 to 22).
-ghost use Rattle.std.specs.Prelude.{◌≡◌, IfOk};
+ghost use Rattle.std.specs.Prelude.{◌≡◌, ◌++◌, ◌∷◌, [], IfOk, List, OnOk, Some, nat_eq, ℕ};
+ghost use Rattle.std.specs.Map.{lookup};
+ghost use Rattle.lk_tree.specs.declared.declaration.InitList.{out-InitList};
+ghost use Rattle.lk_types.specs.Table.{IsKnown};
+ghost use Rattle.lk_typed.specs.Expressions.{AText, written};
 ghost use Rattle.lk_typed.specs.Initialised.{bytes_given};
+ghost use Rattle.lk_typed.specs.InitialiserRules.{is_text_for};
+ghost use Rattle.lk_typed.specs.Initialisers.{text_alone};
+ghost use Rattle.lk_typed.specs.Meaning.{meaning};
+ghost use Rattle.lk_check_walk.specs.declared.records.InitialiserKind.{InitialiserKind};
+ghost use Rattle.lk_check_walk.specs.declared.records.InitialiserKind.TheVariants as kind;
+ghost use Rattle.lk_elaborate.specs.Giving.{GivesTo, GivesToEntries, GivesToEntry, GivesToExpr};
+ghost use Rattle.lk_elaborate.specs.Giving.{GivesToList, GivesToText, Puts, part_given};
+ghost use Rattle.lk_elaborate.specs.Words.{is_word_kind};
+ghost use Rattle.lk_elaborate.specs.declared.givens.Beginning.TheVariants as begins;
 
 use crate::paths::{longer_path, path_of};
 use crate::type_forms::{count_of, part_at};
 use lk_base::{CellStep, NoMemory, Seq, Spot};
 use lk_check_decl::is_text_for;
 use lk_check_unit::braces_of;
+use lk_check_walk::InitialiserKind;
 use lk_elab_expr::{Elaborator, known, nowhere};
 use lk_tree::{Entry, Expr, ExprForm, Init, InitList};
-use lk_typed::Meaning;
 use lk_types::TypeId;
 use std::alloc::Global;
 
@@ -33,7 +46,9 @@ pub(crate) struct PartGiven<'a> {
 }
 
 /// The bytes of the literal that an expression is. What initialises an array without braces is one (27).
-fn bytes_in(e: &Expr) -> Result<&[u8], NoMemory> {
+fn bytes_in(e: &Expr) -> Result<&[u8], NoMemory>
+    ensures { IfOk result (λ bytes. written e.now ≡ AText bytes.now) }
+{
     match &e.form {
         ExprForm::Text(bytes) => Ok(bytes.list()),
         ExprForm::Comma(..)
@@ -69,23 +84,23 @@ fn bytes_given(alloc: Global, count: u64, bytes: &[u8]) -> Result<Seq<u8>, NoMem
 }
 
 /// The bytes of the literal that an expression is, which initialises an array of so many elements.
-fn text_bytes(alloc: Global, count: u64, e: &Expr) -> Result<Seq<u8>, NoMemory> {
+fn text_bytes(alloc: Global, count: u64, e: &Expr) -> Result<Seq<u8>, NoMemory>
+    ensures { IfOk result (λ given. (bytes : List ℕ)
+        × (written e.now ≡ AText bytes) × (given ≡ bytes_given count bytes)) }
+{
     let bytes = bytes_in(e)?;
     bytes_given(alloc, count, bytes)
 }
 
-/// Whether the expression at a node is an initialiser word (POSIX, `pthread.h`).
-fn is_word(walk: &Elaborator, ordinal: u32) -> bool {
-    match walk.records.meant(ordinal) {
-        Some(meant) => match meant.meaning {
-            Meaning::InitialiserWord(_) => true,
-            Meaning::Object(..)
-            | Meaning::Function(_)
-            | Meaning::Typedef(_)
-            | Meaning::Enumerator(_)
-            | Meaning::Faulty => false,
-        },
-        None => false,
+/// Whether the initialiser at a node is an initialiser word (POSIX, `pthread.h`). Each that is one expression was seen.
+fn is_word(walk: &Elaborator, ordinal: u32) -> Result<bool, NoMemory>
+    ensures { IfOk result (λ is. (kind : InitialiserKind)
+        × (lookup (nat_eq ordinal) walk.now.records.initialisers ≡ Some kind) × (is ≡ is_word_kind kind)) }
+{
+    match walk.records.initialiser(ordinal) {
+        Some(InitialiserKind::Word(_)) => Ok(true),
+        Some(InitialiserKind::Value) => Ok(false),
+        None => Err(nowhere()),
     }
 }
 
@@ -97,7 +112,11 @@ fn put_text<'a>(
     e: &'a Expr,
     count: u64,
     out: &mut Vec<PartGiven<'a>>,
-) -> Result<(), NoMemory> {
+) -> Result<(), NoMemory>
+    ensures { OnOk result ((bytes : List ℕ) × (written e.now ≡ AText bytes)
+        × (out.new.items ≡ out.old.items
+        ++ part_given path.now ty (begins.Bytes e.now.spot e.now.ordinal (bytes_given count bytes)) ∷ [])) }
+{
     let bytes = text_bytes(alloc, count, e)?;
     put_part(
         alloc,
@@ -115,10 +134,43 @@ fn put_part<'a>(
     path: &[CellStep],
     begins: Beginning<'a>,
     out: &mut Vec<PartGiven<'a>>,
-) -> Result<(), NoMemory> {
+) -> Result<(), NoMemory>
+    ensures { OnOk result (out.new.items ≡ out.old.items ++ part_given path.now ty begins.entry ∷ []) }
+{
     let path = path_of(alloc, path)?;
     out.push(PartGiven { path, ty, begins })?;
     Ok(())
+}
+
+/// Puts the part that an expression initialises.
+fn put_value<'a>(
+    walk: &Elaborator,
+    ty: TypeId,
+    path: &[CellStep],
+    e: &'a Expr,
+    out: &mut Vec<PartGiven<'a>>,
+) -> Result<(), NoMemory>
+    requires { lookup (nat_eq e.now.ordinal) walk.now.records.initialisers ≡ Some kind.Value }
+    ensures { OnOk result (Puts out.old.items out.new.items (GivesToExpr walk.now ty path.now e.now)) }
+{
+    match count_of(walk.types.table(), ty)? {
+        Some(count) => put_text(walk.alloc, ty, path, e, count, out),
+        None => put_part(walk.alloc, ty, path, Beginning::Value(e), out),
+    }
+}
+
+/// Puts the part that an initialiser word initialises.
+fn put_word<'a>(
+    walk: &Elaborator,
+    ty: TypeId,
+    path: &[CellStep],
+    out: &mut Vec<PartGiven<'a>>,
+) -> Result<(), NoMemory>
+    ensures known { OnOk result (IsKnown walk.now.types ty) }
+    ensures part { OnOk result (out.new.items ≡ out.old.items ++ part_given path.now ty begins.Word ∷ []) }
+{
+    let ty = known(walk.types.table(), ty)?;
+    put_part(walk.alloc, ty, path, Beginning::Word, out)
 }
 
 /// The part that an expression, or an initialiser word, initialises.
@@ -128,14 +180,13 @@ fn given_by_expression<'a>(
     path: &[CellStep],
     e: &'a Expr,
     out: &mut Vec<PartGiven<'a>>,
-) -> Result<(), NoMemory> {
-    let alloc = walk.alloc;
-    if is_word(walk, e.ordinal) {
-        return put_part(alloc, ty, path, Beginning::Word, out);
-    }
-    match count_of(walk.types.table(), ty)? {
-        Some(count) => put_text(alloc, ty, path, e, count, out),
-        None => put_part(alloc, ty, path, Beginning::Value(e), out),
+) -> Result<(), NoMemory>
+    ensures { OnOk result (Puts out.old.items out.new.items (GivesToExpr walk.now ty path.now e.now)) }
+{
+    if is_word(walk, e.ordinal)? {
+        put_word(walk, ty, path, out)
+    } else {
+        put_value(walk, ty, path, e, out)
     }
 }
 
@@ -148,13 +199,19 @@ fn given_by_entry<'a>(
     number: u32,
     entry: &'a Entry,
     out: &mut Vec<PartGiven<'a>>,
-) -> Result<(), NoMemory> {
+) -> Result<(), NoMemory>
+    ensures { OnOk result (Puts out.old.items out.new.items
+        (GivesToEntry walk.now ty path.now number entry.now)) }
+{
+    if !entry.designators.list().is_empty() {
+        return Err(nowhere());
+    }
     let part = part_at(walk.types.table(), ty, number)?;
     let inner = longer_path(walk.alloc, path, part.step)?;
     given(walk, part.ty, inner.list(), &entry.init, out)
 }
 
-/// The parts that the entries of a list initialise (`AreGivenByEntries`). None of them has a designator (30).
+/// The parts that the entries of a list initialise (`AreGivenByEntries`).
 #[cycle(given)]
 fn given_by_entries<'a>(
     walk: &Elaborator,
@@ -162,7 +219,10 @@ fn given_by_entries<'a>(
     path: &[CellStep],
     entries: &'a [Entry],
     out: &mut Vec<PartGiven<'a>>,
-) -> Result<(), NoMemory> {
+) -> Result<(), NoMemory>
+    ensures { OnOk result (Puts out.old.items out.new.items
+        (GivesToEntries walk.now ty path.now entries.now)) }
+{
     let mut number: u32 = 0;
     for entry in entries {
         given_by_entry(walk, ty, path, number, entry, out)?;
@@ -176,10 +236,30 @@ fn given_by_entries<'a>(
 
 /// Whether a list is a text alone that initialises an object of this type, as the text would without the braces
 /// (C99 6.7.8, 14).
-fn is_braced_text(walk: &Elaborator, ty: TypeId, list: &InitList) -> Result<bool, NoMemory> {
+fn is_braced_text(walk: &Elaborator, ty: TypeId, list: &InitList) -> Result<bool, NoMemory>
+    ensures { IfOk result (λ is.
+        is ≡ is_text_for (meaning walk.now.types ty) (text_alone (out-InitList list.now).entries)) }
+{
     let ty = known(walk.types.table(), ty)?;
     let braces = braces_of(list)?;
     Ok(is_text_for(walk.types.table(), ty, braces.text))
+}
+
+/// The parts that a text in braces initialises, which is all of its list.
+#[cycle(given)]
+fn given_by_text<'a>(
+    walk: &Elaborator,
+    ty: TypeId,
+    path: &[CellStep],
+    entries: &'a [Entry],
+    out: &mut Vec<PartGiven<'a>>,
+) -> Result<(), NoMemory>
+    ensures { OnOk result (Puts out.old.items out.new.items (GivesToText walk.now ty path.now entries.now)) }
+{
+    if entries.is_empty() || !entries[0].designators.list().is_empty() {
+        return Err(nowhere());
+    }
+    given(walk, ty, path, &entries[0].init, out)
 }
 
 /// The parts that a list in braces initialises; a text that is all of it initialises the array itself.
@@ -190,15 +270,14 @@ fn given_by_list<'a>(
     path: &[CellStep],
     list: &'a InitList,
     out: &mut Vec<PartGiven<'a>>,
-) -> Result<(), NoMemory> {
-    let entries = list.entries.list();
+) -> Result<(), NoMemory>
+    ensures { OnOk result (Puts out.old.items out.new.items (GivesToList walk.now ty path.now list.now)) }
+{
     if is_braced_text(walk, ty, list)? {
-        return match entries.first() {
-            Some(entry) => given(walk, ty, path, &entry.init, out),
-            None => Err(nowhere()),
-        };
+        given_by_text(walk, ty, path, list.entries.list(), out)
+    } else {
+        given_by_entries(walk, ty, path, list.entries.list(), out)
     }
-    given_by_entries(walk, ty, path, entries, out)
 }
 
 /// The parts of an object of this type, to which the path leads, that its initialiser names (`AreGiven`).
@@ -209,7 +288,9 @@ fn given<'a>(
     path: &[CellStep],
     init: &'a Init,
     out: &mut Vec<PartGiven<'a>>,
-) -> Result<(), NoMemory> {
+) -> Result<(), NoMemory>
+    ensures { OnOk result (Puts out.old.items out.new.items (GivesTo walk.now ty path.now init.now)) }
+{
     match init {
         Init::Expr(e) => given_by_expression(walk, ty, path, e, out),
         Init::List(list) => given_by_list(walk, ty, path, list, out),
@@ -222,7 +303,9 @@ pub(crate) fn put_given<'a>(
     ty: TypeId,
     init: &'a Init,
     out: &mut Vec<PartGiven<'a>>,
-) -> Result<(), NoMemory> {
+) -> Result<(), NoMemory>
+    ensures { OnOk result (Puts out.old.items out.new.items (GivesTo walk.now ty [] init.now)) }
+{
     let whole = path_of(walk.alloc, &[])?;
     given(walk, ty, whole.list(), init, out)
 }

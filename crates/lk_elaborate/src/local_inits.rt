@@ -1,4 +1,13 @@
 //! What the declaration of a local gives it (C99 6.7.8).
+ghost use Rattle.std.specs.Prelude.{IfOk, OnOk, []};
+ghost use Rattle.lk_elab_expr.specs.Leading.{Grows};
+ghost use Rattle.lk_elaborate.specs.Cells.{cells_given};
+ghost use Rattle.lk_elaborate.specs.Giving.{GivesTo};
+ghost use Rattle.lk_elaborate.specs.Places.{ArePut};
+ghost use Rattle.lk_elaborate.specs.Settled.{fields_listed};
+ghost use Rattle.lk_typed.specs.Meaning.{meaning};
+ghost use Rattle.lk_elaborate.specs.LocalParts.{GivesLocalInit};
+ghost use Rattle.lk_elaborate.specs.LocalParts.{BeginsLocal, GivesLocalPart, GivesLocalParts, GivesLocalValue};
 
 use crate::absent::absent_cells;
 use crate::givens::{Beginning, PartGiven, put_given};
@@ -10,13 +19,19 @@ use lk_typed::{AbsentCells, ExprType, LocalInit, LocalPart, LocalValue};
 use lk_types::TypeId;
 
 /// The value of an expression, converted to the type of a part.
-fn value_for(walk: &mut Elaborator, ty: TypeId, e: &Expr) -> Result<LocalValue, NoMemory> {
+fn value_for(walk: &mut Elaborator, ty: TypeId, e: &Expr) -> Result<LocalValue, NoMemory>
+    ensures value { IfOk result (GivesLocalValue walk.old walk.new ty e.now) }
+    ensures grows { OnOk result (Grows walk.old walk.new) }
+{
     let value = given_value(walk, e, &ExprType::Listed(ty), false)?;
     Ok(LocalValue::Expr(value))
 }
 
 /// What a part of a local begins with (`IsLocalValue`).
-fn local_value(walk: &mut Elaborator, given: &PartGiven<'_>) -> Result<LocalValue, NoMemory> {
+fn local_value(walk: &mut Elaborator, given: &PartGiven<'_>) -> Result<LocalValue, NoMemory>
+    ensures value { IfOk result (BeginsLocal walk.old walk.new given.now) }
+    ensures grows { OnOk result (Grows walk.old walk.new) }
+{
     match &given.begins {
         Beginning::Value(e) => value_for(walk, given.ty, e),
         Beginning::Bytes(spot, ordinal, bytes) => {
@@ -28,7 +43,10 @@ fn local_value(walk: &mut Elaborator, given: &PartGiven<'_>) -> Result<LocalValu
 }
 
 /// A part of a local (`IsLocalPart`).
-fn local_part(walk: &mut Elaborator, given: &PartGiven<'_>) -> Result<LocalPart, NoMemory> {
+fn local_part(walk: &mut Elaborator, given: &PartGiven<'_>) -> Result<LocalPart, NoMemory>
+    ensures part { IfOk result (GivesLocalPart walk.old walk.new given.now) }
+    ensures grows { OnOk result (Grows walk.old walk.new) }
+{
     let path = path_of(walk.alloc, given.path.list())?;
     let value = local_value(walk, given)?;
     Ok(LocalPart {
@@ -39,10 +57,10 @@ fn local_part(walk: &mut Elaborator, given: &PartGiven<'_>) -> Result<LocalPart,
 }
 
 /// The parts of a local (`AreLocalParts`).
-fn local_parts(
-    walk: &mut Elaborator,
-    givens: &[PartGiven<'_>],
-) -> Result<Vec<LocalPart>, NoMemory> {
+fn local_parts(walk: &mut Elaborator, givens: &[PartGiven<'_>]) -> Result<Vec<LocalPart>, NoMemory>
+    ensures parts { IfOk result (λ parts. GivesLocalParts walk.old walk.new givens.now parts.items) }
+    ensures grows { OnOk result (Grows walk.old walk.new) }
+{
     let mut parts = Vec::new(walk.alloc);
     for given in givens {
         let part = local_part(walk, given)?;
@@ -51,20 +69,29 @@ fn local_parts(
     Ok(parts)
 }
 
-/// The parts of a local of this type that its initialiser names.
-fn named_parts(walk: &mut Elaborator, ty: TypeId, init: &Init) -> Result<Vec<LocalPart>, NoMemory> {
+/// The parts that an initialiser of an object of this type names.
+fn parts_given<'a>(
+    walk: &Elaborator,
+    ty: TypeId,
+    init: &'a Init,
+) -> Result<Vec<PartGiven<'a>>, NoMemory>
+    ensures { IfOk result (λ givens. GivesTo walk.now ty [] init.now givens.items) }
+{
     let mut givens = Vec::new(walk.alloc);
     put_given(walk, ty, init, &mut givens)?;
-    local_parts(walk, givens.as_slice())
+    Ok(givens)
 }
 
 /// The cells of a local of this type that these parts don't name.
 fn absent_from(
     walk: &Elaborator,
     ty: TypeId,
-    named: &[LocalPart],
-) -> Result<Vec<AbsentCells>, NoMemory> {
-    absent_cells(walk.alloc, walk.types.table(), ty, named)
+    givens: &[PartGiven<'_>],
+) -> Result<Vec<AbsentCells>, NoMemory>
+    ensures { IfOk result (λ absent.
+        ArePut (fields_listed walk.now.types) (cells_given givens.now) [] (meaning walk.now.types ty) absent.items) }
+{
+    absent_cells(walk.alloc, walk.types.table(), ty, givens)
 }
 
 /// The initialiser of the local that a node declares, an object of this type (`IsLocalInit`).
@@ -73,10 +100,14 @@ pub(crate) fn local_init(
     ordinal: u32,
     ty: TypeId,
     init: &Init,
-) -> Result<LocalInit, NoMemory> {
+) -> Result<LocalInit, NoMemory>
+    ensures init { IfOk result (GivesLocalInit walk.old walk.new ordinal ty init.now) }
+    ensures grows { OnOk result (Grows walk.old walk.new) }
+{
     let local = walk.locals.number_of(ordinal)?;
-    let named = named_parts(walk, ty, init)?;
-    let absent = absent_from(walk, ty, named.as_slice())?;
+    let givens = parts_given(walk, ty, init)?;
+    let absent = absent_from(walk, ty, givens.as_slice())?;
+    let named = local_parts(walk, givens.as_slice())?;
     Ok(LocalInit {
         local,
         named: Seq::new(named),

@@ -1,4 +1,11 @@
 //! What address constants point to (C99 6.6, 9; 6.5.6, 7 and 8).
+ghost use Rattle.std.specs.Prelude.{◌≡◌, [], false, nat_lt, IfOk, ℕ};
+ghost use Rattle.lk_typed.specs.Addresses as spec;
+ghost use Rattle.lk_typed.specs.Addresses.{count_of, inside, part_of, steps_to};
+ghost use Rattle.lk_typed.specs.Statics.{element_reached, reached};
+ghost use Rattle.lk_typed.specs.Typing as typing;
+ghost use Rattle.lk_elaborate.specs.declared.positions.Anchor.{Anchor};
+ghost use Rattle.lk_elaborate.specs.Reaching.{address_in, position_in};
 
 use lk_base::{CellStep, NoMemory, Seq};
 use lk_check_decl::MOST_ELEMENTS;
@@ -49,7 +56,10 @@ struct End {
 }
 
 /// The place of what has static storage.
-pub(crate) fn whole(alloc: Global, anchor: Anchor) -> Reached {
+pub(crate) fn whole(alloc: Global, anchor: Anchor) -> Reached
+    ensures { (at : Anchor → typing.Anchor) (of : ℕ → ℕ) → address_in at of result ≡ typing.Inside
+        (record { anchor = at anchor; steps = []; is_element = false; index = 0; count = 1 }) }
+{
     Reached::Inside(Position {
         anchor,
         steps: Seq::new(Vec::new(alloc)),
@@ -59,14 +69,26 @@ pub(crate) fn whole(alloc: Global, anchor: Anchor) -> Reached {
     })
 }
 
+/// How many elements an array has; the most that an array may have where its size isn't known.
+fn counted(count: u64) -> u64
+    ensures { result ≡ count_of count }
+{
+    if count == 0 { MOST_ELEMENTS } else { count }
+}
+
 impl Position {
     /// Whether something is there.
-    fn is_there(&self) -> bool {
+    fn is_there(&self) -> bool
+        ensures { result ≡ nat_lt self.now.index self.now.count }
+    {
         self.index < self.count
     }
 
     /// The place with all its steps in front of the part that is looked for.
-    fn stepped(self) -> Result<Position, NoMemory> {
+    fn stepped(self) -> Result<Position, NoMemory>
+        ensures { IfOk result (λ place. (at : Anchor → typing.Anchor) →
+            place ≡ record self { steps = steps_to (position_in at self) }) }
+    {
         let mut place = self;
         if place.is_element {
             place.steps.push(CellStep::Index(place.index))?;
@@ -75,19 +97,25 @@ impl Position {
     }
 
     /// The first element of the array of so many that is there.
-    fn first_element(self, count: u64) -> Result<Reached, NoMemory> {
+    fn first_element(self, count: u64) -> Result<Reached, NoMemory>
+        ensures { IfOk result (λ r. (at : Anchor → typing.Anchor) (of : ℕ → ℕ) → address_in at of r ≡
+            part_of (position_in at self) (spec.first_element (count_of count) (position_in at self))) }
+    {
         if !self.is_there() {
             return Ok(Reached::Nowhere);
         }
         let mut place = self.stepped()?;
         place.is_element = true;
         place.index = 0;
-        place.count = if count == 0 { MOST_ELEMENTS } else { count };
+        place.count = counted(count);
         Ok(Reached::Inside(place))
     }
 
     /// The member with this number of the struct that is there.
-    fn member(self, number: u32) -> Result<Reached, NoMemory> {
+    fn member(self, number: u32) -> Result<Reached, NoMemory>
+        ensures { IfOk result (λ r. (at : Anchor → typing.Anchor) (of : ℕ → ℕ) → address_in at of r ≡
+            part_of (position_in at self) (spec.member_at number (position_in at self))) }
+    {
         if !self.is_there() {
             return Ok(Reached::Nowhere);
         }
@@ -117,7 +145,10 @@ impl Position {
     }
 
     /// Where the element is, or where the one before is where it is one past the last.
-    fn end_of_element(self) -> Result<End, NoMemory> {
+    fn end_of_element(self) -> Result<End, NoMemory>
+        ensures { IfOk result (λ end. element_reached self.steps self.index (nat_lt self.index self.count) ≡
+            record { steps = end.steps; is_past = end.is_past }) }
+    {
         let is_there = self.is_there();
         let Position { steps, index, .. } = self;
         let mut steps = steps;
@@ -136,7 +167,10 @@ impl Position {
     }
 
     /// Where it is.
-    fn end(self) -> Result<End, NoMemory> {
+    fn end(self) -> Result<End, NoMemory>
+        ensures { IfOk result (λ end. (at : Anchor → typing.Anchor) →
+            reached (position_in at self) ≡ record { steps = end.steps; is_past = end.is_past }) }
+    {
         if self.is_element {
             return self.end_of_element();
         }
@@ -158,7 +192,10 @@ impl Position {
 
 impl Reached {
     /// The first element of the array of so many at a place.
-    pub(crate) fn first_element(self, count: u64) -> Result<Reached, NoMemory> {
+    pub(crate) fn first_element(self, count: u64) -> Result<Reached, NoMemory>
+        ensures { IfOk result (λ r. (at : Anchor → typing.Anchor) (of : ℕ → ℕ) → address_in at of r ≡
+            inside (spec.first_element (count_of count)) (address_in at of self)) }
+    {
         match self {
             Reached::Inside(place) => place.first_element(count),
             Reached::NotAddress => Ok(Reached::NotAddress),
@@ -167,7 +204,10 @@ impl Reached {
     }
 
     /// The member with this number of the struct at a place.
-    pub(crate) fn member(self, number: u32) -> Result<Reached, NoMemory> {
+    pub(crate) fn member(self, number: u32) -> Result<Reached, NoMemory>
+        ensures { IfOk result (λ r. (at : Anchor → typing.Anchor) (of : ℕ → ℕ) → address_in at of r ≡
+            inside (spec.member_at number) (address_in at of self)) }
+    {
         match self {
             Reached::Inside(place) => place.member(number),
             Reached::NotAddress => Ok(Reached::NotAddress),

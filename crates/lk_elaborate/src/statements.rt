@@ -1,11 +1,23 @@
 //! Statements (C99 6.8).
 //!
 //! An expression declares nothing, so the value of a statement may be made behind the statements in it.
+ghost use Rattle.std.specs.Prelude.{◌≡◌, [], IfOk, OnOk};
+ghost use Rattle.lk_tree.specs.declared.statement.BlockItem.TheOpen.{StmtForm-F};
+ghost use Rattle.lk_tree.specs.declared.statement.StmtForm.{out-StmtForm};
+ghost use Rattle.lk_typed.specs.Meaning.{IsKnownType};
+ghost use Rattle.lk_typed.specs.declared.statement.TypedStmtForm.{out-TypedStmtForm};
+ghost use Rattle.lk_typed.specs.declared.statement.TypedItem.TheOpen.{TypedStmtForm-F};
+ghost use Rattle.lk_elab_expr.specs.Known.{OfEach};
+ghost use Rattle.lk_elab_expr.specs.Leading.{Grows, GoesOn};
+ghost use Rattle.lk_elaborate.specs.Asking.{HasPromoted};
+ghost use Rattle.lk_elaborate.specs.Making.{FindsSwitch, IsKindOf, MakesElse, MakesFirst, MakesForm};
+ghost use Rattle.lk_elaborate.specs.Making.{MakesGiven, MakesHead, MakesIf, MakesItem, MakesItems};
+ghost use Rattle.lk_elaborate.specs.Making.{MakesPerhaps, MakesStatement, MakesSwitched, MakesValue};
 
 use crate::cases::{Cases, cases_of};
 use crate::declarations::block_declaration;
 use crate::labels::label_named;
-use lk_base::{Boxed, Kind, NoMemory, Seq};
+use lk_base::{Boxed, Kind, Name, NoMemory, Seq};
 use lk_check_decl::Label;
 use lk_elab_expr::{
     Elaborator, converted, expression, given_value, promoted_type, value_at, value_node,
@@ -13,6 +25,7 @@ use lk_elab_expr::{
 use lk_tree::{BlockItem, Expr, ForFirst, Stmt, StmtForm};
 use lk_typed::{ExprType, TypedExpr, TypedFirst, TypedItem, TypedStmt, TypedStmtForm, kind_of};
 use lk_types::TypeId;
+use std::alloc::Global;
 
 /// What stands round a statement.
 #[derive(Drop)]
@@ -32,13 +45,20 @@ struct ForHead {
 }
 
 /// The value of an expression of a statement.
-fn statement_value(walk: &mut Elaborator, e: &Expr) -> Result<TypedExpr, NoMemory> {
+fn statement_value(walk: &mut Elaborator, e: &Expr) -> Result<TypedExpr, NoMemory>
+    ensures makes { IfOk result (MakesValue walk.old walk.new e.now) }
+    ensures grows { OnOk result (Grows walk.old walk.new) }
+{
     let node = expression(walk, e, false)?;
-    value_node(walk, node)
+    let value = value_node(walk, node)?;
+    Ok(value)
 }
 
 /// The same of one that may be missing (`IsPerhaps`).
-fn value_if_any(walk: &mut Elaborator, e: &Option<Expr>) -> Result<Option<TypedExpr>, NoMemory> {
+fn value_if_any(walk: &mut Elaborator, e: &Option<Expr>) -> Result<Option<TypedExpr>, NoMemory>
+    ensures makes { IfOk result (MakesPerhaps walk.old walk.new e.now) }
+    ensures grows { OnOk result (Grows walk.old walk.new) }
+{
     match e {
         Some(e) => Ok(Some(statement_value(walk, e)?)),
         None => Ok(None),
@@ -46,51 +66,80 @@ fn value_if_any(walk: &mut Elaborator, e: &Option<Expr>) -> Result<Option<TypedE
 }
 
 /// The type to which the value of a `switch` is promoted (C99 6.8.4.2, 5).
-fn switch_type(walk: &Elaborator, ordinal: u32) -> Result<ExprType, NoMemory> {
+fn switch_type(walk: &Elaborator, ordinal: u32) -> Result<ExprType, NoMemory>
+    ensures known { IfOk result (IsKnownType walk.now.types) }
+    ensures value { IfOk result (λ target. OfEach walk.now ordinal (HasPromoted walk.now.types target)) }
+{
     let value = value_at(walk, ordinal)?;
     Ok(promoted_type(walk.types.table(), &value.ty))
 }
 
 /// The value of a `switch`, which is promoted.
-fn switch_value(walk: &mut Elaborator, e: &Expr) -> Result<TypedExpr, NoMemory> {
+fn switch_value(walk: &mut Elaborator, e: &Expr) -> Result<TypedExpr, NoMemory>
+    ensures makes { IfOk result (MakesSwitched walk.old walk.new e.now) }
+    ensures grows { OnOk result (Grows walk.old walk.new) }
+{
     let target = switch_type(walk, e.ordinal)?;
     let node = expression(walk, e, false)?;
-    converted(walk, node, &target)
+    let value = converted(walk, node, &target)?;
+    Ok(value)
 }
 
 /// The kind of the value of a `switch`.
-fn switch_kind(walk: &Elaborator, ordinal: u32) -> Result<Option<Kind>, NoMemory> {
-    let value = value_at(walk, ordinal)?;
+fn switch_kind(walk: &Elaborator, e: &Expr) -> Result<Option<Kind>, NoMemory>
+    ensures { IfOk result (IsKindOf walk.now e.now) }
+{
+    let value = value_at(walk, e.ordinal)?;
     Ok(kind_of(walk.types.table(), &value.ty))
 }
 
 /// The cases of a `switch` with this value, which stand in this statement.
-fn switch_cases(walk: &Elaborator, e: &Expr, inner: &Stmt) -> Result<Cases, NoMemory> {
-    let kind = switch_kind(walk, e.ordinal)?;
-    cases_of(walk.alloc, &walk.records, kind, inner)
+fn switch_cases(walk: &Elaborator, e: &Expr, inner: &Stmt) -> Result<Cases, NoMemory>
+    ensures { IfOk result (FindsSwitch walk.now e.now inner.now) }
+{
+    let kind = switch_kind(walk, e)?;
+    let cases = cases_of(walk, kind, inner)?;
+    Ok(cases)
 }
 
 /// The first part of a `for` (`IsFirst`).
-fn first_part(walk: &mut Elaborator, first: &ForFirst) -> Result<TypedFirst, NoMemory> {
+fn first_part(walk: &mut Elaborator, first: &ForFirst) -> Result<TypedFirst, NoMemory>
+    ensures makes { IfOk result (MakesFirst walk.old walk.new first.now) }
+    ensures goes_on { OnOk result (GoesOn walk.old walk.new) }
+{
     match first {
-        ForFirst::Expr(e) => Ok(TypedFirst::Expr(value_if_any(walk, e)?)),
-        ForFirst::Declare(node) => Ok(TypedFirst::Declare(block_declaration(walk, node)?)),
+        ForFirst::Expr(e) => {
+            let value = value_if_any(walk, e)?;
+            Ok(TypedFirst::Expr(value))
+        }
+        ForFirst::Declare(node) => {
+            let inits = block_declaration(walk, node)?;
+            Ok(TypedFirst::Declare(inits))
+        }
     }
 }
 
 /// The first part of a `for`, in a box.
-fn boxed_first(walk: &mut Elaborator, first: &ForFirst) -> Result<Boxed<TypedFirst>, NoMemory> {
+fn boxed_first(walk: &mut Elaborator, first: &ForFirst) -> Result<Boxed<TypedFirst>, NoMemory>
+    ensures makes { IfOk result (MakesFirst walk.old walk.new first.now) }
+    ensures goes_on { OnOk result (GoesOn walk.old walk.new) }
+{
     let first = first_part(walk, first)?;
-    Boxed::new(walk.alloc, first)
+    let first = Boxed::new(walk.alloc, first)?;
+    Ok(first)
 }
 
 /// The value of an expression that may be missing, in a box.
 fn boxed_value(
     walk: &mut Elaborator,
     e: &Option<Expr>,
-) -> Result<Boxed<Option<TypedExpr>>, NoMemory> {
+) -> Result<Boxed<Option<TypedExpr>>, NoMemory>
+    ensures makes { IfOk result (MakesPerhaps walk.old walk.new e.now) }
+    ensures grows { OnOk result (Grows walk.old walk.new) }
+{
     let value = value_if_any(walk, e)?;
-    Boxed::new(walk.alloc, value)
+    let value = Boxed::new(walk.alloc, value)?;
+    Ok(value)
 }
 
 /// The head of a `for`. Its first part comes first, which may declare what the others name.
@@ -99,7 +148,11 @@ fn for_head(
     first: &ForFirst,
     test: &Option<Expr>,
     step: &Option<Expr>,
-) -> Result<ForHead, NoMemory> {
+) -> Result<ForHead, NoMemory>
+    ensures makes { IfOk result (λ head.
+        MakesHead walk.old walk.new first.now test.now step.now head.first head.test head.step) }
+    ensures goes_on { OnOk result (GoesOn walk.old walk.new) }
+{
     let first = boxed_first(walk, first)?;
     let test = boxed_value(walk, test)?;
     let step = boxed_value(walk, step)?;
@@ -107,18 +160,29 @@ fn for_head(
 }
 
 /// The value that a `return` gives, which is converted to the function's result (C99 6.8.6.4, 3).
-fn returned_value(walk: &mut Elaborator, e: &Expr, t: TypeId) -> Result<TypedExpr, NoMemory> {
-    given_value(walk, e, &ExprType::Listed(t), false)
+fn returned_value(walk: &mut Elaborator, e: &Expr, t: TypeId) -> Result<TypedExpr, NoMemory>
+    ensures makes { IfOk result (MakesGiven walk.old walk.new e.now t) }
+    ensures grows { OnOk result (Grows walk.old walk.new) }
+{
+    let value = given_value(walk, e, &ExprType::Listed(t), false)?;
+    Ok(value)
 }
 
 /// A `return`.
 fn returning(
     walk: &mut Elaborator,
     e: &Option<Expr>,
-    t: TypeId,
-) -> Result<TypedStmtForm, NoMemory> {
+    around: &Around,
+) -> Result<TypedStmtForm, NoMemory>
+    ensures makes { IfOk result (λ form.
+        MakesForm walk.old walk.new around.now (StmtForm-F.Return e.now) (out-TypedStmtForm form)) }
+    ensures goes_on { OnOk result (GoesOn walk.old walk.new) }
+{
     match e {
-        Some(e) => Ok(TypedStmtForm::Return(Some(returned_value(walk, e, t)?))),
+        Some(e) => {
+            let value = returned_value(walk, e, around.returned)?;
+            Ok(TypedStmtForm::Return(Some(value)))
+        }
         None => Ok(TypedStmtForm::Return(None)),
     }
 }
@@ -129,9 +193,13 @@ fn statement_part(
     walk: &mut Elaborator,
     s: &Stmt,
     around: &Around,
-) -> Result<Boxed<TypedStmt>, NoMemory> {
+) -> Result<Boxed<TypedStmt>, NoMemory>
+    ensures makes { IfOk result (MakesStatement walk.old walk.new around.now s.now) }
+    ensures goes_on { OnOk result (GoesOn walk.old walk.new) }
+{
     let made = statement(walk, s, around)?;
-    Boxed::new(walk.alloc, made)
+    let made = Boxed::new(walk.alloc, made)?;
+    Ok(made)
 }
 
 /// The same of one that may be missing (`IsElse`).
@@ -140,9 +208,15 @@ fn part_if_any(
     walk: &mut Elaborator,
     s: &Option<Boxed<Stmt>>,
     around: &Around,
-) -> Result<Option<Boxed<TypedStmt>>, NoMemory> {
+) -> Result<Option<Boxed<TypedStmt>>, NoMemory>
+    ensures makes { IfOk result (MakesElse walk.old walk.new around.now s.now) }
+    ensures goes_on { OnOk result (GoesOn walk.old walk.new) }
+{
     match s {
-        Some(s) => Ok(Some(statement_part(walk, s.get(), around)?)),
+        Some(s) => {
+            let made = statement_part(walk, s.get(), around)?;
+            Ok(Some(made))
+        }
         None => Ok(None),
     }
 }
@@ -153,11 +227,27 @@ fn block_item(
     walk: &mut Elaborator,
     item: &BlockItem,
     around: &Around,
-) -> Result<TypedItem, NoMemory> {
+) -> Result<TypedItem, NoMemory>
+    ensures makes { IfOk result (MakesItem walk.old walk.new around.now item.now) }
+    ensures goes_on { OnOk result (GoesOn walk.old walk.new) }
+{
     match item {
-        BlockItem::Declare(node) => Ok(TypedItem::Declare(block_declaration(walk, node)?)),
-        BlockItem::Stmt(inner) => Ok(TypedItem::Stmt(statement(walk, inner, around)?)),
+        BlockItem::Declare(node) => {
+            let inits = block_declaration(walk, node)?;
+            Ok(TypedItem::Declare(inits))
+        }
+        BlockItem::Stmt(inner) => {
+            let made = statement(walk, inner, around)?;
+            Ok(TypedItem::Stmt(made))
+        }
     }
+}
+
+/// No item.
+fn no_items(alloc: Global) -> Seq<TypedItem>
+    ensures { result ≡ [] }
+{
+    Seq::new(Vec::new(alloc))
 }
 
 /// The items of a block (`AreItems`).
@@ -166,8 +256,11 @@ pub(crate) fn block_items(
     walk: &mut Elaborator,
     items: &[BlockItem],
     around: &Around,
-) -> Result<Seq<TypedItem>, NoMemory> {
-    let mut made = Seq::new(Vec::new(walk.alloc));
+) -> Result<Seq<TypedItem>, NoMemory>
+    ensures makes { IfOk result (MakesItems walk.old walk.new around.now items.now) }
+    ensures goes_on { OnOk result (GoesOn walk.old walk.new) }
+{
+    let mut made = no_items(walk.alloc);
     for item in items {
         let item = block_item(walk, item, around)?;
         made.push(item)?;
@@ -181,13 +274,19 @@ fn if_form(
     e: &Expr,
     taken: Boxed<TypedStmt>,
     other: Option<Boxed<TypedStmt>>,
-) -> Result<TypedStmtForm, NoMemory> {
+) -> Result<TypedStmtForm, NoMemory>
+    ensures makes { IfOk result (λ form.
+        MakesIf walk.old walk.new e.now taken other (out-TypedStmtForm form)) }
+    ensures grows { OnOk result (Grows walk.old walk.new) }
+{
     let condition = statement_value(walk, e)?;
     Ok(TypedStmtForm::If(condition, taken, other))
 }
 
 /// A `switch` with these cases.
-fn switch_form(value: TypedExpr, found: Cases, inner: Boxed<TypedStmt>) -> TypedStmtForm {
+fn switch_form(value: TypedExpr, found: Cases, inner: Boxed<TypedStmt>) -> TypedStmtForm
+    ensures { out-TypedStmtForm result ≡ TypedStmtForm-F.Switch value found.cases found.default inner }
+{
     let Cases { cases, default } = found;
     TypedStmtForm::Switch(value, cases, default, inner)
 }
@@ -199,7 +298,11 @@ fn switch_statement(
     inner: &Stmt,
     e: &Expr,
     around: &Around,
-) -> Result<TypedStmtForm, NoMemory> {
+) -> Result<TypedStmtForm, NoMemory>
+    ensures makes { IfOk result (λ form. MakesForm walk.old walk.new around.now
+        (StmtForm-F.Switch e.now inner.now) (out-TypedStmtForm form)) }
+    ensures goes_on { OnOk result (GoesOn walk.old walk.new) }
+{
     let found = switch_cases(walk, e, inner)?;
     let inner = statement_part(walk, inner, around)?;
     let value = switch_value(walk, e)?;
@@ -213,7 +316,11 @@ fn while_loop(
     inner: &Stmt,
     e: &Expr,
     around: &Around,
-) -> Result<TypedStmtForm, NoMemory> {
+) -> Result<TypedStmtForm, NoMemory>
+    ensures makes { IfOk result (λ form. MakesForm walk.old walk.new around.now
+        (StmtForm-F.While e.now inner.now) (out-TypedStmtForm form)) }
+    ensures goes_on { OnOk result (GoesOn walk.old walk.new) }
+{
     let inner = statement_part(walk, inner, around)?;
     let condition = statement_value(walk, e)?;
     Ok(TypedStmtForm::While(condition, inner))
@@ -226,14 +333,20 @@ fn until_loop(
     inner: &Stmt,
     e: &Expr,
     around: &Around,
-) -> Result<TypedStmtForm, NoMemory> {
+) -> Result<TypedStmtForm, NoMemory>
+    ensures makes { IfOk result (λ form. MakesForm walk.old walk.new around.now
+        (StmtForm-F.Until inner.now e.now) (out-TypedStmtForm form)) }
+    ensures goes_on { OnOk result (GoesOn walk.old walk.new) }
+{
     let inner = statement_part(walk, inner, around)?;
     let condition = statement_value(walk, e)?;
     Ok(TypedStmtForm::Until(inner, condition))
 }
 
 /// A `for` with this head.
-fn for_form(head: ForHead, inner: Boxed<TypedStmt>) -> TypedStmtForm {
+fn for_form(head: ForHead, inner: Boxed<TypedStmt>) -> TypedStmtForm
+    ensures { out-TypedStmtForm result ≡ TypedStmtForm-F.For head.first head.test head.step inner }
+{
     let ForHead { first, test, step } = head;
     TypedStmtForm::For(
         first.into_inner(),
@@ -248,11 +361,108 @@ fn for_form(head: ForHead, inner: Boxed<TypedStmt>) -> TypedStmtForm {
 fn for_loop(
     walk: &mut Elaborator,
     inner: &Stmt,
-    head: ForHead,
+    first: &ForFirst,
+    test: &Option<Expr>,
+    step: &Option<Expr>,
     around: &Around,
-) -> Result<TypedStmtForm, NoMemory> {
+) -> Result<TypedStmtForm, NoMemory>
+    ensures makes { IfOk result (λ form. MakesForm walk.old walk.new around.now
+        (StmtForm-F.For first.now test.now step.now inner.now) (out-TypedStmtForm form)) }
+    ensures goes_on { OnOk result (GoesOn walk.old walk.new) }
+{
+    let head = for_head(walk, first, test, step)?;
     let inner = statement_part(walk, inner, around)?;
     Ok(for_form(head, inner))
+}
+
+/// A `case` (C99 6.8.1).
+#[cycle(statements)]
+fn case(
+    walk: &mut Elaborator,
+    inner: &Stmt,
+    e: &Expr,
+    around: &Around,
+) -> Result<TypedStmtForm, NoMemory>
+    ensures makes { IfOk result (λ form. MakesForm walk.old walk.new around.now
+        (StmtForm-F.Case e.now inner.now) (out-TypedStmtForm form)) }
+    ensures goes_on { OnOk result (GoesOn walk.old walk.new) }
+{
+    let _e = e;
+    let inner = statement_part(walk, inner, around)?;
+    Ok(TypedStmtForm::Case(inner))
+}
+
+/// A `default` (C99 6.8.1).
+#[cycle(statements)]
+fn default_case(
+    walk: &mut Elaborator,
+    inner: &Stmt,
+    around: &Around,
+) -> Result<TypedStmtForm, NoMemory>
+    ensures makes { IfOk result (λ form. MakesForm walk.old walk.new around.now
+        (StmtForm-F.Default inner.now) (out-TypedStmtForm form)) }
+    ensures goes_on { OnOk result (GoesOn walk.old walk.new) }
+{
+    let inner = statement_part(walk, inner, around)?;
+    Ok(TypedStmtForm::Default(inner))
+}
+
+/// A labelled statement (C99 6.8.1).
+#[cycle(statements)]
+fn labelled(
+    walk: &mut Elaborator,
+    inner: &Stmt,
+    name: &Name,
+    around: &Around,
+) -> Result<TypedStmtForm, NoMemory>
+    ensures makes { IfOk result (λ form. MakesForm walk.old walk.new around.now
+        (StmtForm-F.Label name.now inner.now) (out-TypedStmtForm form)) }
+    ensures goes_on { OnOk result (GoesOn walk.old walk.new) }
+{
+    let _name = name;
+    let inner = statement_part(walk, inner, around)?;
+    Ok(TypedStmtForm::Label(inner))
+}
+
+/// A block (C99 6.8.2).
+#[cycle(statements)]
+fn block(
+    walk: &mut Elaborator,
+    items: &[BlockItem],
+    around: &Around,
+) -> Result<TypedStmtForm, NoMemory>
+    ensures makes { IfOk result (λ form. MakesForm walk.old walk.new around.now
+        (StmtForm-F.Block items.now) (out-TypedStmtForm form)) }
+    ensures goes_on { OnOk result (GoesOn walk.old walk.new) }
+{
+    let items = block_items(walk, items, around)?;
+    Ok(TypedStmtForm::Block(items))
+}
+
+/// An expression statement (C99 6.8.3).
+fn dropped(
+    walk: &mut Elaborator,
+    e: &Option<Expr>,
+    around: &Around,
+) -> Result<TypedStmtForm, NoMemory>
+    ensures makes { IfOk result (λ form. MakesForm walk.old walk.new around.now
+        (StmtForm-F.Do e.now) (out-TypedStmtForm form)) }
+    ensures goes_on { OnOk result (GoesOn walk.old walk.new) }
+{
+    let _around = around;
+    let value = value_if_any(walk, e)?;
+    Ok(TypedStmtForm::Do(value))
+}
+
+/// A `goto` (C99 6.8.6.1).
+fn going(walk: &mut Elaborator, name: &Name, around: &Around) -> Result<TypedStmtForm, NoMemory>
+    ensures makes { IfOk result (λ form. MakesForm walk.old walk.new around.now
+        (StmtForm-F.Goto name.now) (out-TypedStmtForm form)) }
+    ensures goes_on { OnOk result (GoesOn walk.old walk.new) }
+{
+    let _walk = walk;
+    let label = label_named(around.labels.list(), name)?;
+    Ok(TypedStmtForm::Goto(label))
 }
 
 /// What a statement is made of.
@@ -261,45 +471,42 @@ fn statement_form(
     walk: &mut Elaborator,
     s: &Stmt,
     around: &Around,
-) -> Result<TypedStmtForm, NoMemory> {
+) -> Result<TypedStmtForm, NoMemory>
+    ensures makes { IfOk result (λ form. MakesForm walk.old walk.new around.now
+        (out-StmtForm s.now.form) (out-TypedStmtForm form)) }
+    ensures goes_on { OnOk result (GoesOn walk.old walk.new) }
+{
     match &s.form {
-        StmtForm::Label(_, inner) => {
-            Ok(TypedStmtForm::Label(statement_part(walk, inner.get(), around)?))
-        }
-        StmtForm::Case(_, inner) => {
-            Ok(TypedStmtForm::Case(statement_part(walk, inner.get(), around)?))
-        }
-        StmtForm::Default(inner) => {
-            Ok(TypedStmtForm::Default(statement_part(walk, inner.get(), around)?))
-        }
-        StmtForm::Block(items) => {
-            Ok(TypedStmtForm::Block(block_items(walk, items.list(), around)?))
-        }
-        StmtForm::Do(e) => Ok(TypedStmtForm::Do(value_if_any(walk, e)?)),
+        StmtForm::Label(name, inner) => labelled(walk, inner.get(), name, around),
+        StmtForm::Case(e, inner) => case(walk, inner.get(), e, around),
+        StmtForm::Default(inner) => default_case(walk, inner.get(), around),
+        StmtForm::Block(items) => block(walk, items.list(), around),
+        StmtForm::Do(e) => dropped(walk, e, around),
         StmtForm::If(e, taken, other) => {
             let taken = statement_part(walk, taken.get(), around)?;
             let other = part_if_any(walk, other, around)?;
-            if_form(walk, e, taken, other)
+            let form = if_form(walk, e, taken, other)?;
+            Ok(form)
         }
         StmtForm::Switch(e, inner) => switch_statement(walk, inner.get(), e, around),
         StmtForm::While(e, inner) => while_loop(walk, inner.get(), e, around),
         StmtForm::Until(inner, e) => until_loop(walk, inner.get(), e, around),
         StmtForm::For(first, test, step, inner) => {
-            let head = for_head(walk, first, test, step)?;
-            for_loop(walk, inner.get(), head, around)
+            for_loop(walk, inner.get(), first, test, step, around)
         }
-        StmtForm::Goto(name) => {
-            Ok(TypedStmtForm::Goto(label_named(around.labels.list(), name)?))
-        }
+        StmtForm::Goto(name) => going(walk, name, around),
         StmtForm::Continue => Ok(TypedStmtForm::Continue),
         StmtForm::Break => Ok(TypedStmtForm::Break),
-        StmtForm::Return(e) => returning(walk, e, around.returned),
+        StmtForm::Return(e) => returning(walk, e, around),
     }
 }
 
 /// A statement (`IsStmt`).
 #[cycle(statements)]
-fn statement(walk: &mut Elaborator, s: &Stmt, around: &Around) -> Result<TypedStmt, NoMemory> {
+fn statement(walk: &mut Elaborator, s: &Stmt, around: &Around) -> Result<TypedStmt, NoMemory>
+    ensures makes { IfOk result (MakesStatement walk.old walk.new around.now s.now) }
+    ensures goes_on { OnOk result (GoesOn walk.old walk.new) }
+{
     let form = statement_form(walk, s, around)?;
     Ok(TypedStmt {
         spot: s.spot,

@@ -1,4 +1,6 @@
 //! What a scalar of static storage begins with (C99 6.6, 7 to 9; 6.7.8, 4 and 10).
+ghost use Rattle.std.specs.Prelude.{OnOk};
+ghost use Rattle.lk_elab_expr.specs.Leading.{Grows};
 
 use crate::positions::Reached;
 use crate::reached::address_of;
@@ -42,9 +44,12 @@ fn address_at(walk: &Elaborator, node: &TypedExpr) -> Result<Reached, NoMemory> 
 }
 
 /// The value of an expression that is an address constant.
-fn address_value(walk: &mut Elaborator, e: &Expr) -> Result<TypedExpr, NoMemory> {
+fn address_value(walk: &mut Elaborator, e: &Expr) -> Result<TypedExpr, NoMemory>
+    ensures { OnOk result (Grows walk.old walk.new) }
+{
     let node = expression(walk, e, true)?;
-    value_node(walk, node)
+    let value = value_node(walk, node)?;
+    Ok(value)
 }
 
 /// Whether the address that a node is, as a `_Bool`, is 0 or 1.
@@ -54,9 +59,12 @@ fn truth_at(walk: &Elaborator, node: &TypedExpr) -> Result<i128, NoMemory> {
 }
 
 /// Whether the address that an expression is, as a `_Bool`, is 0 or 1.
-fn truth(walk: &mut Elaborator, e: &Expr) -> Result<i128, NoMemory> {
+fn truth(walk: &mut Elaborator, e: &Expr) -> Result<i128, NoMemory>
+    ensures { OnOk result (Grows walk.old walk.new) }
+{
     let value = address_value(walk, e)?;
-    truth_at(walk, &value)
+    let truth = truth_at(walk, &value)?;
+    Ok(truth)
 }
 
 /// What an expression is as an integer constant expression.
@@ -70,16 +78,25 @@ fn constant_of(walk: &Elaborator, e: &Expr) -> Option<Constant> {
     }
 }
 
-/// What an integer begins with: a constant, converted; or whether an address is one.
-fn integer(walk: &mut Elaborator, kind: Kind, e: &Expr) -> Result<Begun, NoMemory> {
-    let number = match constant_of(walk, e) {
-        Some(Constant::Known(number)) => convert(kind, number),
-        Some(Constant::NotConstant | Constant::Undefined) | None => truth(walk, e)?,
-    };
-    Ok(Begun {
+/// A number with which an integer begins.
+fn begun_number(number: i128) -> Begun {
+    Begun {
         value: StaticValue::Number(number),
         pointer: None,
-    })
+    }
+}
+
+/// What an integer begins with: a constant, converted; or whether an address is one.
+fn integer(walk: &mut Elaborator, kind: Kind, e: &Expr) -> Result<Begun, NoMemory>
+    ensures { OnOk result (Grows walk.old walk.new) }
+{
+    match constant_of(walk, e) {
+        Some(Constant::Known(number)) => Ok(begun_number(convert(kind, number))),
+        Some(Constant::NotConstant | Constant::Undefined) | None => {
+            let number = truth(walk, e)?;
+            Ok(begun_number(number))
+        }
+    }
 }
 
 /// What a pointer begins with, by the node of its value.
@@ -98,9 +115,12 @@ fn begun_pointer(walk: &Elaborator, node: TypedExpr) -> Result<Begun, NoMemory> 
 }
 
 /// What a pointer begins with.
-fn pointer(walk: &mut Elaborator, ty: TypeId, e: &Expr) -> Result<Begun, NoMemory> {
+fn pointer(walk: &mut Elaborator, ty: TypeId, e: &Expr) -> Result<Begun, NoMemory>
+    ensures { OnOk result (Grows walk.old walk.new) }
+{
     let node = given_value(walk, e, &ExprType::Listed(ty), true)?;
-    begun_pointer(walk, node)
+    let begun = begun_pointer(walk, node)?;
+    Ok(begun)
 }
 
 /// A scalar type.
@@ -125,7 +145,9 @@ fn scalar_of(walk: &Elaborator, ty: TypeId) -> Result<Scalar, NoMemory> {
 }
 
 /// What a scalar of this type begins with, by the expression that initialises it.
-pub(crate) fn static_value(walk: &mut Elaborator, ty: TypeId, e: &Expr) -> Result<Begun, NoMemory> {
+pub(crate) fn static_value(walk: &mut Elaborator, ty: TypeId, e: &Expr) -> Result<Begun, NoMemory>
+    ensures { OnOk result (Grows walk.old walk.new) }
+{
     match scalar_of(walk, ty)? {
         Scalar::Integer(kind) => integer(walk, kind, e),
         Scalar::Pointer => pointer(walk, ty, e),

@@ -1,4 +1,6 @@
 //! Objects of static storage with an initialiser (C99 6.7.8, 6.9.2, 1).
+ghost use Rattle.std.specs.Prelude.{OnOk};
+ghost use Rattle.lk_elab_expr.specs.Leading.{GoesOn, Grows};
 
 use crate::givens::{Beginning, PartGiven, put_given};
 use crate::paths::{longer_path, path_of};
@@ -46,9 +48,12 @@ fn value_part(
     walk: &mut Elaborator,
     given: &PartGiven<'_>,
     e: &Expr,
-) -> Result<StaticPart, NoMemory> {
+) -> Result<StaticPart, NoMemory>
+    ensures { OnOk result (Grows walk.old walk.new) }
+{
     let begun = static_value(walk, given.ty, e)?;
-    begun_part(walk.alloc, given, begun)
+    let part = begun_part(walk.alloc, given, begun)?;
+    Ok(part)
 }
 
 /// Puts a part that the value of an expression initialises.
@@ -57,7 +62,9 @@ fn put_value(
     given: &PartGiven<'_>,
     e: &Expr,
     out: &mut Vec<StaticPart>,
-) -> Result<(), NoMemory> {
+) -> Result<(), NoMemory>
+    ensures { OnOk result (Grows walk.old walk.new) }
+{
     let part = value_part(walk, given, e)?;
     out.push(part)?;
     Ok(())
@@ -127,19 +134,24 @@ fn put_given_part(
     walk: &mut Elaborator,
     given: &PartGiven<'_>,
     out: &mut Vec<StaticPart>,
-) -> Result<(), NoMemory> {
+) -> Result<(), NoMemory>
+    ensures { OnOk result (Grows walk.old walk.new) }
+{
     match &given.begins {
-        Beginning::Value(e) => put_value(walk, given, e, out),
-        Beginning::Bytes(_, _, bytes) => put_text(walk, given, bytes.list(), out),
-        Beginning::Word => put_word(walk.alloc, given, out),
+        Beginning::Value(e) => put_value(walk, given, e, out)?,
+        Beginning::Bytes(_, _, bytes) => put_text(walk, given, bytes.list(), out)?,
+        Beginning::Word => put_word(walk.alloc, given, out)?,
     }
+    Ok(())
 }
 
 /// The parts that an initialiser gives (`AreStaticParts`).
 fn static_parts(
     walk: &mut Elaborator,
     givens: &[PartGiven<'_>],
-) -> Result<Vec<StaticPart>, NoMemory> {
+) -> Result<Vec<StaticPart>, NoMemory>
+    ensures { OnOk result (Grows walk.old walk.new) }
+{
     let mut parts = Vec::new(walk.alloc);
     for given in givens {
         put_given_part(walk, given, &mut parts)?;
@@ -148,14 +160,13 @@ fn static_parts(
 }
 
 /// The parts of an object of static storage of this type that its initialiser names.
-fn named_parts(
-    walk: &mut Elaborator,
-    ty: TypeId,
-    init: &Init,
-) -> Result<Vec<StaticPart>, NoMemory> {
+fn named_parts(walk: &mut Elaborator, ty: TypeId, init: &Init) -> Result<Vec<StaticPart>, NoMemory>
+    ensures { OnOk result (Grows walk.old walk.new) }
+{
     let mut givens = Vec::new(walk.alloc);
     put_given(walk, ty, init, &mut givens)?;
-    static_parts(walk, givens.as_slice())
+    let parts = static_parts(walk, givens.as_slice())?;
+    Ok(parts)
 }
 
 /// Puts the object of static storage of this type that is declared there, with its initialiser (`IsStaticObject`).
@@ -164,7 +175,9 @@ pub(crate) fn put_static_object(
     at: At,
     ty: TypeId,
     init: &Init,
-) -> Result<(), NoMemory> {
+) -> Result<(), NoMemory>
+    ensures goes_on { OnOk result (GoesOn walk.old walk.new) }
+{
     let entity = walk.entities.declared_at(at.ordinal)?;
     let parts = named_parts(walk, ty, init)?;
     walk.objects.push(StaticObject {

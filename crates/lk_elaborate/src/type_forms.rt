@@ -1,7 +1,14 @@
 //! What is asked of a type by its number.
-ghost use Rattle.std.specs.Prelude.{◌≡◌, IfOk};
+ghost use Rattle.std.specs.Prelude.{◌≡◌, ◌||◌, IfOk, OnOk, Some, nat_eq, nat_le, not, slice_get, true};
+ghost use Rattle.lk_base.specs.declared.cell.CellStep.TheVariants.{Field, Index};
+ghost use Rattle.lk_types.specs.Table.{IsKnown};
+ghost use Rattle.lk_typed.specs.Initialised.{step_to};
+ghost use Rattle.lk_typed.specs.InitialiserRules.{entry_type};
 ghost use Rattle.lk_typed.specs.Meaning.{meaning};
+ghost use Rattle.lk_typed.specs.NodeParts.{result_of};
 ghost use Rattle.lk_typed.specs.Ty as spec;
+ghost use Rattle.lk_elaborate.specs.Giving.{count_in, element_in};
+ghost use Rattle.lk_elaborate.specs.Settled.{fields_listed};
 
 use lk_base::{CellStep, Kind, NoMemory};
 use lk_elab_expr::{known, nowhere};
@@ -18,7 +25,10 @@ pub(crate) struct Part {
 }
 
 /// How many elements a type has, where it is an array.
-pub(crate) fn count_of(types: &TypeTable, t: TypeId) -> Result<Option<u64>, NoMemory> {
+pub(crate) fn count_of(types: &TypeTable, t: TypeId) -> Result<Option<u64>, NoMemory>
+    ensures known { OnOk result (IsKnown types.now t) }
+    ensures value { IfOk result (λ count. count ≡ count_in (meaning types.now t)) }
+{
     let t = known(types, t)?;
     match form(types, t) {
         CType::Array(_, count) => Ok(Some(*count)),
@@ -51,7 +61,11 @@ pub(crate) fn kind_at(types: &TypeTable, t: TypeId) -> Result<Option<Kind>, NoMe
 }
 
 /// The type of an element of an array. What a text initialises is one (C99 6.7.8, 14).
-pub(crate) fn element_of(types: &TypeTable, t: TypeId) -> Result<TypeId, NoMemory> {
+pub(crate) fn element_of(types: &TypeTable, t: TypeId) -> Result<TypeId, NoMemory>
+    ensures known { IfOk result (IsKnown types.now) }
+    ensures value { IfOk result (λ element.
+        element_in (meaning types.now t) ≡ Some (meaning types.now element)) }
+{
     let t = known(types, t)?;
     match form(types, t) {
         CType::Array(element, _) => Ok(*element),
@@ -68,7 +82,11 @@ pub(crate) fn element_of(types: &TypeTable, t: TypeId) -> Result<TypeId, NoMemor
 }
 
 /// The member with this number of a struct, which has it.
-fn member_part(types: &TypeTable, s: u32, number: u32) -> Result<Part, NoMemory> {
+fn member_part(types: &TypeTable, s: u32, number: u32) -> Result<Part, NoMemory>
+    ensures step { IfOk result (λ part. part.step ≡ Field number) }
+    ensures member { IfOk result (λ part.
+        slice_get (fields_listed types.now s) number ≡ Some (meaning types.now part.ty)) }
+{
     if s >= types.structs() {
         return Err(nowhere());
     }
@@ -81,14 +99,39 @@ fn member_part(types: &TypeTable, s: u32, number: u32) -> Result<Part, NoMemory>
     }
 }
 
+/// Whether an array of so many elements has one with this number; 0 stands for no size.
+fn has_element(count: u64, number: u32) -> bool
+    ensures { result ≡ (nat_eq count 0 || not (nat_le count number)) }
+{
+    count == 0 || u64::from(number) < count
+}
+
+/// The element with this number of an array of so many.
+fn element_part(element: TypeId, count: u64, number: u32) -> Result<Part, NoMemory>
+    ensures step { IfOk result (λ part. part.step ≡ Index number) }
+    ensures ty { IfOk result (λ part. part.ty ≡ element) }
+    ensures there { OnOk result ((nat_eq count 0 || not (nat_le count number)) ≡ true) }
+{
+    if has_element(count, number) {
+        Ok(Part {
+            step: CellStep::Index(u64::from(number)),
+            ty: element,
+        })
+    } else {
+        Err(nowhere())
+    }
+}
+
 /// The part of an object that the entry with this number of its list initialises (C99 6.7.8, 17). Each entry has one (27).
-pub(crate) fn part_at(types: &TypeTable, t: TypeId, number: u32) -> Result<Part, NoMemory> {
+pub(crate) fn part_at(types: &TypeTable, t: TypeId, number: u32) -> Result<Part, NoMemory>
+    ensures known { OnOk result (IsKnown types.now t) }
+    ensures step { IfOk result (λ part. step_to (meaning types.now t) number ≡ Some part.step) }
+    ensures part { IfOk result (λ part.
+        entry_type (fields_listed types.now) (meaning types.now t) number ≡ Some (meaning types.now part.ty)) }
+{
     let t = known(types, t)?;
     match form(types, t) {
-        CType::Array(element, _) => Ok(Part {
-            step: CellStep::Index(u64::from(number)),
-            ty: *element,
-        }),
+        CType::Array(element, count) => element_part(*element, *count, number),
         CType::Struct(s) => member_part(types, *s, number),
         CType::Void
         | CType::Int(_)
@@ -119,7 +162,11 @@ pub(crate) fn parameter_types(types: &TypeTable, t: TypeId) -> Result<TypeIds, N
 }
 
 /// The result of a function.
-pub(crate) fn result_type(types: &TypeTable, t: TypeId) -> Result<TypeId, NoMemory> {
+pub(crate) fn result_type(types: &TypeTable, t: TypeId) -> Result<TypeId, NoMemory>
+    ensures known { IfOk result (IsKnown types.now) }
+    ensures value { IfOk result (λ r.
+        result_of (Some (meaning types.now t)) ≡ Some (meaning types.now r)) }
+{
     let t = known(types, t)?;
     match form(types, t) {
         CType::Function { result, .. } => Ok(*result),

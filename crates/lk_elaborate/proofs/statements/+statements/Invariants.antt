@@ -1,0 +1,11 @@
+use Rattle.std.proofs.Common.{drop}
+use Rattle.lk_elab_expr.specs.Leading.{GoesOn}
+use Rattle.lk_elaborate.proofs.Making.{AreLeft}
+use Rattle.lk_elaborate.proofs.statements.+statements.Given as goal
+
+abbrev pub invariant-block_items-loop-item : goal.invariant-block_items-loop-item
+invariant-block_items-loop-item l =
+    record {
+      goes_on : GoesOn l.initial.walk l.walk;
+      left : AreLeft l.initial.walk l.walk l.around l.items (drop l.item-index l.items) l.made;
+    }

@@ -1,0 +1,13 @@
+pub mod Asking
+pub mod Cells
+pub mod Declaring
+pub mod Defining
+pub mod Giving
+pub mod LocalParts
+pub mod Making
+pub mod Places
+pub mod Reaching
+pub mod Settled
+pub mod Source
+pub mod Steps
+pub mod Words
