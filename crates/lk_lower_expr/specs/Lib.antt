@@ -1,3 +1,4 @@
+pub mod Cells
 pub mod Counts
 pub mod Expressions
 pub mod Initialisers

@@ -73,6 +73,14 @@ counted_among list = option_or (find (λ is. is_whole is.defines) list) (option_
 abbrev pub declaration_of : Entity → Option Declaration
 declaration_of entity = counted_among entity.declarations
 
+-- the place in a list of the first element with a property; how many there are, where none has it
+abbrev pub place_in : {A : Type 0} → (A → Bool) → List A → ℕ
+place_in test [] = 0
+place_in test (a ∷ others) = if test a then 0 else suc (place_in test others)
+
+abbrev pub is_body_of : ℕ → Body → Bool
+is_body_of e body = nat_eq body.entity e
+
 module _ (whole : Whole) (numbers : Numbers) where
   -- ---- what the numbers of a source stand for
 
@@ -97,14 +105,6 @@ module _ (whole : Whole) (numbers : Numbers) where
   abbrev pub object_root : (s : ℕ) → List Local → Storage → ℕ
   object_root s locals (storage.Entity e) = root_of_entity (definition_of s e)
   object_root s locals (storage.Local l) = option_map_or (λ local. numbers.root s local.ordinal) (slice_get locals l) 0
-
-  -- the place in a list of the first element with a property
-  abbrev pub place_in : {A : Type 0} → (A → Bool) → List A → ℕ
-  place_in test [] = 0
-  place_in test (a ∷ others) = if test a then 0 else suc (place_in test others)
-
-  abbrev pub is_body_of : ℕ → Body → Bool
-  is_body_of e body = nat_eq body.entity e
 
   abbrev pub function_of : Option (ℕ × ℕ) → ℕ
   function_of None = 0

@@ -1,9 +1,9 @@
 -- The program that checked sources become, whole: besides its points its functions, roots, slots, places and what its storage begins with.
 use Rattle.std.specs.Prelude.{◌≡◌, ◌<◌, ◌⊎◌, ◌-◌, ◌++◌, ℕ, zero, suc, Bool, true, false, List, [], ◌∷◌, Option, None, Some, length, map, take, slice_get, get_or, ⊤}
 use Rattle.std.specs.List.{Contains}
+use Rattle.lk_base.specs.declared.cell.CellStep.{CellStep}
 use Rattle.lk_base.specs.declared.kind.Kind.TheVariants.{Char}
 use Rattle.lk_base.specs.declared.spot.Spot.{Spot}
-use Rattle.lk_facts.specs.Lowered.{IsLowered}
 use Rattle.lk_facts.specs.Program.{site_at, value_site_of, root_at, place_at, IsLocation, IsLockPlace}
 use Rattle.lk_facts.specs.Typed.{IsForm}
 use Rattle.lk_facts.specs.declared.function.Function.{Function}
@@ -20,6 +20,7 @@ use Rattle.lk_facts.specs.declared.root.RootKind.TheVariants as kind
 use Rattle.lk_lower_expr.specs.Lowering as lowering
 use Rattle.lk_lower_expr.specs.Lowering.{Numbers, Counts, declaration_of, ArePoints}
 use Rattle.lk_lower_expr.specs.Names.{Node}
+use Rattle.lk_lower_expr.specs.Cells.{cell_node}
 use Rattle.lk_lower_expr.specs.Owned.{Owned, text, allocation, hidden, owned_by, of_static_parts}
 use Rattle.lk_typed.specs.declared.entity.Declaration.{Declaration}
 use Rattle.lk_typed.specs.declared.entity.Entity.{Entity}
@@ -50,37 +51,73 @@ kind_of linkage.External = kind.Global
 kind_of linkage.Internal = kind.Static
 kind_of linkage.None = kind.Static
 
+-- the body b of the source s, among these sources
+pub record IsBody (sources : List Linked) (s b : ℕ) (linked : Linked) (body : Body) : Type 0 where
+  pub source : slice_get sources s ≡ Some linked
+  pub at : slice_get linked.unit.bodies b ≡ Some body
+
+-- the source s has the body b, which is a function of the program
+abbrev pub HasFunction : List Linked → (s b k : ℕ) → Type 0
+HasFunction sources s b k = (k ≡ 0) × ((linked : Linked) × (body : Body) × IsBody sources s b linked body)
+
+-- the program's number of a type of a source
+abbrev pub type_here : Linked → ℕ → ℕ
+type_here linked t = get_or linked.types t 0
+
+-- the type t of the source s is a type of the program
+abbrev pub IsTypeHere : List Linked → (s t here : ℕ) → Type 0
+IsTypeHere sources s t here = (linked : Linked) × (slice_get sources s ≡ Some linked) × (slice_get linked.types t ≡ Some here)
+
+-- the entity e of the source s is defined there, by this declaration
+pub record IsDefined (whole : Whole) (s e : ℕ) (linked : Linked) (entity : Entity) (here : WholeEntity) (by : Declaration) : Type 0 where
+  pub source : slice_get whole.sources s ≡ Some linked
+  pub at : slice_get linked.unit.entities e ≡ Some entity
+  pub number : ℕ
+  pub numbered : slice_get linked.entities e ≡ Some number
+  pub is : slice_get whole.entities number ≡ Some here
+  pub there : here.defined ≡ Some (s, e)
+  pub declared : declaration_of entity ≡ Some by
+
+module _ (whole : Whole) (numbers : Numbers) where
+  -- ---- what objects of static storage begin with
+
+  abbrev pub value_here : (s : ℕ) → StaticValue → InitialValue
+  value_here s (value.Number n) = begins.Number n
+  value_here s value.Null = begins.Null
+  value_here s (value.Function e) = begins.Function (lowering.function_of whole numbers (lowering.definition_of whole numbers s e))
+  value_here s (value.Address e path past) = begins.Address (lowering.root_of_entity whole numbers (lowering.definition_of whole numbers s e)) path past
+  value_here s (value.Text node path past) = begins.Address (numbers.root s node) path past
+  value_here s value.Ready = begins.Ready
+
+  abbrev pub initial_here : (s : ℕ) → StaticObject → StaticPart → Initial
+  initial_here s object part = record {
+    root = lowering.root_of_entity whole numbers (lowering.definition_of whole numbers s object.entity);
+    path = part.path;
+    value = value_here s part.value;
+  }
+
+  abbrev pub initials_of_objects : (s : ℕ) → List StaticObject → List Initial
+  initials_of_objects s [] = []
+  initials_of_objects s (object ∷ others) = map (initial_here s object) object.parts ++ initials_of_objects s others
+
+  -- those of all sources, the first of them the source s
+  abbrev pub initials_from : (s : ℕ) → List Linked → List Initial
+  initials_from s [] = []
+  initials_from s (linked ∷ others) = initials_of_objects s linked.unit.objects ++ initials_from (suc s) others
+
 module _ (whole : Whole) (numbers : Numbers) (program : Program) where
-  abbrev type_here : Linked → ℕ → ℕ
-  type_here linked t = get_or linked.types t 0
-
-  -- the body b of the source s
-  pub record IsBody (s b : ℕ) (linked : Linked) (body : Body) : Type 0 where
-    pub source : slice_get whole.sources s ≡ Some linked
-    pub at : slice_get linked.unit.bodies b ≡ Some body
-
-  -- the entity e of the source s is defined there, by this declaration
-  pub record IsDefined (s e : ℕ) (linked : Linked) (entity : Entity) (here : WholeEntity) (by : Declaration) : Type 0 where
-    pub source : slice_get whole.sources s ≡ Some linked
-    pub at : slice_get linked.unit.entities e ≡ Some entity
-    pub number : ℕ
-    pub numbered : slice_get linked.entities e ≡ Some number
-    pub is : slice_get whole.entities number ≡ Some here
-    pub there : here.defined ≡ Some (s, e)
-    pub declared : declaration_of entity ≡ Some by
-
-  abbrev function_around : (s : ℕ) → Option ℕ → Option ℕ
+  abbrev pub function_around : (s : ℕ) → Option ℕ → Option ℕ
   function_around s None = None
   function_around s (Some b) = Some (numbers.function s b)
 
   -- ---- roots: what is declared or allocated at a node
 
-  abbrev root : RootKind → (ty : ℕ) → Spot → List ℕ → Option ℕ → Option ℕ → List ℕ → Root
+  abbrev pub root : RootKind → (ty : ℕ) → Spot → List ℕ → Option ℕ → Option ℕ → List ℕ → Root
   root kind ty spot name function point bytes = record { kind = kind; ty = ty; spot = spot; name = name; function = function; point = point; bytes = bytes }
 
   -- the node owns something in a body, or in an initialiser of static storage
   pub data Owns (s : ℕ) (linked : Linked) (owned : Owned) : Option ℕ → Type 0 where
-    in_body : (b : ℕ) (body : Body) → IsBody s b linked body → Contains (owned_by (type_at linked.unit.types) body.block) owned → Owns s linked owned (Some (numbers.function s b))
+    in_body : (b : ℕ) (body : Body) → IsBody whole.sources s b linked body → Contains (owned_by (type_at linked.unit.types) body.block) owned → Owns s linked owned (Some (numbers.function s b))
     in_static : (object : StaticObject) → slice_get whole.sources s ≡ Some linked → Contains linked.unit.objects object →
         Contains (of_static_parts (type_at linked.unit.types) object.parts) owned → Owns s linked owned None
 
@@ -90,11 +127,11 @@ module _ (whole : Whole) (numbers : Numbers) (program : Program) where
     many : (u : ℕ) → IsForm program.types u (Array t 0) → IsAllocatedType t false u
 
   pub data IsRoot (s : ℕ) : (o : ℕ) → Root → Type 0 where
-    of_object : (e : ℕ) (linked : Linked) (entity : Entity) (here : WholeEntity) (by : Declaration) → IsDefined s e linked entity here by → entity.kind ≡ entity_kind.Object →
+    of_object : (e : ℕ) (linked : Linked) (entity : Entity) (here : WholeEntity) (by : Declaration) → IsDefined whole s e linked entity here by → entity.kind ≡ entity_kind.Object →
         IsRoot s by.ordinal (root (kind_of entity.linkage) here.ty by.spot entity.name (function_around s entity.body) None [])
-    of_function : (b : ℕ) (linked : Linked) (body : Body) (entity : Entity) (here : WholeEntity) (by : Declaration) → IsBody s b linked body → IsDefined s body.entity linked entity here by →
+    of_function : (b : ℕ) (linked : Linked) (body : Body) (entity : Entity) (here : WholeEntity) (by : Declaration) → IsBody whole.sources s b linked body → IsDefined whole s body.entity linked entity here by →
         IsRoot s by.ordinal (root kind.Function here.ty by.spot entity.name (Some (numbers.function s b)) None [])
-    of_local : (b l : ℕ) (linked : Linked) (body : Body) (is : Local) → IsBody s b linked body → slice_get body.locals l ≡ Some is → is.is_slot ≡ false →
+    of_local : (b l : ℕ) (linked : Linked) (body : Body) (is : Local) → IsBody whole.sources s b linked body → slice_get body.locals l ≡ Some is → is.is_slot ≡ false →
         IsRoot s is.ordinal (root kind.Local (type_here linked is.ty) is.spot is.name (Some (numbers.function s b)) None [])
     of_text : (linked : Linked) (node : Node) (bytes : List ℕ) (function : Option ℕ) → Owns s linked (text node bytes) function →
         IsRoot s node.ordinal (root kind.Text (type_here linked node.type) node.spot [] None None (bytes ++ (0 ∷ [])))
@@ -103,7 +140,7 @@ module _ (whole : Whole) (numbers : Numbers) (program : Program) where
         IsRoot s node.ordinal (root (kind.Heap single) u node.spot [] function (Some (numbers.point s node.ordinal 0)) [])
 
   -- main's arguments stand before all other roots, where it has parameters (C99 5.1.2.2.1)
-  abbrev arguments : ℕ → ℕ
+  abbrev pub arguments : ℕ → ℕ
   arguments zero = 0
   arguments (suc parameters) = 2
 
@@ -117,21 +154,20 @@ module _ (whole : Whole) (numbers : Numbers) (program : Program) where
     pub argv : root_at program 0 ≡ Some (root kind.Argv strings at [] None None [])
     pub args : root_at program 1 ≡ Some (root kind.Args chars at [] None None [])
 
-  abbrev HasRoot : (s o k : ℕ) → Type 0
+  abbrev pub HasRoot : (s o k : ℕ) → Type 0
   HasRoot s o k = (k ≡ 0) × ((is : Root) × IsRoot s o is)
 
   -- the body that defines main, and its declared name
   pub record IsMain (s b : ℕ) (body : Body) (by : Declaration) : Type 0 where
     pub linked : Linked
-    pub of : IsBody s b linked body
+    pub of : IsBody whole.sources s b linked body
     pub entity : Entity
     pub here : WholeEntity
     pub at : slice_get whole.entities whole.main ≡ Some here
-    pub defined : here.defined ≡ Some (s, body.entity)
-    pub is : IsDefined s body.entity linked entity here by
+    pub is : IsDefined whole s body.entity linked entity here by
     pub numbered : program.main ≡ numbers.function s b
 
-  abbrev HaveArguments : ℕ → Spot → Type 0
+  abbrev pub HaveArguments : ℕ → Spot → Type 0
   HaveArguments zero at = ⊤
   HaveArguments (suc parameters) at = AreArguments at
 
@@ -149,27 +185,27 @@ module _ (whole : Whole) (numbers : Numbers) (program : Program) where
 
   -- a slot of a body with its type: a local, or the value of a node
   pub data IsSlot (s b : ℕ) : (o type : ℕ) → Type 0 where
-    of_declared : (l : ℕ) (linked : Linked) (body : Body) (is : Local) → IsBody s b linked body → slice_get body.locals l ≡ Some is → is.is_slot ≡ true →
+    of_declared : (l : ℕ) (linked : Linked) (body : Body) (is : Local) → IsBody whole.sources s b linked body → slice_get body.locals l ≡ Some is → is.is_slot ≡ true →
         IsSlot s b is.ordinal (type_here linked is.ty)
-    of_value : (linked : Linked) (body : Body) (node : Node) → IsBody s b linked body → Contains (owned_by (type_at linked.unit.types) body.block) (hidden node) →
+    of_value : (linked : Linked) (body : Body) (node : Node) → IsBody whole.sources s b linked body → Contains (owned_by (type_at linked.unit.types) body.block) (hidden node) →
         IsSlot s b node.ordinal (type_here linked node.type)
 
-  abbrev HasSlot : (s b t o k : ℕ) → Type 0
+  abbrev pub HasSlot : (s b t o k : ℕ) → Type 0
   HasSlot s b t o k = (t ≡ s) × (k ≡ 0) × ((type : ℕ) × IsSlot s b o type)
 
   -- what holds a parameter
-  abbrev holder_by : (slot : Bool) → (function s o : ℕ) → Holder
+  abbrev pub holder_by : (slot : Bool) → (function s o : ℕ) → Holder
   holder_by true function s o = holder.Slot function (numbers.slot s o)
   holder_by false function s o = holder.Root (numbers.root s o)
 
-  abbrev holder_of : (function s : ℕ) → Local → Holder
+  abbrev pub holder_of : (function s : ℕ) → Local → Holder
   holder_of function s is = holder_by is.is_slot function s is.ordinal
 
   pub record IsFunction (s b : ℕ) (linked : Linked) (body : Body) (is : Function) : Type 0 where
     pub entity : Entity
     pub here : WholeEntity
     pub by : Declaration
-    pub defined : IsDefined s body.entity linked entity here by
+    pub defined : IsDefined whole s body.entity linked entity here by
     pub name : is.name ≡ entity.name
     pub root_ : is.root ≡ numbers.root s by.ordinal
     pub entry : is.entry ≡ numbers.point s body.ordinal 0
@@ -179,39 +215,10 @@ module _ (whole : Whole) (numbers : Numbers) (program : Program) where
     pub order : Counts (HasSlot s b) 0 (length is.slots) (λ t o k. numbers.slot t o)
     pub slots : (o type : ℕ) → IsSlot s b o type → slice_get is.slots (numbers.slot s o) ≡ Some type
 
-  abbrev HasFunction : (s b k : ℕ) → Type 0
-  HasFunction s b k = (k ≡ 0) × ((linked : Linked) × (body : Body) × IsBody s b linked body)
-
   pub record AreFunctions : Type 0 where
-    pub order : Counts HasFunction 0 (length program.functions) (λ s b k. numbers.function s b)
-    pub each : (s b : ℕ) (linked : Linked) (body : Body) → IsBody s b linked body →
+    pub order : Counts (HasFunction whole.sources) 0 (length program.functions) (λ s b k. numbers.function s b)
+    pub each : (s b : ℕ) (linked : Linked) (body : Body) → IsBody whole.sources s b linked body →
         (is : Function) × (slice_get program.functions (numbers.function s b) ≡ Some is) × IsFunction s b linked body is
-
-  -- ---- what objects of static storage begin with
-
-  abbrev value_here : (s : ℕ) → StaticValue → InitialValue
-  value_here s (value.Number n) = begins.Number n
-  value_here s value.Null = begins.Null
-  value_here s (value.Function e) = begins.Function (lowering.function_of whole numbers (lowering.definition_of whole numbers s e))
-  value_here s (value.Address e path past) = begins.Address (lowering.root_of_entity whole numbers (lowering.definition_of whole numbers s e)) path past
-  value_here s (value.Text node path past) = begins.Address (numbers.root s node) path past
-  value_here s value.Ready = begins.Ready
-
-  abbrev initial_here : (s : ℕ) → StaticObject → StaticPart → Initial
-  initial_here s object part = record {
-    root = lowering.root_of_entity whole numbers (lowering.definition_of whole numbers s object.entity);
-    path = part.path;
-    value = value_here s part.value;
-  }
-
-  abbrev initials_of_objects : (s : ℕ) → List StaticObject → List Initial
-  initials_of_objects s [] = []
-  initials_of_objects s (object ∷ others) = map (initial_here s object) object.parts ++ initials_of_objects s others
-
-  -- those of all sources, the first of them the source s
-  abbrev initials_from : (s : ℕ) → List Linked → List Initial
-  initials_from s [] = []
-  initials_from s (linked ∷ others) = initials_of_objects s linked.unit.objects ++ initials_from (suc s) others
 
   -- ---- places and sites
 
@@ -239,21 +246,25 @@ module _ (whole : Whole) (numbers : Numbers) (program : Program) where
     pub kept : program.types.types ≡ whole.types.types ++ more
     pub members : program.types.members ≡ whole.types.members
 
-  -- the numbers of pointers are those of pointers
-  abbrev ArePointers : Type 0
-  ArePointers = (t : ℕ) → t < length whole.types.types → IsForm program.types (numbers.pointer t) (Pointer t)
+  -- of each type of each source the number of the pointer to it is that of a pointer to it
+  abbrev pub ArePointers : Type 0
+  ArePointers = (s t here : ℕ) → IsTypeHere whole.sources s t here → IsForm program.types (numbers.pointer here) (Pointer here)
+
+  -- the nodes of cells are those of the program's types
+  abbrev pub AreNodes : Type 0
+  AreNodes = (ty : ℕ) (path : List CellStep) → numbers.node ty path ≡ cell_node program.types ty path
 
   -- a program made of the sources, with these numbers
   pub record IsMadeWith : Type 0 where
     pub points : ArePoints whole numbers program
     pub roots : AreRoots
     pub functions : AreFunctions
-    pub initials : program.initials ≡ initials_from 0 whole.sources
+    pub initials : program.initials ≡ initials_from whole numbers 0 whole.sources
     pub places : ArePlaces
     pub sites : AreSites
     pub types : AreProgramTypes
     pub pointers : ArePointers
-    pub lowered : IsLowered program
+    pub nodes : AreNodes
 
 -- a program made of the sources
 abbrev pub IsMadeOf : Whole → Program → Type 0

@@ -4,6 +4,7 @@
 mod assign;
 mod begin;
 mod call;
+mod cells;
 mod change;
 mod compute;
 mod convert;
@@ -20,6 +21,7 @@ mod step;
 mod value;
 mod walk;
 
+pub use cells::cell_node;
 pub use goals::{Goals, Labelled};
 pub use layout::lay;
 pub use lowering::Lowering;

@@ -1,0 +1,15 @@
+pub mod Adding
+pub mod Beginnings
+pub mod FunctionCounts
+pub mod Gathered
+pub mod Mains
+pub mod Making
+pub mod Numbering
+pub mod Ordered
+pub mod OwnedCalls
+pub mod OwnedForms
+pub mod OwnedStatements
+pub mod Pointers
+pub mod Rooted
+pub mod RootsOf
+pub mod Sited

@@ -1,3 +1,12 @@
 pub mod Cells
-pub mod Nodes
+pub mod Found
+pub mod FunctionNumbers
+pub mod Gathers
+pub mod Givens
+pub mod MadeFunctions
+pub mod Mains
+pub mod Sites
 pub mod Sources
+pub mod Tables
+pub mod TextOrder
+pub mod Wanted

@@ -1,7 +1,9 @@
 //! The numbers of the program's functions, and the declarations and definitions of entities.
-ghost use Rattle.std.specs.Prelude.{◌≡◌, ◌+◌, IfOk, length};
+ghost use Rattle.std.specs.Prelude.{◌≡◌, ◌<◌, ◌+◌, IfOk, OnOk, length, set};
+ghost use Rattle.std.specs.List.{find};
 ghost use Rattle.std.specs.Option.{option_copied};
 ghost use Rattle.lk_lower_expr.specs.Lowering as lowering;
+ghost use Rattle.lk_lower_parts.specs.FunctionNumbers.{AreFunctionNumbers, AreOfEntities};
 ghost use Rattle.lk_lower_parts.specs.Sources.{defined_by, defined_of};
 
 use lk_base::{NoMemory, Seq};
@@ -11,7 +13,7 @@ use std::alloc::Global;
 /// The numbers of the functions of the sources: those of the bodies, in the order of the sources and of the text.
 #[derive(Drop)]
 pub struct FunctionNumbers {
-    /// Of each source the number of the function of its first body.
+    /// Of each source the number of the function of its first body, and behind them how many functions there are.
     pub first: Seq<u32>,
     /// Of each entity of each source the number of the function whose body it has; the number behind those of its
     /// source where it has none.
@@ -38,39 +40,51 @@ pub(crate) fn behind(next: u32, count: u32) -> Result<u32, NoMemory>
     next.checked_add(count).ok_or(NoMemory)
 }
 
-/// Gives an entity its function, where it has none yet.
-fn give(row: &mut Vec<u32>, entity: u32, function: u32, none: u32)
-    ensures { length row.new.items ≡ length row.old.items }
+/// Gives an entity its function. Each body is that of an entity.
+fn give(row: &mut Vec<u32>, entity: u32, function: u32) -> Result<(), NoMemory>
+    ensures given { OnOk result (row.new.items ≡ set row.old.items entity function) }
+    ensures inside { OnOk result (entity < length row.old.items) }
 {
     let e = entity as usize;
-    if e < row.len() && row[e] == none {
-        row[e] = function;
+    if e >= row.len() {
+        return Err(NoMemory);
     }
+    row[e] = function;
+    Ok(())
 }
 
-/// The functions of the entities of a source, where that of its first body has a number.
-fn of_source(alloc: Global, linked: &Linked, first: u32) -> Result<Seq<u32>, NoMemory> {
+/// The functions of the entities of a source, where that of its first body has a number. Of several bodies of an entity
+/// the first counts, which is given last.
+fn of_source(alloc: Global, linked: &Linked, first: u32) -> Result<Seq<u32>, NoMemory>
+    ensures { IfOk result (AreOfEntities first (first + length linked.now.unit.bodies)
+        linked.now.unit.bodies) }
+{
     let bodies = linked.unit.bodies.list();
     let none = behind(first, count_of(bodies.len())?)?;
     let mut row = vec![in alloc; none; linked.unit.entities.len()]?;
-    let mut function = first;
-    for body in bodies {
-        give(&mut row, body.entity, function, none);
-        function = behind(function, 1)?;
+    for k in 0..bodies.len() {
+        let b = bodies.len() - 1 - k;
+        let function = behind(first, count_of(b)?)?;
+        give(&mut row, bodies[b].entity, function)?;
     }
     Ok(Seq::new(row))
 }
 
 /// The numbers of the program's functions.
-pub fn number_functions(alloc: Global, whole: &Whole) -> Result<FunctionNumbers, NoMemory> {
+pub fn number_functions(alloc: Global, whole: &Whole) -> Result<FunctionNumbers, NoMemory>
+    ensures { IfOk result (AreFunctionNumbers whole.now.sources) }
+{
     let mut first = Vec::new(alloc);
     let mut of_entities = Vec::new(alloc);
     let mut next = 0;
     for linked in whole.sources.list() {
+        let row = of_source(alloc, linked, next)?;
+        of_entities.push(row)?;
         first.push(next)?;
-        of_entities.push(of_source(alloc, linked, next)?)?;
-        next = behind(next, count_of(linked.unit.bodies.len())?)?;
+        let bodies = count_of(linked.unit.bodies.len())?;
+        next = behind(next, bodies)?;
     }
+    first.push(next)?;
     Ok(FunctionNumbers {
         first: Seq::new(first),
         of_entities: Seq::new(of_entities),
@@ -99,7 +113,9 @@ fn is_tentative(declaration: &Declaration) -> bool
 }
 
 /// The declaration with a body or an initialiser.
-fn whole_among(list: &[Declaration]) -> Option<&Declaration> {
+fn whole_among(list: &[Declaration]) -> Option<&Declaration>
+    ensures { option_copied result ≡ find (λ is. lowering.is_whole is.defines) list.now }
+{
     for declaration in list {
         if is_whole(declaration) {
             return Some(declaration);
@@ -109,7 +125,9 @@ fn whole_among(list: &[Declaration]) -> Option<&Declaration> {
 }
 
 /// The first tentative definition.
-fn tentative_among(list: &[Declaration]) -> Option<&Declaration> {
+fn tentative_among(list: &[Declaration]) -> Option<&Declaration>
+    ensures { option_copied result ≡ find (λ is. lowering.is_tentative is.defines) list.now }
+{
     for declaration in list {
         if is_tentative(declaration) {
             return Some(declaration);
@@ -120,7 +138,9 @@ fn tentative_among(list: &[Declaration]) -> Option<&Declaration> {
 
 /// Of several declarations of an entity the one with a body or an initialiser counts, else the first tentative definition,
 /// else the first (C99 6.9, 5; 6.9.2, 2).
-pub fn declaration_of(entity: &Entity) -> Option<&Declaration> {
+pub fn declaration_of(entity: &Entity) -> Option<&Declaration>
+    ensures { option_copied result ≡ lowering.declaration_of entity.now }
+{
     let list = entity.declarations.list();
     match (whole_among(list), tentative_among(list)) {
         (Some(declaration), _) | (None, Some(declaration)) => Some(declaration),

@@ -1,11 +1,12 @@
 //! What the numbers of a source stand for in the program.
-ghost use Rattle.std.specs.Prelude.{◌≡◌, ◌<◌, ◌^◌, All, IfOk, get_or};
+ghost use Rattle.std.specs.Prelude.{◌≡◌, ◌<◌, ◌^◌, All, IfOk, get_or, map, slice_get, Some};
 ghost use Rattle.lk_lower_expr.specs.Naming.{AreFew};
+ghost use Rattle.lk_lower_parts.specs.Givens.{HasTables, at_node, behind_source, function_by, function_here, function_in, is_defined, object_here, root_by, root_in};
 
 use crate::counts::{FunctionNumbers, declaration_of, definition_here};
 use lk_base::{NoMemory, Seq};
 use lk_lower_expr::SourceNames;
-use lk_typed::{Linked, Whole, WholeEntity};
+use lk_typed::{Linked, Whole};
 use lk_types::TypeId;
 use std::alloc::Global;
 
@@ -37,14 +38,21 @@ fn copied_types(alloc: Global, list: &[TypeId]) -> Result<Seq<TypeId>, NoMemory>
     Ok(Seq::new(Vec::from_slice(alloc, list)?))
 }
 
+/// What stands at a place in a list; another number past its end.
+fn number_or(list: &[u32], place: usize, other: u32) -> u32
+    ensures { result ≡ get_or list.now place other }
+{
+    match list.get(place) {
+        Some(number) => *number,
+        None => other,
+    }
+}
+
 /// The number of a node; 0 past the last one.
 pub(crate) fn number_at(by_node: &[u32], node: u32) -> u32
     ensures { result ≡ get_or by_node.now node 0 }
 {
-    match by_node.get(node as usize) {
-        Some(number) => *number,
-        None => 0,
-    }
+    number_or(by_node, node as usize, 0)
 }
 
 /// The first points of the nodes of a source. None has a number from 2 ^ 31 on, since no program has more than 65,536
@@ -64,23 +72,16 @@ fn few(alloc: Global, points: &[u32]) -> Result<Seq<u32>, NoMemory>
 
 impl<'a> Given<'a> {
     /// The source of this place.
-    pub(crate) fn linked(&self, source: usize) -> Result<&'a Linked, NoMemory> {
+    pub(crate) fn linked(&self, source: usize) -> Result<&'a Linked, NoMemory>
+        ensures { IfOk result (λ linked. slice_get self.now.whole.now.sources source ≡ Some linked.now) }
+    {
         self.whole.sources.get(source).ok_or(NoMemory)
     }
 
-    /// The program's entity of an entity of a source.
-    pub(crate) fn entity_of(&self, linked: &Linked, e: u32) -> Result<&'a WholeEntity, NoMemory> {
-        let here = linked
-            .entities
-            .list()
-            .get(e as usize)
-            .copied()
-            .ok_or(NoMemory)?;
-        self.whole.entities.get(here as usize).ok_or(NoMemory)
-    }
-
     /// The root of a declared node of a source; 0 past the last one.
-    fn root(&self, source: u32, ordinal: u32) -> u32 {
+    fn root(&self, source: u32, ordinal: u32) -> u32
+        ensures { result ≡ at_node self.now.by_node.now source ordinal }
+    {
         match self.by_node.get(source as usize) {
             Some(row) => number_at(row.list(), ordinal),
             None => 0,
@@ -88,7 +89,9 @@ impl<'a> Given<'a> {
     }
 
     /// The root of an entity that a source defines; 0 where it has none.
-    fn root_in(&self, source: u32, e: u32) -> u32 {
+    fn root_in(&self, source: u32, e: u32) -> u32
+        ensures { result ≡ root_in self.now source e }
+    {
         let Some(linked) = self.whole.sources.get(source as usize) else {
             return 0;
         };
@@ -102,23 +105,37 @@ impl<'a> Given<'a> {
     }
 
     /// The root of an entity by its definition; 0 where no source defines it.
-    pub(crate) fn root_of(&self, definition: Option<(u32, u32)>) -> u32 {
+    pub(crate) fn root_of(&self, definition: Option<(u32, u32)>) -> u32
+        ensures { result ≡ root_by self.now definition }
+    {
         match definition {
             Some((source, e)) => self.root_in(source, e),
             None => 0,
         }
     }
 
-    /// The function of an entity that a source defines; 0 where it has none.
-    fn function_in(&self, source: u32, e: u32) -> u32 {
+    /// The number behind those of the functions of a source; 0 past the last one.
+    fn behind_source(&self, source: u32) -> u32
+        ensures { result ≡ behind_source self.now source }
+    {
+        number_or(self.functions.first.list(), source as usize + 1, 0)
+    }
+
+    /// The function of an entity that a source defines; the number behind those of the source where it has none.
+    fn function_in(&self, source: u32, e: u32) -> u32
+        ensures { result ≡ function_in self.now source e }
+    {
+        let none = self.behind_source(source);
         match self.functions.of_entities.get(source as usize) {
-            Some(row) => number_at(row.list(), e),
-            None => 0,
+            Some(row) => number_or(row.list(), e as usize, none),
+            None => none,
         }
     }
 
     /// The function of an entity by its definition; 0 where no source defines it.
-    pub(crate) fn function_of(&self, definition: Option<(u32, u32)>) -> u32 {
+    pub(crate) fn function_of(&self, definition: Option<(u32, u32)>) -> u32
+        ensures { result ≡ function_by self.now definition }
+    {
         match definition {
             Some((source, e)) => self.function_in(source, e),
             None => 0,
@@ -126,7 +143,9 @@ impl<'a> Given<'a> {
     }
 
     /// The roots of the entities of a source.
-    fn objects(&self, linked: &Linked) -> Result<Seq<u32>, NoMemory> {
+    fn objects(&self, linked: &Linked) -> Result<Seq<u32>, NoMemory>
+        ensures { IfOk result (λ objects. objects ≡ map (object_here self.now) linked.now.entities) }
+    {
         let mut objects = Vec::new(self.alloc);
         for here in linked.entities.list() {
             objects.push(self.root_of(definition_here(self.whole, *here)))?;
@@ -135,7 +154,9 @@ impl<'a> Given<'a> {
     }
 
     /// The functions of the entities of a source.
-    fn functions(&self, linked: &Linked) -> Result<Seq<u32>, NoMemory> {
+    fn functions(&self, linked: &Linked) -> Result<Seq<u32>, NoMemory>
+        ensures { IfOk result (λ functions. functions ≡ map (function_here self.now) linked.now.entities) }
+    {
         let mut functions = Vec::new(self.alloc);
         for here in linked.entities.list() {
             functions.push(self.function_of(definition_here(self.whole, *here)))?;
@@ -144,7 +165,9 @@ impl<'a> Given<'a> {
     }
 
     /// Whether a source of the program defines each of the entities of a source.
-    fn defined(&self, linked: &Linked) -> Result<Seq<bool>, NoMemory> {
+    fn defined(&self, linked: &Linked) -> Result<Seq<bool>, NoMemory>
+        ensures { IfOk result (λ defined. defined ≡ map (is_defined self.now) linked.now.entities) }
+    {
         let mut defined = Vec::new(self.alloc);
         for here in linked.entities.list() {
             defined.push(definition_here(self.whole, *here).is_some())?;
@@ -154,7 +177,8 @@ impl<'a> Given<'a> {
 
     /// What the numbers of the source of this place stand for.
     pub fn names(&self, source: usize) -> Result<SourceNames, NoMemory>
-        ensures { IfOk result AreFew }
+        ensures few { IfOk result AreFew }
+        ensures tables { IfOk result (HasTables self.now source) }
     {
         let linked = self.linked(source)?;
         let points = self.points.get(source).ok_or(NoMemory)?.list();

@@ -1,5 +1,6 @@
 //! The numbers of roots and slots.
-ghost use Rattle.std.specs.Prelude.{◌≡◌, ◌≤◌, ◌<◌, OnOk, length};
+ghost use Rattle.std.specs.Prelude.{◌≡◌, ◌<◌, ◌++◌, ◌∷◌, [], IfOk, OnOk, length, map};
+ghost use Rattle.lk_lower_parts.specs.Gathers.{IsBegun, argument, node_of, root_of, slot_nodes, types_of};
 
 use crate::counts::count_of;
 use crate::roots::{NodeRoot, NodeSlot, SourceParts, no_name};
@@ -18,6 +19,27 @@ pub struct Numbered {
     pub by_node: Vec<Seq<u32>>,
     /// Of each function the types of its slots.
     pub slots: Vec<Seq<TypeId>>,
+}
+
+/// A node: the place of its source, and its number there.
+#[derive(Clone, Copy)]
+pub struct NodeAt {
+    pub source: u32,
+    pub ordinal: u32,
+}
+
+/// The roots and slots of sources while they are put together.
+#[derive(Drop)]
+pub struct Gathering {
+    /// The roots, in the order of their numbers.
+    pub roots: Vec<Root>,
+    /// The nodes of those that are none of main's arguments, in the same order.
+    pub nodes: Vec<NodeAt>,
+    /// Of each node of each source the number of its root, or that of its slot in its function; 0 of each other node.
+    pub by_node: Vec<Seq<u32>>,
+    /// Of each function the types of its slots, and their nodes.
+    pub slots: Vec<Seq<TypeId>>,
+    pub slot_nodes: Vec<Seq<NodeAt>>,
 }
 
 /// Makes a list so long that a place is in it, with zeros at its end.
@@ -40,7 +62,9 @@ fn put(list: &mut Vec<u32>, place: u32, number: usize) -> Result<(), NoMemory> {
 }
 
 /// A root of main's arguments.
-fn argument(alloc: Global, kind: RootKind, ty: TypeId, spot: Spot) -> Result<Root, NoMemory> {
+fn argument(alloc: Global, kind: RootKind, ty: TypeId, spot: Spot) -> Result<Root, NoMemory>
+    ensures { IfOk result (λ root. root ≡ argument kind ty spot) }
+{
     Ok(Root {
         kind,
         ty,
@@ -52,73 +76,149 @@ fn argument(alloc: Global, kind: RootKind, ty: TypeId, spot: Spot) -> Result<Roo
     })
 }
 
-/// Puts a root behind those of the sources before, and its number at its node.
+/// Puts a root of a source behind others, and its number at its node.
 fn number_root(
+    source: u32,
     one: NodeRoot,
     roots: &mut Vec<Root>,
+    nodes: &mut Vec<NodeAt>,
     by_node: &mut Vec<u32>,
-) -> Result<(), NoMemory> {
+) -> Result<(), NoMemory>
+    ensures roots { OnOk result (roots.new.items ≡ roots.old.items ++ root_of one ∷ []) }
+    ensures nodes { OnOk result (nodes.new.items ≡ nodes.old.items ++ node_of source one ∷ []) }
+{
     let NodeRoot { ordinal, root } = one;
     put(by_node, ordinal, roots.len())?;
+    nodes.push(NodeAt { source, ordinal })?;
     roots.push(root)?;
     Ok(())
 }
 
-/// Puts the roots of a source behind those of the sources before, and their numbers at their nodes.
+/// Puts the roots of a source behind others, and their numbers at their nodes.
 fn number_roots(
+    source: u32,
     list: Vec<NodeRoot>,
     roots: &mut Vec<Root>,
+    nodes: &mut Vec<NodeAt>,
     by_node: &mut Vec<u32>,
-) -> Result<(), NoMemory> {
+) -> Result<(), NoMemory>
+    ensures roots { OnOk result (roots.new.items ≡ roots.old.items ++ map root_of list.items) }
+    ensures nodes { OnOk result (nodes.new.items ≡ nodes.old.items ++ map (node_of source) list.items) }
+{
     for one in list {
-        number_root(one, roots, by_node)?;
+        number_root(source, one, roots, nodes, by_node)?;
     }
     Ok(())
 }
 
-/// The types of the slots of a body, of which the numbers are put at their nodes.
-fn number_slots(
-    alloc: Global,
-    list: &[NodeSlot],
-    by_node: &mut Vec<u32>,
-) -> Result<Seq<TypeId>, NoMemory> {
+/// Puts the numbers of the slots of a body at their nodes.
+fn put_slots(list: &[NodeSlot], by_node: &mut Vec<u32>) -> Result<(), NoMemory> {
+    let mut number = 0;
+    for slot in list {
+        put(by_node, slot.ordinal, number)?;
+        number = number.checked_add(1).ok_or(NoMemory)?;
+    }
+    Ok(())
+}
+
+/// The types of slots.
+fn types_of(alloc: Global, list: &[NodeSlot]) -> Result<Seq<TypeId>, NoMemory>
+    ensures { IfOk result (λ types. types ≡ types_of list.now) }
+{
     let mut types = Vec::new(alloc);
     for slot in list {
-        put(by_node, slot.ordinal, types.len())?;
         types.push(slot.ty)?;
     }
     Ok(Seq::new(types))
 }
 
-impl Numbered {
+/// The nodes of slots of a source.
+fn nodes_of(alloc: Global, source: u32, list: &[NodeSlot]) -> Result<Seq<NodeAt>, NoMemory>
+    ensures { IfOk result (λ nodes. nodes ≡ slot_nodes source list.now) }
+{
+    let mut nodes = Vec::new(alloc);
+    for slot in list {
+        let ordinal = slot.ordinal;
+        nodes.push(NodeAt { source, ordinal })?;
+    }
+    Ok(Seq::new(nodes))
+}
+
+/// Puts the slots of the bodies of a source behind others, and their numbers at their nodes.
+fn number_slots(
+    alloc: Global,
+    source: u32,
+    list: &[Seq<NodeSlot>],
+    slots: &mut Vec<Seq<TypeId>>,
+    nodes: &mut Vec<Seq<NodeAt>>,
+    by_node: &mut Vec<u32>,
+) -> Result<(), NoMemory>
+    ensures slots { OnOk result (slots.new.items ≡ slots.old.items ++ map types_of list.now) }
+    ensures nodes { OnOk result (nodes.new.items ≡ nodes.old.items ++ map (slot_nodes source) list.now) }
+{
+    for row in list {
+        put_slots(row.list(), by_node)?;
+        let types = types_of(alloc, row.list())?;
+        slots.push(types)?;
+        let at = nodes_of(alloc, source, row.list())?;
+        nodes.push(at)?;
+    }
+    Ok(())
+}
+
+impl Gathering {
     /// No roots of sources: but for those of main's arguments, where it has parameters, with the place of its name.
     pub(crate) fn new(
         alloc: Global,
         arguments: Option<ArgumentTypes>,
         spot: Spot,
-    ) -> Result<Numbered, NoMemory> {
+    ) -> Result<Gathering, NoMemory>
+        ensures { IfOk result (IsBegun spot arguments) }
+    {
         let mut roots = Vec::new(alloc);
         if let Some(types) = arguments {
-            roots.push(argument(alloc, RootKind::Argv, types.strings, spot)?)?;
-            roots.push(argument(alloc, RootKind::Args, types.chars, spot)?)?;
+            let argv = argument(alloc, RootKind::Argv, types.strings, spot)?;
+            roots.push(argv)?;
+            let args = argument(alloc, RootKind::Args, types.chars, spot)?;
+            roots.push(args)?;
         }
-        Ok(Numbered {
+        Ok(Gathering {
             roots,
+            nodes: Vec::new(alloc),
             by_node: Vec::new(alloc),
             slots: Vec::new(alloc),
+            slot_nodes: Vec::new(alloc),
         })
     }
 
     /// Numbers what the nodes of the next source have.
-    pub(crate) fn number(&mut self, alloc: Global, parts: SourceParts) -> Result<(), NoMemory> {
-        let mut by_node = Vec::new(alloc);
+    pub(crate) fn number(
+        &mut self,
+        alloc: Global,
+        source: u32,
+        parts: SourceParts,
+    ) -> Result<(), NoMemory>
+        ensures roots { OnOk result (self.new.roots.items ≡
+            self.old.roots.items ++ map root_of parts.roots.items) }
+        ensures nodes { OnOk result (self.new.nodes.items ≡
+            self.old.nodes.items ++ map (node_of source) parts.roots.items) }
+        ensures slots { OnOk result (self.new.slots.items ≡
+            self.old.slots.items ++ map types_of parts.slots.items) }
+        ensures slot_nodes { OnOk result (self.new.slot_nodes.items ≡
+            self.old.slot_nodes.items ++ map (slot_nodes source) parts.slots.items) }
+    {
+        let mut row = Vec::new(alloc);
         let SourceParts { roots, slots } = parts;
-        number_roots(roots, &mut self.roots, &mut by_node)?;
-        for row in &slots {
-            self.slots
-                .push(number_slots(alloc, row.list(), &mut by_node)?)?;
-        }
-        self.by_node.push(Seq::new(by_node))?;
+        number_roots(source, roots, &mut self.roots, &mut self.nodes, &mut row)?;
+        number_slots(
+            alloc,
+            source,
+            &slots,
+            &mut self.slots,
+            &mut self.slot_nodes,
+            &mut row,
+        )?;
+        self.by_node.push(Seq::new(row))?;
         Ok(())
     }
 }

@@ -1,6 +1,11 @@
 //! The nodes of a body that have an object or a slot of their own: texts, allocations, and expressions whose value comes
 //! on several ways.
 
+ghost use Rattle.std.specs.Prelude.{◌≡◌, ◌++◌, ◌∷◌, [], map, OnOk};
+ghost use Rattle.std.specs.Option.{option_map};
+ghost use Rattle.lk_lower_expr.specs.Owned as rules;
+ghost use Rattle.lk_lower_parts.specs.Found.{Adds, as_node, callee_owned, form_in, item_owned, library_owned, node_of, owned_here};
+
 use lk_base::{Boxed, NoMemory, Seq, Spot};
 use lk_typed::{
     Callee, LibraryCall, LocalInit, LocalPart, LocalValue, StaticPart, TypedExpr, TypedFirst,
@@ -37,7 +42,9 @@ pub struct Finding<'a> {
 }
 
 /// The node of an expression.
-fn owned_node(e: &TypedExpr) -> OwnedNode {
+fn owned_node(e: &TypedExpr) -> OwnedNode
+    ensures { as_node result ≡ node_of e.now }
+{
     OwnedNode {
         ordinal: e.ordinal,
         spot: e.spot,
@@ -45,22 +52,40 @@ fn owned_node(e: &TypedExpr) -> OwnedNode {
     }
 }
 
+/// Whether there is no count.
+fn is_one(count: &Option<Boxed<TypedExpr>>) -> bool
+    ensures { result ≡ rules.is_one count.now }
+{
+    match count {
+        Some(_) => false,
+        None => true,
+    }
+}
+
 impl Finding<'_> {
     /// Adds the text of an expression.
-    fn push_text(&self, e: &TypedExpr, bytes: &[u8], out: &mut Vec<Owned>) -> Result<(), NoMemory> {
+    fn push_text(&self, e: &TypedExpr, bytes: &[u8], out: &mut Vec<Owned>) -> Result<(), NoMemory>
+        ensures { OnOk result (Adds out.old.items out.new.items
+            (rules.text (node_of e.now) bytes.now ∷ [])) }
+    {
         let bytes = Seq::new(Vec::from_slice(self.alloc, bytes)?);
         out.push(Owned::Text(owned_node(e), bytes))?;
         Ok(())
     }
 
     /// Adds the slot of an expression.
-    fn push_hidden(&self, e: &TypedExpr, out: &mut Vec<Owned>) -> Result<(), NoMemory> {
+    fn push_hidden(&self, e: &TypedExpr, out: &mut Vec<Owned>) -> Result<(), NoMemory>
+        ensures { OnOk result (Adds out.old.items out.new.items (rules.hidden (node_of e.now) ∷ [])) }
+    {
         out.push(Owned::Hidden(owned_node(e)))?;
         Ok(())
     }
 
     /// Adds the slot of `?:`. One of type `void` has no value.
-    fn push_chosen(&self, e: &TypedExpr, out: &mut Vec<Owned>) -> Result<(), NoMemory> {
+    fn push_chosen(&self, e: &TypedExpr, out: &mut Vec<Owned>) -> Result<(), NoMemory>
+        ensures { OnOk result (Adds out.old.items out.new.items
+            (rules.hidden_of (form_in self.now) (form_in self.now e.now.ty) (node_of e.now))) }
+    {
         if e.ty.0 >= self.table.count() {
             return Ok(());
         }
@@ -85,19 +110,20 @@ impl Finding<'_> {
         ty: TypeId,
         one: bool,
         out: &mut Vec<Owned>,
-    ) -> Result<(), NoMemory> {
+    ) -> Result<(), NoMemory>
+        ensures { OnOk result (Adds out.old.items out.new.items
+            (rules.allocation (node_of e.now) ty one ∷ [])) }
+    {
         out.push(Owned::Allocation(owned_node(e), ty, one))?;
         Ok(())
     }
 
     /// Adds what two expressions have.
     #[cycle(finds)]
-    fn push_both(
-        &self,
-        a: &TypedExpr,
-        b: &TypedExpr,
-        out: &mut Vec<Owned>,
-    ) -> Result<(), NoMemory> {
+    fn push_both(&self, a: &TypedExpr, b: &TypedExpr, out: &mut Vec<Owned>) -> Result<(), NoMemory>
+        ensures { OnOk result (Adds out.old.items out.new.items
+            (owned_here self.now a.now ++ owned_here self.now b.now)) }
+    {
         self.push(a, out)?;
         self.push(b, out)
     }
@@ -110,14 +136,20 @@ impl Finding<'_> {
         a: &TypedExpr,
         b: &TypedExpr,
         out: &mut Vec<Owned>,
-    ) -> Result<(), NoMemory> {
+    ) -> Result<(), NoMemory>
+        ensures { OnOk result (Adds out.old.items out.new.items
+            (rules.hidden (node_of e.now) ∷ (owned_here self.now a.now ++ owned_here self.now b.now))) }
+    {
         self.push_hidden(e, out)?;
         self.push_both(a, b, out)
     }
 
     /// Adds what several expressions have.
     #[cycle(finds)]
-    fn push_all(&self, list: &[TypedExpr], out: &mut Vec<Owned>) -> Result<(), NoMemory> {
+    fn push_all(&self, list: &[TypedExpr], out: &mut Vec<Owned>) -> Result<(), NoMemory>
+        ensures { OnOk result (Adds out.old.items out.new.items
+            (rules.all_of (map (owned_here self.now) list.now))) }
+    {
         for e in list {
             self.push(e, out)?;
         }
@@ -126,11 +158,10 @@ impl Finding<'_> {
 
     /// Adds what an expression has, where there is one.
     #[cycle(finds)]
-    fn push_boxed(
-        &self,
-        e: &Option<Boxed<TypedExpr>>,
-        out: &mut Vec<Owned>,
-    ) -> Result<(), NoMemory> {
+    fn push_boxed(&self, e: &Option<Boxed<TypedExpr>>, out: &mut Vec<Owned>) -> Result<(), NoMemory>
+        ensures { OnOk result (Adds out.old.items out.new.items
+            (rules.of_optional (option_map (owned_here self.now) e.now))) }
+    {
         match e {
             Some(e) => self.push(e.get(), out),
             None => Ok(()),
@@ -146,7 +177,11 @@ impl Finding<'_> {
         a: &TypedExpr,
         b: &TypedExpr,
         out: &mut Vec<Owned>,
-    ) -> Result<(), NoMemory> {
+    ) -> Result<(), NoMemory>
+        ensures { OnOk result (Adds out.old.items out.new.items
+            (rules.hidden_of (form_in self.now) (form_in self.now e.now.ty) (node_of e.now)
+            ++ (owned_here self.now c.now ++ (owned_here self.now a.now ++ owned_here self.now b.now)))) }
+    {
         self.push_chosen(e, out)?;
         self.push(c, out)?;
         self.push_both(a, b, out)
@@ -154,7 +189,10 @@ impl Finding<'_> {
 
     /// Adds what is called has.
     #[cycle(finds)]
-    fn push_callee(&self, callee: &Callee, out: &mut Vec<Owned>) -> Result<(), NoMemory> {
+    fn push_callee(&self, callee: &Callee, out: &mut Vec<Owned>) -> Result<(), NoMemory>
+        ensures { OnOk result (Adds out.old.items out.new.items
+            (callee_owned (form_in self.now) callee.now)) }
+    {
         match callee {
             Callee::Function(_) => Ok(()),
             Callee::Pointer(function) => self.push(function.get(), out),
@@ -168,7 +206,10 @@ impl Finding<'_> {
         call: &LibraryCall,
         e: &TypedExpr,
         out: &mut Vec<Owned>,
-    ) -> Result<(), NoMemory> {
+    ) -> Result<(), NoMemory>
+        ensures { OnOk result (Adds out.old.items out.new.items
+            (library_owned (form_in self.now) call.now (node_of e.now))) }
+    {
         match call {
             LibraryCall::Create(a, _, b) => self.push_both(a.get(), b.get(), out),
             LibraryCall::Equal(a, b) => self.push_both(a.get(), b.get(), out),
@@ -185,7 +226,7 @@ impl Finding<'_> {
             LibraryCall::Scan(a) => self.push(a.get(), out),
             LibraryCall::SelfId => Ok(()),
             LibraryCall::Allocate(ty, count, _) => {
-                self.push_allocation(e, *ty, count.is_none(), out)?;
+                self.push_allocation(e, *ty, is_one(count), out)?;
                 self.push_boxed(count, out)
             }
             LibraryCall::Exit(status) => self.push_boxed(status, out),
@@ -199,7 +240,9 @@ impl Finding<'_> {
 
     /// Adds what an expression has, and what is inside it.
     #[cycle(finds)]
-    pub fn push(&self, e: &TypedExpr, out: &mut Vec<Owned>) -> Result<(), NoMemory> {
+    pub fn push(&self, e: &TypedExpr, out: &mut Vec<Owned>) -> Result<(), NoMemory>
+        ensures { OnOk result (Adds out.old.items out.new.items (owned_here self.now e.now)) }
+    {
         match &e.form {
             TypedForm::Object(_) => Ok(()),
             TypedForm::Number(_) => Ok(()),
@@ -236,7 +279,9 @@ impl Finding<'_> {
     }
 
     /// Adds what an expression has, where there is one.
-    fn push_optional(&self, e: &Option<TypedExpr>, out: &mut Vec<Owned>) -> Result<(), NoMemory> {
+    fn push_optional(&self, e: &Option<TypedExpr>, out: &mut Vec<Owned>) -> Result<(), NoMemory>
+        ensures { OnOk result (Adds out.old.items out.new.items (rules.owned_in (form_in self.now) e.now)) }
+    {
         match e {
             Some(e) => self.push(e, out),
             None => Ok(()),
@@ -244,7 +289,10 @@ impl Finding<'_> {
     }
 
     /// Adds what the value of a part has.
-    fn push_value(&self, value: &LocalValue, out: &mut Vec<Owned>) -> Result<(), NoMemory> {
+    fn push_value(&self, value: &LocalValue, out: &mut Vec<Owned>) -> Result<(), NoMemory>
+        ensures { OnOk result (Adds out.old.items out.new.items
+            (rules.of_value (form_in self.now) value.now)) }
+    {
         match value {
             LocalValue::Expr(e) => self.push(e, out),
             LocalValue::Text(_, _, _) | LocalValue::Ready => Ok(()),
@@ -252,7 +300,10 @@ impl Finding<'_> {
     }
 
     /// Adds what the values of parts have.
-    fn push_parts(&self, parts: &[LocalPart], out: &mut Vec<Owned>) -> Result<(), NoMemory> {
+    fn push_parts(&self, parts: &[LocalPart], out: &mut Vec<Owned>) -> Result<(), NoMemory>
+        ensures { OnOk result (Adds out.old.items out.new.items
+            (rules.of_parts (form_in self.now) parts.now)) }
+    {
         for part in parts {
             self.push_value(&part.value, out)?;
         }
@@ -260,7 +311,10 @@ impl Finding<'_> {
     }
 
     /// Adds what the initialisers of locals have.
-    fn push_inits(&self, inits: &[LocalInit], out: &mut Vec<Owned>) -> Result<(), NoMemory> {
+    fn push_inits(&self, inits: &[LocalInit], out: &mut Vec<Owned>) -> Result<(), NoMemory>
+        ensures { OnOk result (Adds out.old.items out.new.items
+            (rules.of_inits (form_in self.now) inits.now)) }
+    {
         for init in inits {
             self.push_parts(init.named.list(), out)?;
         }
@@ -268,7 +322,10 @@ impl Finding<'_> {
     }
 
     /// Adds what the pointers among the parts of an initialiser of static storage have.
-    pub fn push_static(&self, parts: &[StaticPart], out: &mut Vec<Owned>) -> Result<(), NoMemory> {
+    pub fn push_static(&self, parts: &[StaticPart], out: &mut Vec<Owned>) -> Result<(), NoMemory>
+        ensures { OnOk result (Adds out.old.items out.new.items
+            (rules.of_static_parts (form_in self.now) parts.now)) }
+    {
         for part in parts {
             self.push_optional(&part.pointer, out)?;
         }
@@ -276,7 +333,10 @@ impl Finding<'_> {
     }
 
     /// Adds what the first part of a `for` has.
-    fn push_first(&self, first: &TypedFirst, out: &mut Vec<Owned>) -> Result<(), NoMemory> {
+    fn push_first(&self, first: &TypedFirst, out: &mut Vec<Owned>) -> Result<(), NoMemory>
+        ensures { OnOk result (Adds out.old.items out.new.items
+            (rules.of_first (form_in self.now) first.now)) }
+    {
         match first {
             TypedFirst::Expr(e) => self.push_optional(e, out),
             TypedFirst::Declare(inits) => self.push_inits(inits.list(), out),
@@ -285,7 +345,9 @@ impl Finding<'_> {
 
     /// Adds what an item of a block has.
     #[cycle(finds_in)]
-    fn push_item(&self, item: &TypedItem, out: &mut Vec<Owned>) -> Result<(), NoMemory> {
+    fn push_item(&self, item: &TypedItem, out: &mut Vec<Owned>) -> Result<(), NoMemory>
+        ensures { OnOk result (Adds out.old.items out.new.items (item_owned (form_in self.now) item.now)) }
+    {
         match item {
             TypedItem::Declare(inits) => self.push_inits(inits.list(), out),
             TypedItem::Stmt(s) => self.push_statement(s, out),
@@ -294,7 +356,10 @@ impl Finding<'_> {
 
     /// Adds what the items of a block have.
     #[cycle(finds_in)]
-    fn push_items(&self, items: &[TypedItem], out: &mut Vec<Owned>) -> Result<(), NoMemory> {
+    fn push_items(&self, items: &[TypedItem], out: &mut Vec<Owned>) -> Result<(), NoMemory>
+        ensures { OnOk result (Adds out.old.items out.new.items
+            (rules.all_of (map (item_owned (form_in self.now)) items.now))) }
+    {
         for item in items {
             self.push_item(item, out)?;
         }
@@ -307,7 +372,10 @@ impl Finding<'_> {
         &self,
         s: &Option<Boxed<TypedStmt>>,
         out: &mut Vec<Owned>,
-    ) -> Result<(), NoMemory> {
+    ) -> Result<(), NoMemory>
+        ensures { OnOk result (Adds out.old.items out.new.items
+            (rules.of_optional (option_map (rules.owned_by (form_in self.now)) s.now))) }
+    {
         match s {
             Some(s) => self.push_statement(s.get(), out),
             None => Ok(()),
@@ -316,7 +384,9 @@ impl Finding<'_> {
 
     /// Adds what a statement has.
     #[cycle(finds_in)]
-    pub fn push_statement(&self, s: &TypedStmt, out: &mut Vec<Owned>) -> Result<(), NoMemory> {
+    pub fn push_statement(&self, s: &TypedStmt, out: &mut Vec<Owned>) -> Result<(), NoMemory>
+        ensures { OnOk result (Adds out.old.items out.new.items (rules.owned_by (form_in self.now) s.now)) }
+    {
         match &s.form {
             TypedStmtForm::Label(a) => self.push_statement(a.get(), out),
             TypedStmtForm::Case(a) => self.push_statement(a.get(), out),

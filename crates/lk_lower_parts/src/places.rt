@@ -2,11 +2,13 @@
 ghost use Rattle.std.specs.Prelude.{◌≡◌, ◌≢◌, ◌<◌, ◌++◌, ◌∷◌, [], All, Err, IfOk, OnOk};
 ghost use Rattle.lk_facts.specs.Program.{place_of};
 ghost use Rattle.lk_lower_parts.specs.Cells.{AreCells, IsPlaceIn, IsPutIn};
+ghost use Rattle.lk_lower_parts.specs.TextOrder.{AreOrdered};
 ghost use Rattle.lk_lower_parts.specs.declared.fault.LowerFault.TheVariants.{TooManyPoints};
 ghost use Rattle.lk_types.specs.Nodes.{IsNode, IsSel};
 
 use crate::counts::{behind, count_of};
 use crate::fault::LowerFault;
+use crate::text::are_ordered;
 use lk_base::{MOST_LABELS, MOST_TYPE_STEPS, NoMemory, Spot};
 use lk_facts::{Place, Places, Root, RootKind};
 use lk_types::{CType, NodeId, Sel, TypeTable};
@@ -242,6 +244,7 @@ pub struct AllPlaces {
 /// `TooManyPlaces` comes exactly where there are more than 65,536 of both together, unless memory ends first.
 pub fn all_places(alloc: Global, types: &TypeTable, roots: &[Root]) -> Result<AllPlaces, LowerFault>
     ensures nodes { IfOk result (λ found. All (IsPlaceIn types.now) found.places) }
+    ensures order { IfOk result (λ found. AreOrdered roots.now found.places found.locations) }
     ensures points { result ≢ Err TooManyPoints }
 {
     let found = cells_of(alloc, types, roots)?;
@@ -252,5 +255,6 @@ pub fn all_places(alloc: Global, types: &TypeTable, roots: &[Root]) -> Result<Al
     put_all(types, &found.values, &mut places)?;
     put_all(types, &found.locks, &mut places)?;
     let locations = count_of(found.values.len())?;
+    are_ordered(roots, places.list(), locations)?;
     Ok(AllPlaces { places, locations })
 }

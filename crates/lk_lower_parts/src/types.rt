@@ -1,5 +1,6 @@
 //! Types that the program needs beside those of its sources.
-ghost use Rattle.std.specs.Prelude.{◌≡◌, IfOk, Some, slice_get};
+ghost use Rattle.std.specs.Prelude.{◌≡◌, IfOk, OnOk, Some, slice_get};
+ghost use Rattle.lk_lower_parts.specs.Tables.{AreArgumentTypes, ArePointerRows, ArePointersTo, HasMore};
 ghost use Rattle.lk_types.specs.declared.c_type.CType.TheVariants.{Array};
 
 use lk_base::{NoMemory, Seq};
@@ -19,18 +20,22 @@ pub(crate) fn form(table: &TypeTable, t: TypeId) -> Result<&CType, NoMemory>
 
 /// Puts a form to a table. Each one that is put is of parts that the table has, and no larger than a type may be, and no
 /// program has as many types as there are numbers.
+#[tactic(auto, using(crate::proofs::Pointers::put_more))]
 fn put(table: &mut TypeTable, form: CType) -> Result<TypeId, NoMemory>
-    ensures { IfOk result (λ t. slice_get table.new.types t ≡ Some form) }
+    ensures put { IfOk result (λ t. slice_get table.new.types t ≡ Some form) }
+    ensures more { OnOk result (HasMore table.old table.new) }
 {
     if !table.is_form(&form) || table.form_size(&form).is_none() || table.count() == u32::MAX {
         return Err(NoMemory);
     }
-    table.put(form)
+    let t = table.put(form)?;
+    Ok(t)
 }
 
 /// An array of elements of a type, without a size.
 pub(crate) fn unsized_array(table: &mut TypeTable, t: TypeId) -> Result<TypeId, NoMemory>
-    ensures { IfOk result (λ array. slice_get table.new.types array ≡ Some (Array t 0)) }
+    ensures array { IfOk result (λ array. slice_get table.new.types array ≡ Some (Array t 0)) }
+    ensures more { OnOk result (HasMore table.old table.new) }
 {
     put(table, CType::Array(t, 0))
 }
@@ -40,10 +45,14 @@ fn pointer_row(
     alloc: Global,
     types: &[TypeId],
     table: &mut TypeTable,
-) -> Result<Seq<TypeId>, NoMemory> {
+) -> Result<Seq<TypeId>, NoMemory>
+    ensures pointers { IfOk result (ArePointersTo table.new types.now) }
+    ensures more { OnOk result (HasMore table.old table.new) }
+{
     let mut row = Vec::new(alloc);
     for t in types {
-        row.push(put(table, CType::Pointer(*t))?)?;
+        let pointer = put(table, CType::Pointer(*t))?;
+        row.push(pointer)?;
     }
     Ok(Seq::new(row))
 }
@@ -53,10 +62,14 @@ pub fn pointer_rows(
     alloc: Global,
     whole: &Whole,
     table: &mut TypeTable,
-) -> Result<Vec<Seq<TypeId>>, NoMemory> {
+) -> Result<Vec<Seq<TypeId>>, NoMemory>
+    ensures pointers { IfOk result (λ rows. ArePointerRows table.new whole.now.sources rows.items) }
+    ensures more { OnOk result (HasMore table.old table.new) }
+{
     let mut rows = Vec::new(alloc);
     for linked in whole.sources.list() {
-        rows.push(pointer_row(alloc, linked.types.list(), table)?)?;
+        let row = pointer_row(alloc, linked.types.list(), table)?;
+        rows.push(row)?;
     }
     Ok(rows)
 }
@@ -71,7 +84,11 @@ pub(crate) struct ArgumentTypes {
 }
 
 /// The types of the objects of main's arguments (C99 5.1.2.2.1).
-pub(crate) fn argument_types(table: &mut TypeTable) -> Result<ArgumentTypes, NoMemory> {
+#[tactic(auto, using(crate::proofs::Pointers::kept, crate::proofs::Pointers::more_more))]
+pub(crate) fn argument_types(table: &mut TypeTable) -> Result<ArgumentTypes, NoMemory>
+    ensures types { IfOk result (AreArgumentTypes table.new) }
+    ensures more { OnOk result (HasMore table.old table.new) }
+{
     let string = put(table, CType::Pointer(TypeId::CHAR))?;
     Ok(ArgumentTypes {
         strings: unsized_array(table, string)?,

@@ -11,7 +11,8 @@ use Rattle.lk_lower_expr.specs.Lowering.{ComesBefore, Counts, Numbers, StandsIn,
 use Rattle.lk_lower_expr.specs.Names.{Node}
 use Rattle.lk_lower_expr.specs.declared.step.Step.{Step}
 use Rattle.lk_lower_unit.proofs.Sums.{counted}
-use Rattle.lk_lower_unit.specs.Counting.{AreBases, Has, at_node, number_by, total}
+use Rattle.lk_lower_parts.specs.Givens.{at_node}
+use Rattle.lk_lower_unit.specs.Counting.{AreBases, Has, number_by, total}
 use Rattle.lk_lower_unit.specs.PointNumbers.{ArePointNumbers, CountSources, CountsUnit, HasMorePoints, HasStep, SayOf, ordinal_of, slot_of}
 use Rattle.lk_lower_unit.specs.Prefixes.{rows_from}
 use Rattle.lk_lower_unit.specs.Stands.{IsStepOf, of_body, of_static}

@@ -5,7 +5,8 @@ use Rattle.std.proofs.lemmas.List.{append-nil, drop_all}
 use Rattle.std.proofs.lemmas.List.Sums.{sum_by-cons}
 use Rattle.std.specs.List.{sum, sum_by}
 use Rattle.lk_lower_expr.specs.Lowering.{ComesBefore, Counts, source, node, step}
-use Rattle.lk_lower_unit.specs.Counting.{AreBases, Has, at_node, number_by, total}
+use Rattle.lk_lower_parts.specs.Givens.{at_node}
+use Rattle.lk_lower_unit.specs.Counting.{AreBases, Has, number_by, total}
 use Rattle.lk_lower_unit.specs.Prefixes.{rows_from, sums_from}
 use Rattle.lk_lower_unit.specs.declared.bases.Bases.{Bases}
 

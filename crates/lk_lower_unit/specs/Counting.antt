@@ -1,12 +1,9 @@
 -- How the nodes of sources are numbered: in the order of the sources and of their nodes, each node with as many numbers as it counts.
-use Rattle.std.specs.Prelude.{◌≡◌, ◌<◌, ◌≤◌, ◌+◌, ℕ, List, [], get_or}
+use Rattle.std.specs.Prelude.{◌≡◌, ◌<◌, ◌≤◌, ◌+◌, ℕ, List}
 use Rattle.std.specs.List.{sum, sum_by}
 use Rattle.lk_lower_expr.specs.Lowering.{Counts}
+use Rattle.lk_lower_parts.specs.Givens.{at_node}
 use Rattle.lk_lower_unit.specs.declared.bases.Bases.{Bases}
-
--- what stands at a node of a source, where each source has a list of that; 0 past the last one
-abbrev pub at_node : List (List ℕ) → (s o : ℕ) → ℕ
-at_node lists s o = get_or (get_or lists s []) o 0
 
 -- the thing `k` of a node is there, where a list says of each source how many things each node has
 abbrev pub Has : List (List ℕ) → (s o k : ℕ) → Type 0

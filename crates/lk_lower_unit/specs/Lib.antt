@@ -1,6 +1,8 @@
 pub mod Bodies
 pub mod Counting
 pub mod Lowers
+pub mod Made
+pub mod Placed
 pub mod PointNumbers
 pub mod Pointers
 pub mod Prefixes

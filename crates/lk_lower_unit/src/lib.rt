@@ -5,6 +5,7 @@ mod bases;
 mod counts;
 mod fault;
 mod nodes;
+mod place;
 mod points;
 mod programs;
 mod standing;

@@ -1,43 +1,27 @@
 //! The program that checked sources become.
 ghost use Rattle.std.specs.Prelude.{◌≡◌, ◌≢◌, ◌<◌, ◌↔◌, All, IfOk, IsTrue, OnOk, length, Err};
-ghost use Rattle.lk_lower_expr.specs.Naming.{AreFew};
+ghost use Rattle.lk_lower_expr.specs.Programs.{IsMadeOf};
 ghost use Rattle.lk_lower_parts.specs.Cells.{IsPlaceIn};
 ghost use Rattle.lk_lower_parts.specs.declared.fault.LowerFault.TheVariants.{TooManyPoints};
+ghost use Rattle.lk_lower_parts.specs.FunctionNumbers.{AreFunctionNumbers};
 ghost use Rattle.lk_lower_unit.specs.Lowers.{ArePlaceNodes};
+ghost use Rattle.lk_lower_unit.specs.Made.{HasParts, IsCode, IsProgramOf, IsRest};
+ghost use Rattle.lk_lower_unit.specs.Placed.{AreAlive, AreFound};
 ghost use Rattle.lk_lower_unit.specs.PointNumbers.{ArePointNumbers, HasMorePoints};
 
 use crate::bases::Bases;
 use crate::fault::CountFault;
-use crate::nodes::Nodes;
+use crate::place::all_points;
 use crate::points::number_points;
-use crate::standing::StandingStep;
-use crate::unit::UnitLowering;
-use lk_base::{CellStep, NoMemory, Seq};
+use lk_base::{NoMemory, Seq};
 use lk_facts::{Function, Initial, Point, Points, Program, Root, live_points};
-use lk_lower_expr::{NamedStep, SourceNames, Step};
 use lk_lower_parts::{
-    AllPlaces, FunctionNumbers, Given, LowerFault, Main, Numbered, all_places, cell_node,
-    give_sites, main_of, number_functions, number_roots_and_slots, pointer_rows, void_parts,
+    AllPlaces, FunctionNumbers, Given, LowerFault, Main, Numbered, all_places, give_sites, main_of,
+    number_functions, number_roots_and_slots, pointer_rows, void_parts,
 };
 use lk_typed::Whole;
-use lk_types::{NodeId, TypeId, TypeTable};
+use lk_types::{TypeId, TypeTable};
 use std::alloc::Global;
-
-/// The nodes of the program's types.
-#[derive(Drop)]
-struct ProgramNodes<'a> {
-    types: &'a TypeTable,
-}
-
-impl Nodes for ProgramNodes<'_> {
-    ghost use Rattle.lk_lower_parts.specs.Nodes.{cell_node};
-
-    ghost node = { λ nodes. cell_node nodes.types.now };
-
-    fn node(&self, ty: TypeId, path: &[CellStep]) -> NodeId {
-        cell_node(self.types, ty, path)
-    }
-}
 
 /// The numbers of the points of the program.
 fn points_of(alloc: Global, whole: &Whole) -> Result<Bases, LowerFault>
@@ -49,128 +33,6 @@ fn points_of(alloc: Global, whole: &Whole) -> Result<Bases, LowerFault>
         Err(CountFault::TooMany) => Err(LowerFault::TooManyPoints),
         Err(CountFault::NoMemory) => Err(LowerFault::NoMemory),
     }
-}
-
-/// The point of a step. Whether it is live, and its site, isn't known yet.
-fn point_of(is: Step, function: u32) -> Point {
-    let Step {
-        does,
-        gives,
-        next,
-        spot,
-    } = is;
-    Point {
-        action: does,
-        value: gives,
-        next,
-        function,
-        spot,
-        live: false,
-        site: None,
-    }
-}
-
-/// So many points, of which none is known.
-fn unknown(alloc: Global, count: u32) -> Result<Vec<Option<Point>>, NoMemory> {
-    let mut points = Vec::new(alloc);
-    for _ in 0..count {
-        points.push(None)?;
-    }
-    Ok(points)
-}
-
-/// Puts the point of a step at its number. No node has so many steps that one has a number from 2 ^ 31 on, and each point
-/// has a number.
-fn place_step(
-    names: &SourceNames,
-    one: StandingStep,
-    points: &mut Vec<Option<Point>>,
-) -> Result<(), NoMemory>
-    requires { AreFew names.now }
-{
-    let StandingStep {
-        step: NamedStep { node, step, is },
-        function,
-    } = one;
-    if step >= 1 << 31 {
-        return Err(NoMemory);
-    }
-    let number = names.at(node, step) as usize;
-    if number >= points.len() {
-        return Err(NoMemory);
-    }
-    points[number] = Some(point_of(is, function));
-    Ok(())
-}
-
-/// Puts the points of steps at their numbers.
-fn place(
-    names: &SourceNames,
-    steps: Vec<StandingStep>,
-    points: &mut Vec<Option<Point>>,
-) -> Result<(), NoMemory>
-    requires { AreFew names.now }
-{
-    for one in steps {
-        place_step(names, one, points)?;
-    }
-    Ok(())
-}
-
-/// The points, each of which is known.
-fn known(alloc: Global, points: Vec<Option<Point>>) -> Result<Vec<Point>, NoMemory> {
-    let mut all = Vec::new(alloc);
-    for point in points {
-        match point {
-            Some(point) => all.push(point)?,
-            None => return Err(NoMemory),
-        }
-    }
-    Ok(all)
-}
-
-/// The steps of a source, by the numbers of its nodes.
-fn steps_of(
-    given: &Given<'_>,
-    types: &TypeTable,
-    source: usize,
-    names: &mut SourceNames,
-) -> Result<Vec<StandingStep>, NoMemory>
-    requires { AreFew names.old }
-    ensures { AreFew names.new }
-{
-    let linked = given.whole.sources.get(source).ok_or(NoMemory)?;
-    let first = given.functions.first.get(source).copied().ok_or(NoMemory)?;
-    let nodes = ProgramNodes { types };
-    let lowering = UnitLowering {
-        alloc: given.alloc,
-        unit: &linked.unit,
-        nodes: &nodes,
-        first,
-        none: given.functions.count,
-    };
-    lowering.steps(names)
-}
-
-/// Puts the points of a source at their numbers.
-fn place_source(
-    given: &Given<'_>,
-    types: &TypeTable,
-    source: usize,
-    points: &mut Vec<Option<Point>>,
-) -> Result<(), NoMemory> {
-    let mut names = given.names(source)?;
-    let steps = steps_of(given, types, source, &mut names)?;
-    place(&names, steps, points)
-}
-
-/// The points of the program, by the numbers that are given.
-fn all_points(given: &Given<'_>, types: &TypeTable, count: u32) -> Result<Vec<Point>, NoMemory> {
-    let mut points = unknown(given.alloc, count)?;
-    for source in 0..given.whole.sources.len() {
-        place_source(given, types, source, &mut points)?;
-    }
-    known(given.alloc, points)
 }
 
 /// Whether these numbers are of points, of which there are so many.
@@ -209,11 +71,9 @@ fn live(alloc: Global, points: &[Point], functions: &[Function]) -> Result<Vec<b
 }
 
 /// Says of each point whether it is live.
-fn give_life(
-    alloc: Global,
-    points: &mut Vec<Point>,
-    functions: &[Function],
-) -> Result<(), NoMemory> {
+fn give_life(alloc: Global, points: &mut Vec<Point>, functions: &[Function]) -> Result<(), NoMemory>
+    ensures { OnOk result (AreAlive points.old.items points.new.items) }
+{
     let live = live(alloc, points, functions)?;
     for p in 0..points.len() {
         points[p].live = live[p];
@@ -233,7 +93,9 @@ fn made(program: Program) -> Result<Points, NoMemory>
 }
 
 /// The types of the program, with the Parts of `void`. Each type that is one is in the table, once.
-fn with_parts(alloc: Global, types: TypeTable, points: &[Point]) -> Result<TypeTable, NoMemory> {
+fn with_parts(alloc: Global, types: TypeTable, points: &[Point]) -> Result<TypeTable, NoMemory>
+    ensures { IfOk result (HasParts types) }
+{
     let parts = void_parts(alloc, &types, points)?;
     if types.are_parts(&parts) {
         Ok(types.with_parts(parts))
@@ -259,6 +121,7 @@ fn rest_of(
     types: TypeTable,
 ) -> Result<Rest, LowerFault>
     ensures nodes { IfOk result (λ rest. All (IsPlaceIn rest.types) rest.places.places) }
+    ensures rest { IfOk result (IsRest given.now roots.items types) }
     ensures points { result ≢ Err TooManyPoints }
 {
     let types = with_parts(given.alloc, types, points)?;
@@ -286,9 +149,12 @@ fn code_of(
     types: &TypeTable,
     slots: Vec<Seq<TypeId>>,
     count: u32,
-) -> Result<Code, NoMemory> {
+) -> Result<Code, NoMemory>
+    requires { AreFound given.now types.now }
+    ensures { IfOk result (IsCode given.now types.now slots.items count) }
+{
     let mut points = all_points(given, types, count)?;
-    let mut functions = given.all_functions(slots)?;
+    let mut functions = given.all_functions(&slots)?;
     give_life(given.alloc, &mut points, &functions)?;
     let sites = give_sites(given.alloc, &mut points, &mut functions)?;
     Ok(Code {
@@ -300,8 +166,14 @@ fn code_of(
 
 /// The program of these parts.
 fn put_together(code: Code, rest: Rest, main: Main) -> Program
-    ensures places { result.places ≡ rest.places.places }
+    ensures points { result.points ≡ code.points.items }
+    ensures functions { result.functions ≡ code.functions.items }
+    ensures roots { result.roots ≡ rest.roots.items }
     ensures types { result.types ≡ rest.types }
+    ensures places { result.places ≡ rest.places.places }
+    ensures locations { result.locations ≡ rest.places.locations }
+    ensures initials { result.initials ≡ rest.initials }
+    ensures main { result.main ≡ main.function }
 {
     let Code {
         points,
@@ -336,7 +208,9 @@ fn program_of(
     roots: Vec<Root>,
     types: TypeTable,
 ) -> Result<Points, LowerFault>
+    requires { AreFound given.now types }
     ensures nodes { IfOk result ArePlaceNodes }
+    ensures made { IfOk result (IsProgramOf given.now types main count slots.items roots.items) }
     ensures points { result ≢ Err TooManyPoints }
 {
     let code = code_of(given, &types, slots, count)?;
@@ -352,7 +226,10 @@ fn assemble(
     bases: &Bases,
     functions: &FunctionNumbers,
 ) -> Result<Points, LowerFault>
+    requires points { ArePointNumbers whole.now bases.now }
+    requires functions { AreFunctionNumbers whole.now.sources functions.now }
     ensures nodes { IfOk result ArePlaceNodes }
+    ensures made { IfOk result (IsMadeOf whole.now) }
     ensures points { result ≢ Err TooManyPoints }
 {
     let main = main_of(whole, functions)?;
@@ -372,6 +249,7 @@ fn assemble(
         by_node: &by_node,
         pointers: &pointers,
     };
+    types.is_table();
     program_of(&given, main, bases.count, slots, roots, types)
 }
 
@@ -381,6 +259,7 @@ fn assemble(
 /// so and its locations and lock places together are more than 65,536, unless memory ends first.
 pub fn lower(alloc: Global, whole: &Whole) -> Result<Points, LowerFault>
     ensures nodes { IfOk result ArePlaceNodes }
+    ensures made { IfOk result (IsMadeOf whole.now) }
     ensures few { OnOk result (HasMorePoints whole.now 65536 → ⊥) }
     ensures many { result ≡ Err TooManyPoints → HasMorePoints whole.now 65536 }
 {

@@ -1,6 +1,12 @@
-use Rattle.std.proofs.Common.{◌+◌, ◌*◌, max}
+use Rattle.std.proofs.Common.{◌≡◌, ◌++◌, ◌+◌, ◌*◌, drop, max}
+use Rattle.std.specs.Prelude.{map}
+use Rattle.lk_lower_expr.specs.Owned.{all_of}
+use Rattle.lk_lower_parts.specs.Found.{all_found, owned_here}
 use Rattle.lk_typed.specs.declared.expression.TypedExpr.{size-TypedExpr}
 use Rattle.lk_lower_parts.proofs.owned.Finding.+finds.Given as goal
+
+abbrev pub invariant-push_all-loop-e : goal.invariant-push_all-loop-e
+invariant-push_all-loop-e l = all_found l.initial.out.items ++ all_of (map (owned_here l.self) l.list) ≡ all_found l.out.items ++ all_of (map (owned_here l.self) (drop l.e-index l.list))
 
 abbrev pub decreases-push : goal.decreases-push
 decreases-push l = 4 * goal.size-push l
