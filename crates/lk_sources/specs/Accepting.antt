@@ -10,6 +10,7 @@ use Rattle.lk_typed.specs.Elements.{HasFewElements}
 use Rattle.lk_typed.specs.Env.{Name}
 use Rattle.lk_typed.specs.Meaning.{IsReady}
 use Rattle.lk_words.specs.Words.{Check}
+use Rattle.lk_check_unit.specs.Sources.{IsBehind, RecordsOf}
 use Rattle.lk_sources.specs.Externs.{externs_text, listed, Names, BadLine}
 use Rattle.lk_sources.specs.Faults.{AreFaultless, AreFaulty}
 use Rattle.lk_sources.specs.Numbers.{numbered, refusal_at}
@@ -48,10 +49,12 @@ pub data AreRefused (names : List (List ℕ)) (externs : List Name) (sources : L
 abbrev pub units_of : List AcceptedSource → List Unit
 units_of sources = map (λ s. s.parsed.unit) sources
 
--- a source's types are as its typed tree asks for them
-pub record HasReadyTypes (source : AcceptedSource) : Type 0 where
+-- a source is checked, where --externs lists these names: its types are as its typed tree asks for them, and what was found is true of it
+pub record IsCheckedSource (externs : List Name) (source : AcceptedSource) : Type 0 where
   pub ready : IsReady source.checked.types
   pub few : HasFewElements source.checked.types
+  pub records : RecordsOf externs source.parsed.unit source.checked.types source.checked.records
+  pub behind : IsBehind externs source.parsed.unit source.checked
 
 -- the lines of the externs file are names, and the sources are accepted
 pub record IsAccepted (names : List (List ℕ)) (externs sources : List Source) (accepted : Accepted) : Type 0 where

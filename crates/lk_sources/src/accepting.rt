@@ -1,6 +1,6 @@
 //! The sources of a command: split, parsed and checked.
 ghost use Rattle.std.specs.Prelude.{All, IfOk, IfErr};
-ghost use Rattle.lk_sources.specs.Accepting.{AreAccepted, HasReadyTypes, IsAccepted, Refuses, units_of};
+ghost use Rattle.lk_sources.specs.Accepting.{AreAccepted, IsAccepted, IsCheckedSource, Refuses, units_of};
 ghost use Rattle.lk_sources.specs.Calls.{IsBadExterns};
 ghost use Rattle.lk_sources.specs.Judging.{AcceptsSources, IsJudged, RefusesSources};
 ghost use Rattle.lk_sources.specs.Readable.{AreNamed, AreShort, IsReadable};
@@ -34,7 +34,7 @@ fn judge(
 ) -> Result<Vec<AcceptedSource>, Fault>
     requires few { AreShort 1048576 sources.now }
     requires named { AreNamed files.old sources.now }
-    ensures ready { IfOk result (λ accepted. All HasReadyTypes accepted.items) }
+    ensures checked { IfOk result (λ accepted. All (IsCheckedSource externs.now) accepted.items) }
     ensures ok { IfOk result (λ accepted. AreAccepted files.old externs.now sources.now files.new (units_of accepted.items)) }
     ensures err { IfErr result (IsJudged files.old externs.now sources.now files.new) }
 {
@@ -53,7 +53,7 @@ fn accept_sources(
 ) -> Result<Accepted, SourcesFault>
     requires few { AreShort 1048576 sources.now }
     requires named { AreNamed files sources.now }
-    ensures ready { IfOk result (λ accepted. All HasReadyTypes accepted.sources.items) }
+    ensures checked { IfOk result (λ accepted. All (IsCheckedSource accepted.externs.items) accepted.sources.items) }
     ensures ok { IfOk result (AcceptsSources files externs.items sources.now) }
     ensures err { IfErr result (RefusesSources files externs.items sources.now) }
 {
@@ -93,7 +93,7 @@ fn bad_externs(
 /// tree; a tree has a fault. Of the sources to which it applies the first is told.
 pub fn accept(alloc: Global, texts: Texts) -> Result<Accepted, SourcesFault>
     requires { IsReadable texts }
-    ensures ready { IfOk result (λ accepted. All HasReadyTypes accepted.sources.items) }
+    ensures checked { IfOk result (λ accepted. All (IsCheckedSource accepted.externs.items) accepted.sources.items) }
     ensures ok { IfOk result (IsAccepted texts.files texts.externs texts.sources) }
     ensures err { IfErr result (Refuses texts) }
 {

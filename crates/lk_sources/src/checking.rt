@@ -1,6 +1,6 @@
 //! The check of several sources.
 ghost use Rattle.std.specs.Prelude.{◌≡◌, ◌∷◌, [], map, All, IfOk, IfErr};
-ghost use Rattle.lk_sources.specs.Accepting.{HasReadyTypes, units_of};
+ghost use Rattle.lk_sources.specs.Accepting.{IsCheckedSource, units_of};
 ghost use Rattle.lk_sources.specs.Faults.{AreFaultless, IsFaultless};
 ghost use Rattle.lk_sources.specs.Judging.{IsFaulty};
 
@@ -21,7 +21,7 @@ pub struct AcceptedSource {
 /// Checks a source.
 fn check_source(alloc: Global, externs: &[Name], parsed: Parsed) -> Result<AcceptedSource, Fault>
     ensures unit { IfOk result (λ source. source.parsed.unit ≡ parsed.unit) }
-    ensures ready { IfOk result HasReadyTypes }
+    ensures checked { IfOk result (IsCheckedSource externs.now) }
     ensures ok { IfOk result (λ source. IsFaultless externs.now parsed.unit) }
     ensures err { IfErr result (IsFaulty externs.now (parsed.unit ∷ [])) }
 {
@@ -37,7 +37,7 @@ pub(crate) fn check_all(
     externs: &[Name],
     trees: Vec<Parsed>,
 ) -> Result<Vec<AcceptedSource>, Fault>
-    ensures ready { IfOk result (λ sources. All HasReadyTypes sources.items) }
+    ensures checked { IfOk result (λ sources. All (IsCheckedSource externs.now) sources.items) }
     ensures units { IfOk result (λ sources. units_of sources.items ≡ map (λ parsed. parsed.unit) trees.items) }
     ensures ok { IfOk result (λ sources. AreFaultless externs.now (map (λ parsed. parsed.unit) trees.items)) }
     ensures err { IfErr result (IsFaulty externs.now (map (λ parsed. parsed.unit) trees.items)) }

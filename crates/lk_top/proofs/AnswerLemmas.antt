@@ -1,6 +1,7 @@
 -- What the parts of an answer say of the whole.
 use Rattle.std.proofs.Common.{inl, inr, ℕ, ◌≡◌, ◌∙◌, ◌<◌, ◌≤◌, Bool, true, false, if◌then◌else◌, List, [], ◌∷◌, Option, Some, None, length, refl, sym, ap, subst, arith}
-use Rattle.std.specs.Prelude.{MatchOption, slice_index_or}
+use Rattle.std.specs.Prelude.{All, MatchOption, slice_index_or}
+use Rattle.std.proofs.lemmas.List.Elements.{All-weaker}
 use Rattle.lk_base.specs.declared.refusal.Refusal as base
 use Rattle.lk_base.specs.declared.status.Status.{Status}
 use Rattle.lk_base.specs.declared.status.Status.TheVariants as status
@@ -10,22 +11,26 @@ use Rattle.lk_form.specs.Form.{IsOfForm}
 use Rattle.lk_form.specs.declared.tree.Program.{Program}
 use Rattle.lk_io.specs.Shelf.{Held}
 use Rattle.lk_join.specs.Program as linking
+use Rattle.lk_join.specs.Program.{IsLinked}
+use Rattle.lk_lower_expr.specs.Programs.{IsMadeOf}
 use Rattle.lk_lower_unit.specs.PointNumbers.{HasMorePoints}
-use Rattle.lk_sources.specs.Accepting.{IsAccepted, Refuses}
+use Rattle.lk_sources.specs.Accepting.{IsAccepted, IsCheckedSource, Refuses}
 use Rattle.lk_sources.specs.Numbers.{numbered}
 use Rattle.lk_sources.specs.Readable.{Reads, FailsToRead}
 use Rattle.lk_sources.specs.Reading.{IsRead}
 use Rattle.lk_sources.specs.Shelves.{Shelved}
 use Rattle.lk_sources.specs.declared.accepting.Accepted as code
+use Rattle.lk_sources.specs.declared.checking.AcceptedSource.{AcceptedSource}
 use Rattle.lk_sources.specs.declared.fault.SourcesFault.{SourcesFault}
 use Rattle.lk_sources.specs.declared.fault.SourcesFault.TheVariants as told
 use Rattle.lk_sources.specs.declared.reading.Source.{Source}
 use Rattle.lk_sources.specs.declared.reading.Texts.{Texts}
+use Rattle.lk_typed.specs.Env.{Name}
 use Rattle.lk_typed.specs.declared.unit.TypedUnit.{TypedUnit}
 use Rattle.lk_typed.specs.declared.whole.Whole.{Whole}
 use Rattle.lk_words.specs.Words.{Check}
-use Rattle.lk_top.specs.Analysis.{unlinked, too_many_points, too_many_labels}
-use Rattle.lk_top.specs.Answer.{Reported, JudgesPoints, JudgesWhole, JudgesUnits, Analyses, ShowsFault, Judges, Answers}
+use Rattle.lk_top.specs.Analysis.{IsWhole, unlinked, too_many_points, too_many_labels}
+use Rattle.lk_top.specs.Answer.{Reported, JudgesPoints, JudgesWhole, JudgesUnits, Analyses, ShowsFault, Judges, Answers, HasReadyTypes}
 use Rattle.lk_top.specs.Outcome as outcome
 use Rattle.lk_top.specs.Outcome.{Refused, IsProgram, lone, HasNoProgram, Becomes, Follows}
 use Rattle.lk_top.specs.Report.{has_suspect}
@@ -77,26 +82,34 @@ found_in externs sources source found none some few is exact =
 
 -- ---- what accepted sources come to
 
-pub judged_points : (files : List (List ℕ)) (whole : Whole) (points : Points) (answer : Answer) → (HasMorePoints whole 65536 → ⊥) → JudgesPoints files points answer → JudgesWhole files whole answer
-judged_points files whole points answer few (inl (verdicts, has, shows)) = inl (few, (points, verdicts, has, shows))
-judged_points files whole points answer few (inr tells) = inr (inr tells)
+-- their types are as their typed trees ask for them
+pub all_ready : (externs : List Name) (sources : List AcceptedSource) → All (IsCheckedSource externs) sources → All HasReadyTypes sources
+all_ready externs sources = All-weaker (IsCheckedSource externs) HasReadyTypes (λ source checked. (checked.ready, checked.few)) sources
 
-pub analysed : (sources : code.Accepted) (units : List TypedUnit) (answer : Answer) → JudgesUnits sources.files sources.externs.items units answer → Analyses sources answer
-analysed sources units (Report text ends) (inl (whole, joined, inl (few, (points, verdicts, has, (text_is, status_is))))) =
-    (verdicts, record { whole = whole; is_whole = record { units = units; linked = joined }; few = few; points = points; verdicts_are = has; text_is = text_is }, status_is)
-analysed sources units (Report text ends) (inl (whole, joined, inr (inl (more, (refusal, code_is, name_is, tells))))) = absurd tells
-analysed sources units (Report text ends) (inl (whole, joined, inr (inr (refusal, code_is, name_is, tells)))) = absurd tells
-analysed sources units (Report text ends) (inr (refusal, is, tells)) = absurd tells
-analysed sources units (Refusal line) (inl (whole, joined, inl (few, (points, verdicts, has, shows)))) = absurd shows
-analysed sources units (Refusal line) (inl (whole, joined, inr (inl (more, (refusal, code_is, name_is, (file, at, line_is)))))) =
-    (file, refusal, record { why = too_many_points whole (record { units = units; linked = joined }) more code_is name_is; at = at }, line_is)
-analysed sources units (Refusal line) (inl (whole, joined, inr (inr (refusal, code_is, name_is, (file, at, line_is))))) =
-    (file, refusal, record { why = too_many_labels whole (record { units = units; linked = joined }) code_is name_is; at = at }, line_is)
-analysed sources units (Refusal line) (inr (refusal, is, (file, at, line_is))) = (file, refusal, record { why = unlinked units is; at = at }, line_is)
-analysed sources units (Unread line) (inl (whole, joined, inl (few, (points, verdicts, has, shows)))) = absurd shows
-analysed sources units (Unread line) (inl (whole, joined, inr (inl (more, (refusal, code_is, name_is, tells))))) = absurd tells
-analysed sources units (Unread line) (inl (whole, joined, inr (inr (refusal, code_is, name_is, tells)))) = absurd tells
-analysed sources units (Unread line) (inr (refusal, is, tells)) = absurd tells
+pub judged_points : (files : List (List ℕ)) (whole : Whole) (points : Points) (answer : Answer) → (HasMorePoints whole 65536 → ⊥) → IsMadeOf whole points → JudgesPoints files points answer → JudgesWhole files whole answer
+judged_points files whole points answer few made (inl (verdicts, has, shows)) = inl (few, (points, verdicts, made, has, shows))
+judged_points files whole points answer few made (inr tells) = inr (inr tells)
+
+module _ (sources : code.Accepted) (units : List TypedUnit) where
+  whole_of : (whole : Whole) → IsLinked units sources.externs.items whole → IsWhole sources whole
+  whole_of whole joined = record { units = units; linked = joined }
+
+  pub analysed : (answer : Answer) → JudgesUnits sources.files sources.externs.items units answer → Analyses sources answer
+  analysed (Report text ends) (inl (whole, joined, inl (few, (points, verdicts, made, has, (text_is, status_is))))) =
+      (verdicts, record { whole = whole; is_whole = whole_of whole joined; few = few; points = points; made = made; verdicts_are = has; text_is = text_is }, status_is)
+  analysed (Report text ends) (inl (whole, joined, inr (inl (more, (refusal, code_is, name_is, tells))))) = absurd tells
+  analysed (Report text ends) (inl (whole, joined, inr (inr (refusal, code_is, name_is, tells)))) = absurd tells
+  analysed (Report text ends) (inr (refusal, is, tells)) = absurd tells
+  analysed (Refusal line) (inl (whole, joined, inl (few, (points, verdicts, made, has, shows)))) = absurd shows
+  analysed (Refusal line) (inl (whole, joined, inr (inl (more, (refusal, code_is, name_is, (file, at, line_is)))))) =
+      (file, refusal, record { why = too_many_points whole (whole_of whole joined) more code_is name_is; at = at }, line_is)
+  analysed (Refusal line) (inl (whole, joined, inr (inr (refusal, code_is, name_is, (file, at, line_is))))) =
+      (file, refusal, record { why = too_many_labels whole (whole_of whole joined) code_is name_is; at = at }, line_is)
+  analysed (Refusal line) (inr (refusal, is, (file, at, line_is))) = (file, refusal, record { why = unlinked units is; at = at }, line_is)
+  analysed (Unread line) (inl (whole, joined, inl (few, (points, verdicts, made, has, shows)))) = absurd shows
+  analysed (Unread line) (inl (whole, joined, inr (inl (more, (refusal, code_is, name_is, tells))))) = absurd tells
+  analysed (Unread line) (inl (whole, joined, inr (inr (refusal, code_is, name_is, tells)))) = absurd tells
+  analysed (Unread line) (inr (refusal, is, tells)) = absurd tells
 
 -- ---- what files come to that are read
 

@@ -1,11 +1,12 @@
--- What is reported of sources that are accepted, and why others of them make no program. What their typed trees are is not said here, and of the points of a program only that there are
--- no more than the bound: that these are those of the sources, only tests show.
+-- What is reported of sources that are accepted, and why others of them make no program: by typed trees, the program into which these link, its points, and the verdicts of these. What the typed
+-- trees of sources are is not said here.
 use Rattle.std.specs.Prelude.{ℕ, ◌≡◌, List, [], Some, slice_get}
 use Rattle.lk_base.specs.declared.code.Code.TheVariants.{TooManyPoints, TooManyLabels}
 use Rattle.lk_base.specs.declared.refusal.Refusal.{Refusal}
 use Rattle.lk_facts.specs.declared.program.Program.{Program}
 use Rattle.lk_facts.specs.declared.verdict.Verdict.{Verdict}
 use Rattle.lk_join.specs.Program.{IsLinked, IsRefusal}
+use Rattle.lk_lower_expr.specs.Programs.{IsMadeOf}
 use Rattle.lk_lower_unit.specs.PointNumbers.{HasMorePoints}
 use Rattle.lk_report.specs.Report.{report_text}
 use Rattle.lk_solve.specs.Verdicts.{HasVerdicts}
@@ -18,12 +19,13 @@ pub record IsWhole (sources : code.Accepted) (whole : Whole) : Type 0 where
   pub units : List TypedUnit
   pub linked : IsLinked units sources.externs.items whole
 
--- the text is the report of the verdicts that the points of a program have
+-- the text is the report of the verdicts that the points of the program have
 pub record IsAnalysed (sources : code.Accepted) (text : List ℕ) (verdicts : List Verdict) : Type 0 where
   pub whole : Whole
   pub is_whole : IsWhole sources whole
   pub few : HasMorePoints whole 65536 → ⊥
   pub points : Program
+  pub made : IsMadeOf whole points
   pub verdicts_are : HasVerdicts points verdicts
   pub text_is : text ≡ report_text sources.files points verdicts
 

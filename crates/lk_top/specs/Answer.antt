@@ -10,13 +10,17 @@ use Rattle.lk_base.specs.declared.code.Code.TheVariants.{TooManyPoints, TooManyL
 use Rattle.lk_facts.specs.declared.program.Program.{Program as Points}
 use Rattle.lk_join.specs.Program as linking
 use Rattle.lk_join.specs.Program.{IsLinked}
+use Rattle.lk_lower_expr.specs.Programs.{IsMadeOf}
 use Rattle.lk_lower_unit.specs.PointNumbers.{HasMorePoints}
 use Rattle.lk_report.specs.Report.{report_text}
 use Rattle.lk_solve.specs.Verdicts.{HasVerdicts}
 use Rattle.lk_typed.specs.Env.{Name}
+use Rattle.lk_typed.specs.Elements.{HasFewElements}
+use Rattle.lk_typed.specs.Meaning.{IsReady}
 use Rattle.lk_typed.specs.declared.unit.TypedUnit.{TypedUnit}
 use Rattle.lk_typed.specs.declared.whole.Whole.{Whole}
 use Rattle.lk_sources.specs.declared.accepting.Accepted as code
+use Rattle.lk_sources.specs.declared.checking.AcceptedSource.{AcceptedSource}
 use Rattle.lk_sources.specs.Reading as reading
 use Rattle.lk_sources.specs.Shelves.{Shelved, HasRisen, IsAsBefore}
 use Rattle.lk_sources.specs.declared.fault.SourcesFault.{SourcesFault}
@@ -55,13 +59,19 @@ ShowsVerdicts files points verdicts (answer.Report text status) = (text.items �
 ShowsVerdicts files points verdicts (answer.Refusal line) = ⊥
 ShowsVerdicts files points verdicts (answer.Unread line) = ⊥
 
+-- ---- accepted sources
+
+-- a source's types are as its typed tree asks for them
+abbrev pub HasReadyTypes : AcceptedSource → Type 0
+HasReadyTypes source = IsReady source.checked.types × HasFewElements source.checked.types
+
 -- what points, a program and typed trees come to
 abbrev pub JudgesPoints : List (List ℕ) → Points → Answer → Type 0
 JudgesPoints files points shown = ((verdicts : List Verdict) × HasVerdicts points verdicts × ShowsVerdicts files points verdicts shown) ⊎ TellsCode files TooManyLabels shown
 
 abbrev pub JudgesWhole : List (List ℕ) → Whole → Answer → Type 0
 JudgesWhole files whole shown =
-    ((HasMorePoints whole 65536 → ⊥) × ((points : Points) × (verdicts : List Verdict) × HasVerdicts points verdicts × ShowsVerdicts files points verdicts shown))
+    ((HasMorePoints whole 65536 → ⊥) × ((points : Points) × (verdicts : List Verdict) × IsMadeOf whole points × HasVerdicts points verdicts × ShowsVerdicts files points verdicts shown))
     ⊎ (HasMorePoints whole 65536 × TellsCode files TooManyPoints shown) ⊎ TellsCode files TooManyLabels shown
 
 abbrev pub JudgesUnits : List (List ℕ) → List Name → List TypedUnit → Answer → Type 0

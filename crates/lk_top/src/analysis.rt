@@ -1,8 +1,9 @@
 //! What accepted sources come to: the program that they make, its points, and what is reported of these.
 ghost use Rattle.std.specs.Prelude.{◌≡◌, [], All, IfOk};
 ghost use Rattle.lk_graph.specs.Single.{ArePlaceNodes};
-ghost use Rattle.lk_sources.specs.Accepting.{HasReadyTypes};
-ghost use Rattle.lk_top.specs.Answer.{Analyses, JudgesPoints, JudgesUnits, JudgesWhole, ShowsVerdicts, Tells, TellsCode};
+ghost use Rattle.lk_sources.specs.Accepting.{IsCheckedSource};
+ghost use Rattle.lk_top.specs.Answer.{Analyses, HasReadyTypes, JudgesPoints, JudgesUnits, JudgesWhole};
+ghost use Rattle.lk_top.specs.Answer.{ShowsVerdicts, Tells, TellsCode};
 
 use crate::answer::Answer;
 use crate::form::status_of;
@@ -169,7 +170,7 @@ fn judge_units(
 
 /// What accepted sources come to.
 pub(crate) fn analyse(alloc: Global, accepted: Accepted) -> Result<Answer, NoMemory>
-    requires { All HasReadyTypes accepted.sources.items }
+    requires { All (IsCheckedSource accepted.externs.items) accepted.sources.items }
     ensures { IfOk result (Analyses accepted) }
 {
     let Accepted {

@@ -4,7 +4,7 @@ use Rattle.std.proofs.lemmas.List.Elements.{All-push}
 use Rattle.std.proofs.lemmas.Result.{err_from_is_err_and}
 use Rattle.std.specs.Vec.Iter.{into_iter_items, into_iter_steps}
 use Rattle.lk_parse_unit.specs.declared.parse.Parsed.{Parsed}
-use Rattle.lk_sources.specs.Accepting.{HasReadyTypes, units_of}
+use Rattle.lk_sources.specs.Accepting.{IsCheckedSource, units_of}
 use Rattle.lk_sources.specs.Faults.{AreFaultless}
 use Rattle.lk_sources.specs.Judging.{IsFaulty}
 use Rattle.lk_sources.specs.declared.checking.AcceptedSource.{AcceptedSource}
@@ -37,7 +37,7 @@ loop-parsed-preserved c =
     let tree_of = λ (s : AcceptedSource). s.parsed.unit in
     let items = c.in_ok-push.ensures.items in
     record {
-      ready = subst (All HasReadyTypes) (sym items) (All-push HasReadyTypes before source c.loop-parsed.invariant.ready c.in_ok-source.ensures.ready);
+      checked = subst (All (IsCheckedSource externs)) (sym items) (All-push (IsCheckedSource externs) before source c.loop-parsed.invariant.checked c.in_ok-source.ensures.checked);
       units = ap units_of items ∙ map_push tree_of before source ∙ ap (λ us. us ++ tree_of source ∷ []) c.loop-parsed.invariant.units
           ∙ ap (λ u. map unit_of xs ++ u ∷ []) c.in_ok-source.ensures.unit ∙ sym (map_push unit_of xs x);
       faultless = subst (AreFaultless externs) (sym (map_push unit_of xs x))

@@ -1,5 +1,5 @@
 use Rattle.std.proofs.Common.{◌≡◌, All, map}
-use Rattle.lk_sources.specs.Accepting.{HasReadyTypes, units_of}
+use Rattle.lk_sources.specs.Accepting.{IsCheckedSource, units_of}
 use Rattle.lk_sources.specs.Faults.{AreFaultless}
 use Rattle.lk_sources.proofs.checking.check_all.Given as goal
 
@@ -7,7 +7,7 @@ use Rattle.lk_sources.proofs.checking.check_all.Given as goal
 abbrev pub invariant-loop-parsed : goal.invariant-loop-parsed
 invariant-loop-parsed l =
     record {
-      ready : All HasReadyTypes l.sources.items;
+      checked : All (IsCheckedSource l.externs) l.sources.items;
       units : units_of l.sources.items ≡ map (λ parsed. parsed.unit) l.yielded;
       faultless : AreFaultless l.externs (map (λ parsed. parsed.unit) l.yielded);
     }
