@@ -1,5 +1,5 @@
 -- What is known of a source stays so while its typed tree is made.
-use Rattle.std.proofs.Common.{◌≡◌, ◌∙◌, ◌⊎◌, ◌++◌, ℕ, List, [], ◌∷◌, All, Some, Option, inl, inr, map, refl, sym, ap, subst}
+use Rattle.std.proofs.Common.{◌≡◌, ◌∙◌, ◌++◌, List, [], ◌∷◌, All, Some, Option, inl, inr, map, refl, sym, ap, subst}
 use Rattle.std.proofs.lemmas.List.Elements.{All-head, All-tail}
 use Rattle.lk_tree.specs.declared.statement.Unit.{Unit}
 use Rattle.lk_types.specs.Building.{IsTable, IsLonger}
@@ -8,21 +8,19 @@ use Rattle.lk_typed.proofs.Meanings.{meaning_stays}
 use Rattle.lk_typed.specs.Env as env
 use Rattle.lk_typed.specs.Env.{Env, Name}
 use Rattle.lk_typed.specs.Entities.{NameDeclared}
-use Rattle.lk_typed.specs.Meaning.{meaning, IsReady}
 use Rattle.lk_typed.specs.Names.{meaning_in, IsKnownMeaning}
 use Rattle.lk_typed.specs.NodeParts.{parts}
 use Rattle.lk_typed.specs.NodeRules.{breaches, hiding, mark_of}
 use Rattle.lk_typed.specs.Nodes.{Node, Placed, at}
 use Rattle.lk_typed.specs.Stands as stands
 use Rattle.lk_typed.specs.Stands.{IsIn}
-use Rattle.lk_typed.specs.Typings.{members_in, field_in, structs_in, HasKnownFields}
+use Rattle.lk_typed.specs.Typings.{members_in, field_in, HasKnownFields}
 use Rattle.lk_typed.specs.Units.{IsNode, at_end}
 use Rattle.lk_typed.specs.declared.members.Field.{Field}
 use Rattle.lk_typed.specs.declared.members.Members.{Members}
 use Rattle.lk_typed.specs.declared.members.Members.TheVariants as members
 use Rattle.lk_typed.specs.declared.names.Meaning.{Meaning}
 use Rattle.lk_typed.specs.declared.names.Meaning.TheVariants as means
-use Rattle.lk_check_walk.specs.Structs.{AreListed}
 use Rattle.lk_check_walk.specs.Walks.{IsDeclaredAs, IsOfKind}
 use Rattle.lk_check_walk.specs.declared.records.DeclaredHere.{DeclaredHere}
 use Rattle.lk_check_walk.specs.declared.records.InitialiserKind.{InitialiserKind}

@@ -1,5 +1,5 @@
 -- The cases that are found of a switch are those of its statement.
-use Rattle.std.proofs.Common.{◌≡◌, ◌∙◌, ◌++◌, ℕ, ℤ, Option, Some, None, List, [], ◌∷◌, map, inl, inr, refl, sym, ap, subst, append_assoc}
+use Rattle.std.proofs.Common.{◌≡◌, ◌∙◌, ◌++◌, ℕ, ℤ, Option, Some, None, List, [], ◌∷◌, refl, sym, ap, subst, append_assoc}
 use Rattle.std.specs.Option.{option_map}
 use Rattle.std.proofs.lemmas.List.{append-nil}
 use Rattle.std.proofs.lemmas.Option.{none-some}
@@ -19,7 +19,7 @@ use Rattle.lk_typed.specs.Nodes.{AStatement, AnExpression, at}
 use Rattle.lk_typed.specs.Parts.{added_by, behind, behind_inner, first_adds, first_part, item_adds, item_around, item_part, items_in_turn, perhaps, statement_parts}
 use Rattle.lk_typed.specs.StatementRules as spec
 use Rattle.lk_typed.specs.StatementRules.{behind_cases, case_value, in_body_of_loop}
-use Rattle.lk_typed.specs.Statements.{Case, StmtTold, kind_in, or_nothing, statement, switch_kind}
+use Rattle.lk_typed.specs.Statements.{Case, StmtTold, kind_in, or_nothing, statement}
 use Rattle.lk_typed.specs.Ty.{Ty, kind_of}
 use Rattle.lk_typed.specs.TypedStatements.{AreCases, IsDefault}
 use Rattle.lk_typed.specs.Typing.{Typing, constant_in}
@@ -29,11 +29,10 @@ use Rattle.lk_typed.specs.declared.typed.Typed.{Typed}
 use Rattle.lk_check_unit.proofs.Stating.{statements_follow_their_forms}
 use Rattle.lk_check_unit.specs.Bodies.{item_told, items_told, told_of}
 use Rattle.lk_elab_expr.specs.Known.{HasTyping, HasValue, OfEach}
-use Rattle.lk_elab_expr.specs.Telling.{IsTrueOf}
 use Rattle.lk_elab_expr.specs.declared.elaborator.Elaborator.{Elaborator}
 use Rattle.lk_elaborate.proofs.Carried.{head_stands, parts_stand, rest_stand, tail_stands}
 use Rattle.lk_elaborate.proofs.Making.{true_there}
-use Rattle.lk_elaborate.specs.Making.{FindsCases, FindsSwitch, HasCases, IsCase, IsCaseOf, IsConstantOf, IsKindOf, PutsCases, PutsOf, PutsOfCase, PutsOfChoice, PutsOfDefault, PutsOfElse, PutsOfForm, PutsOfItem, PutsOfItems, StandIn}
+use Rattle.lk_elaborate.specs.Making.{FindsCases, FindsSwitch, HasCases, IsCaseOf, IsConstantOf, IsKindOf, PutsCases, PutsOf, PutsOfCase, PutsOfChoice, PutsOfDefault, PutsOfElse, PutsOfForm, PutsOfItem, PutsOfItems, StandIn}
 use Rattle.lk_elaborate.specs.declared.cases.Cases.{Cases}
 
 -- ---- the kind of the switch

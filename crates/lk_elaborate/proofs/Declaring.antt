@@ -1,16 +1,14 @@
 -- What is made of the declarators of a declaration in a block, one after the other.
-use Rattle.std.proofs.Common.{rules, ◌≡◌, ◌∙◌, ◌++◌, ◌⊎◌, ℕ, zero, suc, Bool, true, false, Option, Some, None, List, [], ◌∷◌, inl, inr, refl, sym, ap, subst, append_assoc}
-use Rattle.std.specs.Prelude.{nat_eq, ◌&&◌, ◌||◌, if◌then◌else◌}
+use Rattle.std.proofs.Common.{◌≡◌, ◌∙◌, ◌++◌, ℕ, Bool, true, false, Option, Some, None, List, [], ◌∷◌, inl, inr, refl, sym, ap, subst, append_assoc}
+use Rattle.std.specs.Prelude.{nat_eq, ◌&&◌, if◌then◌else◌}
 use Rattle.std.specs.Cmp.Lexicographic.{pointwise}
 use Rattle.std.specs.Map.{lookup}
-use Rattle.std.proofs.lemmas.Bool.{false≢true}
 use Rattle.std.proofs.lemmas.List.{append-nil}
 use Rattle.std.proofs.lemmas.Option.{none-some, same_Some}
 use Rattle.lk_typed.proofs.SameTrees.{number_itself}
 use Rattle.lk_tree.specs.declared.declaration.Declare.{Declare}
 use Rattle.lk_tree.specs.declared.declaration.Init.{Init}
 use Rattle.lk_tree.specs.declared.declaration.InitDeclarator.{InitDeclarator}
-use Rattle.lk_tree.specs.declared.specifiers.Storage.{Storage}
 use Rattle.lk_tree.specs.declared.statement.Unit.{Unit}
 use Rattle.lk_typed.specs.DeclarationRules.{InBlock, InDeclaration, Scope, has, is_static_object, meaning_of, type_in}
 use Rattle.lk_typed.specs.DeclarationRules as rules
@@ -24,8 +22,8 @@ use Rattle.lk_typed.specs.Layers.{type_made}
 use Rattle.lk_typed.specs.LocalInits.{AreLocalInits, IsBlockDeclaration}
 use Rattle.lk_typed.specs.Meaning.{meaning}
 use Rattle.lk_typed.specs.Names.{meaning_in, is_static}
-use Rattle.lk_typed.specs.NodeParts.{declaration_parts, declarators_in_turn, initialiser_part, object_of, parts, type_declared, type_without_size}
-use Rattle.lk_typed.specs.Nodes.{ADeclaration, ADeclarator, AnInitialiser, Placed, at}
+use Rattle.lk_typed.specs.NodeParts.{declarators_in_turn, initialiser_part, object_of, type_declared}
+use Rattle.lk_typed.specs.Nodes.{ADeclaration, AnInitialiser, Placed, at}
 use Rattle.lk_typed.specs.Parts.{perhaps, specifiers_parts}
 use Rattle.lk_typed.specs.Stands.{IsIn}
 use Rattle.lk_typed.specs.Tables.{Tables}
@@ -42,7 +40,7 @@ use Rattle.lk_elab_expr.proofs.Growing.{leads_back}
 use Rattle.lk_elab_expr.specs.Leading.{GoesOn, Leads}
 use Rattle.lk_elab_expr.specs.declared.elaborator.Elaborator.{Elaborator}
 use Rattle.lk_elaborate.proofs.Carried.{in_first, in_rest, node_part, stand_on}
-use Rattle.lk_elaborate.specs.Declaring.{AddsInits, MakesDeclarator, MakesLocalInit, MakesNamed, MakesOneInit, MakesRecorded, StandsAt}
+use Rattle.lk_elaborate.specs.Declaring.{MakesDeclarator, MakesLocalInit, MakesNamed, MakesOneInit, MakesRecorded, StandsAt}
 use Rattle.lk_elaborate.specs.LocalParts.{GivesLocalInit}
 use Rattle.lk_elaborate.specs.Making.{MakesDeclaration, StandIn}
 use Rattle.lk_elaborate.specs.Source.{IsToldSource}

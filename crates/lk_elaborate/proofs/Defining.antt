@@ -4,8 +4,7 @@ use Rattle.lk_tree.specs.declared.statement.BlockItem.{BlockItem}
 use Rattle.lk_tree.specs.declared.statement.Function.{Function as Definition}
 use Rattle.lk_tree.specs.declared.statement.StmtForm.{out-StmtForm}
 use Rattle.lk_types.specs.Table.{IsKnown}
-use Rattle.lk_typed.specs.Env.{Env, extend}
-use Rattle.lk_typed.specs.Expressions.{specifiers_found}
+use Rattle.lk_typed.specs.Env.{Env}
 use Rattle.lk_typed.specs.Labels.{labels}
 use Rattle.lk_typed.specs.Meaning.{meaning}
 use Rattle.lk_typed.specs.NodeParts.{body_items, result_of}

@@ -1,9 +1,8 @@
 -- What is made of the parts of a statement makes the statement.
-use Rattle.std.proofs.Common.{◌≡◌, ◌∙◌, ◌++◌, ◌<◌, get_or, length, ℕ, false, Option, Some, None, List, [], ◌∷◌, map, inl, inr, refl, sym, ap, subst, append_assoc}
+use Rattle.std.proofs.Common.{◌≡◌, ◌∙◌, ◌++◌, ◌<◌, get_or, length, ℕ, false, Option, Some, None, List, [], ◌∷◌, map, inl, refl, sym, ap, subst, append_assoc}
 use Rattle.std.proofs.lemmas.List.{append-nil, get_or-map, length-map}
 use Rattle.std.proofs.lemmas.List.Elements.{Contains-get_or}
 use Rattle.std.specs.List.{Contains}
-use Rattle.lk_base.specs.declared.kind.Kind.{Kind}
 use Rattle.lk_tree.specs.declared.declaration.Declare.{Declare}
 use Rattle.lk_tree.specs.declared.expression.Expr.{Expr}
 use Rattle.lk_tree.specs.declared.statement.BlockItem.{BlockItem, out-BlockItem}
@@ -12,26 +11,20 @@ use Rattle.lk_tree.specs.declared.statement.ForFirst.{ForFirst}
 use Rattle.lk_tree.specs.declared.statement.ForFirst.TheVariants as first
 use Rattle.lk_tree.specs.declared.statement.Stmt.{Stmt}
 use Rattle.lk_tree.specs.declared.statement.StmtForm.{StmtForm, out-StmtForm}
-use Rattle.lk_types.specs.Table.{IsKnown}
 use Rattle.lk_typed.proofs.Meanings.{meaning_stays}
-use Rattle.lk_typed.specs.DeclarationRules.{InBlock}
-use Rattle.lk_typed.specs.Elaborated.{IsConverted, IsTyped, IsValue}
-use Rattle.lk_typed.specs.Env.{Env, Name, AsOperand, ConvertedTo, enter, extend}
-use Rattle.lk_typed.specs.Expressions.{expr_adds}
-use Rattle.lk_typed.specs.Labels as labels
-use Rattle.lk_typed.specs.Labels.{is_name}
-use Rattle.lk_typed.specs.Meaning.{meaning, meaning_of, IsKnownType, IsReady}
-use Rattle.lk_typed.specs.Nodes.{Placed, ADeclaration, AStatement, AnExpression, at}
-use Rattle.lk_typed.specs.Parts.{added_by, behind, behind_inner, first_adds, first_part, for_parts, item_adds, item_around, item_part, items_in_turn, perhaps, statement_parts, to_result}
+use Rattle.lk_typed.specs.Elaborated.{IsConverted}
+use Rattle.lk_typed.specs.Env.{Env, Name, AsOperand, enter, extend}
+use Rattle.lk_typed.specs.Meaning.{meaning, IsKnownType, IsReady}
+use Rattle.lk_typed.specs.Nodes.{Placed, AStatement, AnExpression, at}
+use Rattle.lk_typed.specs.Parts.{added_by, behind, first_adds, first_part, item_adds, item_around, item_part, items_in_turn, perhaps, statement_parts, to_result}
 use Rattle.lk_typed.specs.Stands.{Stands}
 use Rattle.lk_typed.specs.StatementRules as spec
 use Rattle.lk_typed.specs.StatementRules.{behind_cases, in_body_of_loop, in_body_of_switch}
-use Rattle.lk_typed.specs.Statements.{around_behind, statement, switch_kind}
+use Rattle.lk_typed.specs.Statements.{switch_kind}
 use Rattle.lk_typed.specs.Tables.{Tables}
 use Rattle.lk_typed.specs.TypedStatements.{AreItems, IsElse, IsFirst, IsPerhaps, IsStmt, MakesStmt}
 use Rattle.lk_typed.specs.declared.expression.TypedExpr.{TypedExpr}
 use Rattle.lk_typed.specs.declared.statement.LocalInit.{LocalInit}
-use Rattle.lk_typed.specs.declared.statement.SwitchCase.{SwitchCase}
 use Rattle.lk_typed.specs.declared.statement.TypedFirst.{TypedFirst}
 use Rattle.lk_typed.specs.declared.statement.TypedFirst.TheVariants as typed_first
 use Rattle.lk_typed.specs.declared.statement.TypedItem.{TypedItem, out-TypedItem}
@@ -43,14 +36,13 @@ use Rattle.lk_elab_expr.proofs.Growing.{grows_on, known_stays, leads_back, true_
 use Rattle.lk_elab_expr.specs.Elaborating.{Elaborates, ElaboratesConverted, ElaboratesTo, ElaboratesValue}
 use Rattle.lk_elab_expr.specs.Known.{OfEach}
 use Rattle.lk_elab_expr.specs.Leading.{Grows, GoesOn, Leads}
-use Rattle.lk_elab_expr.specs.Telling.{IsTold, IsTrueOf}
+use Rattle.lk_elab_expr.specs.Telling.{IsTrueOf}
 use Rattle.lk_elab_expr.specs.declared.elaborator.Elaborator.{Elaborator}
 use Rattle.lk_elaborate.proofs.Carried.{first_stand, goes_then, head_stands, parts_stand, rest_stand, stand_on, tail_stands}
 use Rattle.lk_elaborate.specs.Asking.{HasPromoted}
-use Rattle.lk_elaborate.specs.Making.{FindsCases, HasCases, IsPromoted, IsRound, LabelNamed, MakesDeclaration, MakesElse, MakesFirst, MakesForm, MakesGiven, MakesItem, MakesItems, MakesPerhaps, MakesStatement, MakesSwitched, MakesValue, OpenForm, StandIn}
+use Rattle.lk_elaborate.specs.Making.{HasCases, IsRound, LabelNamed, MakesDeclaration, MakesElse, MakesFirst, MakesForm, MakesGiven, MakesItem, MakesItems, MakesPerhaps, MakesStatement, MakesSwitched, MakesValue, OpenForm, StandIn}
 use Rattle.lk_elaborate.specs.declared.cases.Cases.{Cases}
 use Rattle.lk_elaborate.specs.declared.statements.Around.{Around}
-use Rattle.lk_check_unit.proofs.Rests.{next_left, nothing_left}
 
 -- an element's image is among those of all
 pub contains_map : {A B : Type 0} (f : A → B) (xs : List A) (i : ℕ) (x : A) → i < length xs → x ≡ get_or xs i x → Contains (map f xs) (f x)

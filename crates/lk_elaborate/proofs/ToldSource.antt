@@ -1,7 +1,6 @@
 -- What the checker found of a numbered source without calls is true of its nodes, as its typed tree asks for it.
-use Rattle.std.proofs.Common.{◌≡◌, ◌∙◌, ◌++◌, ℕ, Bool, true, false, List, [], ◌∷◌, Option, Some, None, length, map, refl, sym, ap, subst, inl, inr, arith, nat_eq}
+use Rattle.std.proofs.Common.{◌≡◌, ◌∙◌, ℕ, Bool, true, false, List, [], ◌∷◌, Option, Some, None, length, map, refl, sym, ap, subst, inl, inr, arith, nat_eq}
 use Rattle.std.specs.Prelude.{if◌then◌else◌, slice_get, unwrap_or}
-use Rattle.std.specs.HashSet.{contains_by}
 use Rattle.std.specs.Map.{lookup}
 use Rattle.std.specs.Option.{option_map}
 use Rattle.std.proofs.lemmas.Bool.Decides.{nat_tests}
@@ -18,24 +17,24 @@ use Rattle.lk_tree.specs.declared.expression.Expr.{Expr}
 use Rattle.lk_tree.specs.declared.expression.ExprForm.{out-ExprForm}
 use Rattle.lk_tree.specs.declared.expression.TypeName.{TypeName, out-TypeName}
 use Rattle.lk_tree.specs.declared.statement.Unit.{Unit}
-use Rattle.lk_types.specs.Table.{Table, IsKnown}
-use Rattle.lk_typed.specs.Elaborated.{InPlace, StandsFor, form_of, members_behind, name_in, type_named}
+use Rattle.lk_types.specs.Table.{Table}
+use Rattle.lk_typed.specs.Elaborated.{StandsFor, form_of, members_behind, name_in, type_named}
 use Rattle.lk_typed.specs.Forms.{placed}
 use Rattle.lk_typed.specs.DeclarationRules.{Scope}
 use Rattle.lk_typed.specs.Entities.{DeclaresName, IsDeclaratorOf, NameDeclared, defined_type, specifiers_of}
-use Rattle.lk_typed.specs.Env.{Declared, Env, Field, Known, Members, Name, NotYet, is_name, is_one_of, look_up, members_of}
+use Rattle.lk_typed.specs.Env.{Declared, Env, Field, Known, Name, NotYet, is_one_of, members_of}
 use Rattle.lk_typed.specs.Expressions.{AnotherForm, AText, AWord, Plainly, expr_word, expression, plainly, written, declarator_found}
 use Rattle.lk_typed.specs.InitialiserRules.{Object}
 use Rattle.lk_typed.specs.Meaning.{meaning, IsReady}
 use Rattle.lk_typed.specs.NodeParts.{parts, type_declared}
 use Rattle.lk_typed.specs.NodeRules.{breaches, hiding, mark_of}
-use Rattle.lk_typed.specs.Nodes.{ADeclaration, ADefinition, AnExpression, AnInitialiser, ATypeName, Node, Placed}
+use Rattle.lk_typed.specs.Nodes.{ADeclaration, ADefinition, AnExpression, AnInitialiser, ATypeName, Node}
 use Rattle.lk_typed.specs.Stands.{IsIn as IsAmong, Stands}
 use Rattle.lk_typed.specs.Stands.Stands.{here, inside}
 use Rattle.lk_typed.specs.Told.{Named}
 use Rattle.lk_typed.specs.Ty.{Ty}
 use Rattle.lk_typed.specs.Typings.{field_in, members_in, structs_in}
-use Rattle.lk_typed.specs.Units.{IsNode, around, at_end, externals}
+use Rattle.lk_typed.specs.Units.{IsNode, at_end, externals}
 use Rattle.lk_typed.specs.Units.IsNode.{node_of}
 use Rattle.lk_typed.specs.declared.members.Field.{Field as FieldFound}
 use Rattle.lk_typed.specs.declared.members.Members.{Members as MembersFound}
@@ -49,13 +48,12 @@ use Rattle.lk_check_walk.proofs.Walking.{Layer}
 use Rattle.lk_check_walk.specs.Structs.{AreListed}
 use Rattle.lk_check_walk.specs.Truth.{IsSoInside}
 use Rattle.lk_check_walk.specs.Uses.{found_by, name_written, word_in}
-use Rattle.lk_check_walk.specs.Uses as uses
-use Rattle.lk_check_walk.specs.Walks.{IsDeclaredAs, IsFound, IsOfExpression, IsOfInitialiser, IsOfKind, IsOfName, IsOfTypeName}
+use Rattle.lk_check_walk.specs.Walks.{IsDeclaredAs, IsFound, IsOfKind}
 use Rattle.lk_check_walk.specs.declared.found.Found.{Found}
 use Rattle.lk_check_walk.specs.declared.records.DeclaredHere.{DeclaredHere}
 use Rattle.lk_check_walk.specs.declared.records.InitialiserKind.{InitialiserKind}
 use Rattle.lk_check_walk.specs.declared.records.Meant.{Meant}
-use Rattle.lk_check_unit.specs.Sources.{AreTrue, RecordsOf}
+use Rattle.lk_check_unit.specs.Sources.{RecordsOf}
 use Rattle.lk_elab_expr.specs.Telling.{HasFields, IsCall, IsMeant, IsTold, IsTrueOf, IsTrueOfName}
 use Rattle.lk_elaborate.specs.Settled.{AreSettled}
 use Rattle.lk_elaborate.specs.Source.{IsToldSource}

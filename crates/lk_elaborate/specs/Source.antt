@@ -1,5 +1,5 @@
 -- What is known of a source whose typed tree is made: what was found at its nodes is true of them, and whole.
-use Rattle.std.specs.Prelude.{ℕ, ◌≡◌, Option, Some, List, nat_eq, All}
+use Rattle.std.specs.Prelude.{◌≡◌, Option, Some, List, nat_eq, All}
 use Rattle.std.specs.Map.{lookup}
 use Rattle.lk_tree.specs.declared.declaration.Declare.{Declare}
 use Rattle.lk_tree.specs.declared.declaration.Init.{Init, out-Init}
@@ -8,15 +8,13 @@ use Rattle.lk_tree.specs.declared.declaration.InitDeclarator.{InitDeclarator}
 use Rattle.lk_tree.specs.declared.expression.Expr.{Expr}
 use Rattle.lk_tree.specs.declared.statement.Function.{Function as Definition}
 use Rattle.lk_tree.specs.declared.statement.Unit.{Unit}
-use Rattle.lk_types.specs.Table.{Table, IsKnown}
 use Rattle.lk_typed.specs.DeclarationRules.{Scope}
 use Rattle.lk_typed.specs.Entities.{DeclaresName, IsDeclaratorOf, NameDeclared, specifiers_of}
 use Rattle.lk_typed.specs.Entities as entities
 use Rattle.lk_typed.specs.Env.{Env, Name}
 use Rattle.lk_typed.specs.Expressions.{declarator_found, expr_word}
 use Rattle.lk_typed.specs.InitialiserRules.{Object}
-use Rattle.lk_typed.specs.Meaning.{meaning, IsReady}
-use Rattle.lk_typed.specs.Names.{IsKnownMeaning, meaning_in}
+use Rattle.lk_typed.specs.Meaning.{IsReady}
 use Rattle.lk_typed.specs.NodeParts.{type_declared}
 use Rattle.lk_typed.specs.Nodes.{ADeclaration, ADefinition, AnInitialiser, Node}
 use Rattle.lk_typed.specs.Structs.{HaveTags}

@@ -1,4 +1,3 @@
-use Rattle.std.proofs.Common.{refl}
 use Rattle.lk_elaborate.proofs.Casing.{found_cases}
 use Rattle.lk_elaborate.proofs.cases.cases_of.Goals as goal
 

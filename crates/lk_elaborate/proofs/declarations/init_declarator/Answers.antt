@@ -1,4 +1,3 @@
-use Rattle.std.proofs.Common.{Some, ◌∙◌}
 use Rattle.lk_elaborate.proofs.Carried.{goes_then}
 use Rattle.lk_elaborate.proofs.Declaring.{bare, behind_name}
 use Rattle.lk_elaborate.proofs.declarations.init_declarator.Goals as goal

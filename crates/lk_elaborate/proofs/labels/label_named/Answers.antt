@@ -1,7 +1,4 @@
-use Rattle.std.proofs.Common.{refl, sym, subst, ap}
-use Rattle.std.specs.Prelude.{map}
-use Rattle.std.proofs.lemmas.List.Elements.{Contains-get_or}
-use Rattle.std.specs.List.{Contains}
+use Rattle.std.proofs.Common.{refl, sym}
 use Rattle.lk_check_decl.specs.Switches.{label_of}
 use Rattle.lk_elaborate.proofs.Making.{contains_map}
 use Rattle.lk_elaborate.proofs.labels.label_named.Goals as goal

@@ -1,7 +1,5 @@
-use Rattle.std.proofs.Common.{◌∙◌, Some, None, refl, sym, ap, subst, drop, ◌+◌, rules}
+use Rattle.std.proofs.Common.{◌∙◌, Some, None, refl, sym, ap, subst, drop, ◌+◌}
 use Rattle.std.specs.Prelude.{IfOk}
-use Rattle.std.proofs.lemmas.Result.{IfOk-weaker, on_ok_weaker}
-use Rattle.lk_tree.specs.declared.statement.StmtForm.{out-StmtForm}
 use Rattle.lk_tree.specs.declared.statement.StmtForm.TheVariants as form
 use Rattle.lk_tree.specs.declared.statement.BlockItem.TheOpen.{StmtForm-F}
 use Rattle.lk_typed.specs.declared.statement.TypedStmtForm.{out-TypedStmtForm}

@@ -1,4 +1,4 @@
-use Rattle.std.proofs.Common.{None, Some, ap, sym, subst}
+use Rattle.std.proofs.Common.{None, Some, sym, subst}
 use Rattle.lk_tree.specs.declared.statement.BlockItem.TheOpen.{StmtForm-F}
 use Rattle.lk_typed.specs.declared.statement.TypedStmtForm.{out-TypedStmtForm}
 use Rattle.lk_typed.specs.declared.statement.TypedStmtForm.TheVariants as typed

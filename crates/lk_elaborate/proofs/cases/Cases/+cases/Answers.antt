@@ -1,5 +1,4 @@
-use Rattle.std.proofs.Common.{◌∙◌, Some, None, refl, sym, ap, subst, drop, ◌+◌}
-use Rattle.std.specs.Prelude.{OnOk}
+use Rattle.std.proofs.Common.{◌∙◌, Some, refl, sym, ap, subst, drop, ◌+◌}
 use Rattle.std.proofs.lemmas.Result.{on_ok_weaker}
 use Rattle.lk_tree.specs.declared.statement.StmtForm.TheVariants as form
 use Rattle.lk_tree.specs.declared.statement.BlockItem.TheOpen.{StmtForm-F}
