@@ -2,7 +2,10 @@ mod Assigned
 mod Casting
 mod Conversions
 mod Decided
+mod Finishing
 mod FormsAt
+pub mod Gathered
+pub mod Gathering
 mod Giving
 pub mod Growing
 mod Keeping
@@ -15,5 +18,6 @@ mod Owned
 mod Promoting
 mod Roles
 mod Ruled
+pub mod Used
 mod Valued
 mod Within

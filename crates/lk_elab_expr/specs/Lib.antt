@@ -4,11 +4,13 @@ pub mod Deciding
 pub mod Elaborating
 pub mod Elements
 pub mod Fields
+pub mod Gathering
 pub mod Keeping
 pub mod Known
 pub mod Leading
 pub mod Leaves
 pub mod LibraryForms
+pub mod Naming
 pub mod OperandTypes
 pub mod PassedArguments
 pub mod Standing

@@ -1,8 +1,15 @@
 //! The functions and objects of static storage that a source declares (C99 6.2.2, 6.2.4, 3).
-ghost use Rattle.std.specs.Prelude.{◌≡◌, Some, IfOk, OnOk, nat_eq};
-ghost use Rattle.std.specs.Map.{lookup};
+ghost use Rattle.std.specs.Prelude.{◌≡◌, ◌∷◌, [], Some, IfOk, IfSome, OnOk, length};
+ghost use Rattle.std.specs.Option.{option_map};
+ghost use Rattle.lk_types.specs.Building.{IsLonger};
+ghost use Rattle.lk_types.specs.Table.{IsKnown};
+ghost use Rattle.lk_typed.specs.Declarations.{composite_if_equal};
 ghost use Rattle.lk_typed.specs.Elements.{HasFewElements};
-ghost use Rattle.lk_elab_expr.specs.Keeping.{KeepsNumbers};
+ghost use Rattle.lk_typed.specs.Meaning.{IsReady, meaning};
+ghost use Rattle.lk_elab_expr.specs.Gathering.{AreFinished, IsComposite, IsFinished, IsFirstOf, earlier};
+ghost use Rattle.lk_elab_expr.specs.Gathering.{BeginsEntity, BeginsWith, DeclaresAgain, PutsName};
+ghost use Rattle.lk_elab_expr.specs.Gathering.{Gathers, IsGathered, declaration_of, entity_at, entity_named};
+ghost use Rattle.lk_elab_expr.specs.Keeping.{KeepsNumbers, PutsNumber};
 
 use crate::locals::put_number;
 use crate::type_numbers::known;
@@ -12,7 +19,7 @@ use lk_base::{Name, NoMemory, Seq, Spot};
 use lk_check_unit::composite_if_equal;
 use lk_check_walk::Records;
 use lk_typed::{Declaration, Defines, Entity, EntityKind, Linkage, Use};
-use lk_types::{TypeId, TypeTable};
+use lk_types::{TypeId, TypeTable, predeclared_types_stay};
 use std::alloc::Global;
 
 /// A name that is an entity, as a declaration or a definition declares it.
@@ -45,7 +52,9 @@ pub struct Entities {
 }
 
 /// The first of two uses, of which there may be none.
-fn earlier(before: Option<Use>, other: Option<Use>) -> Option<Use> {
+fn earlier(before: Option<Use>, other: Option<Use>) -> Option<Use>
+    ensures { result ≡ earlier before other }
+{
     match (before, other) {
         (Some(a), Some(b)) => {
             if a.ordinal <= b.ordinal {
@@ -60,7 +69,9 @@ fn earlier(before: Option<Use>, other: Option<Use>) -> Option<Use> {
 }
 
 /// The first use of a name that these declarations declare.
-fn first_use(records: &Records, declarations: &[Declaration]) -> Option<Use> {
+fn first_use(records: &Records, declarations: &[Declaration]) -> Option<Use>
+    ensures { IsFirstOf records.now.first_uses declarations.now result }
+{
     let mut first = None;
     for declaration in declarations {
         first = earlier(first, records.first_use(declaration.ordinal));
@@ -69,7 +80,9 @@ fn first_use(records: &Records, declarations: &[Declaration]) -> Option<Use> {
 }
 
 /// The declaration of a name.
-fn declaration_of(named: &NamedEntity) -> Declaration {
+fn declaration_of(named: &NamedEntity) -> Declaration
+    ensures { result ≡ declaration_of named.now }
+{
     Declaration {
         spot: named.spot,
         ordinal: named.ordinal,
@@ -79,7 +92,10 @@ fn declaration_of(named: &NamedEntity) -> Declaration {
 }
 
 /// The entity of a name that is declared for the first time.
-fn entity_of(alloc: Global, named: NamedEntity) -> Result<Entity, NoMemory> {
+fn entity_of(alloc: Global, named: NamedEntity) -> Result<Entity, NoMemory>
+    ensures begins { IfOk result (BeginsWith named) }
+    ensures alone { IfOk result (λ entity. entity.declarations ≡ declaration_of named ∷ []) }
+{
     let mut declarations = Seq::new(Vec::new(alloc));
     declarations.push(declaration_of(&named))?;
     let NamedEntity {
@@ -101,37 +117,54 @@ fn entity_of(alloc: Global, named: NamedEntity) -> Result<Entity, NoMemory> {
     })
 }
 
-/// The composite of two types that declarations of one name give.
-fn composite_of(
-    alloc: Global,
-    types: &mut TypeTable,
-    t: TypeId,
-    old: TypeId,
-) -> Result<TypeId, NoMemory>
-    requires few { HasFewElements types.old }
-    ensures few { OnOk result (HasFewElements types.new) }
-{
-    let t = known(types, t)?;
-    let old = known(types, old)?;
-    composite_if_equal(alloc, types, t, Some(old))
-}
-
-/// The composite of a type and of those that these declarations give, each of the next one and that of those before it
-/// (C99 6.2.7).
+/// The composite of a type that a declaration gives and of that before it, where one is (C99 6.2.7).
 fn composite_with(
     alloc: Global,
     types: &mut TypeTable,
-    first: TypeId,
+    t: TypeId,
+    before: Option<TypeId>,
+) -> Result<TypeId, NoMemory>
+    requires few { HasFewElements types.old }
+    requires before { IfSome before (IsKnown types.old) }
+    ensures means { IfOk result (λ made. meaning types.new made ≡
+        composite_if_equal (meaning types.old t) (option_map (meaning types.old) before)) }
+    ensures given { OnOk result (IsKnown types.old t) }
+    ensures known { IfOk result (IsKnown types.new) }
+    ensures longer { OnOk result (IsLonger types.old types.new) }
+    ensures members { OnOk result (types.new.members ≡ types.old.members) }
+    ensures ready { OnOk result (IsReady types.old → IsReady types.new) }
+    ensures few { OnOk result (HasFewElements types.new) }
+{
+    let t = known(types, t)?;
+    let made = composite_if_equal(alloc, types, t, before)?;
+    types.is_table();
+    predeclared_types_stay();
+    Ok(made)
+}
+
+/// The composite of the types that declarations give, each of the next one and that of those before it
+/// (C99 6.2.7).
+fn composite_of(
+    alloc: Global,
+    types: &mut TypeTable,
     declarations: &[Declaration],
 ) -> Result<TypeId, NoMemory>
     requires few { HasFewElements types.old }
+    ensures composite { IfOk result (λ t.
+        IsReady types.old → IsComposite types.new.types declarations.now t) }
+    ensures longer { OnOk result (IsLonger types.old types.new) }
+    ensures members { OnOk result (types.new.members ≡ types.old.members) }
+    ensures ready { OnOk result (IsReady types.old → IsReady types.new) }
     ensures few { OnOk result (HasFewElements types.new) }
 {
-    let mut ty = first;
+    let mut before = None;
     for declaration in declarations {
-        ty = composite_of(alloc, types, declaration.ty, ty)?;
+        before = Some(composite_with(alloc, types, declaration.ty, before)?);
     }
-    Ok(ty)
+    match before {
+        Some(t) => Ok(t),
+        None => Err(nowhere()),
+    }
 }
 
 /// Gives an entity its first use and the composite of the types of its declarations.
@@ -142,17 +175,24 @@ fn finish(
     entity: &mut Entity,
 ) -> Result<(), NoMemory>
     requires few { HasFewElements types.old }
+    ensures finished { OnOk result (
+        IsReady types.old → IsFinished types.new.types records.now.first_uses entity.old entity.new) }
+    ensures longer { OnOk result (IsLonger types.old types.new) }
+    ensures members { OnOk result (types.new.members ≡ types.old.members) }
+    ensures ready { OnOk result (IsReady types.old → IsReady types.new) }
     ensures few { OnOk result (HasFewElements types.new) }
 {
     entity.first_use = first_use(records, entity.declarations.list());
-    let ty = composite_with(alloc, types, entity.ty, entity.declarations.list())?;
+    let ty = composite_of(alloc, types, entity.declarations.list())?;
     entity.ty = ty;
     Ok(())
 }
 
 impl Entities {
     /// No entity.
-    pub fn new(alloc: Global) -> Entities {
+    pub fn new(alloc: Global) -> Entities
+        ensures { IsGathered [] result }
+    {
         Entities {
             alloc,
             list: Vec::new(alloc),
@@ -169,6 +209,12 @@ impl Entities {
         records: &Records,
     ) -> Result<Vec<Entity>, NoMemory>
         requires few { HasFewElements types.old }
+        ensures finished { IfOk result (λ list. IsReady types.old →
+            AreFinished types.new.types records.now.first_uses self.list.items list.items) }
+        ensures longer { OnOk result (IsLonger types.old types.new) }
+        ensures members { OnOk result (types.new.members ≡ types.old.members) }
+        ensures ready { OnOk result (IsReady types.old → IsReady types.new) }
+        ensures few { OnOk result (HasFewElements types.new) }
     {
         let Entities { alloc, list, .. } = self;
         let mut list = list;
@@ -180,7 +226,7 @@ impl Entities {
 
     /// The entity that a node declares. What is named as an expression was declared before.
     pub fn declared_at(&self, ordinal: u32) -> Result<u32, NoMemory>
-        ensures { IfOk result (λ entity. lookup (nat_eq ordinal) self.now.by_ordinal.entries ≡ Some entity) }
+        ensures { IfOk result (λ entity. entity_at self.now ordinal ≡ Some entity) }
     {
         match self.by_ordinal.get(&ordinal) {
             Some(entity) => Ok(*entity),
@@ -189,7 +235,9 @@ impl Entities {
     }
 
     /// The entity that a name was declared as before (C99 6.2.2, 2).
-    fn before(&self, linkage: Linkage, name: &Name) -> Option<u32> {
+    fn before(&self, linkage: Linkage, name: &Name) -> Option<u32>
+        ensures { result ≡ entity_named self.now linkage name.now }
+    {
         match linkage {
             Linkage::External => self.external.get(name).copied(),
             Linkage::Internal => self.internal.get(name).copied(),
@@ -199,7 +247,9 @@ impl Entities {
 
     /// Keeps the entity of a name with linkage.
     fn keep_name(&mut self, linkage: Linkage, name: &Name, entity: u32) -> Result<(), NoMemory>
-        ensures { OnOk result (self.new.by_ordinal ≡ self.old.by_ordinal) }
+        ensures puts { OnOk result (PutsName self.old self.new linkage name.now entity) }
+        ensures numbers { OnOk result (self.new.by_ordinal ≡ self.old.by_ordinal) }
+        ensures list { OnOk result (self.new.list ≡ self.old.list) }
     {
         match linkage {
             Linkage::External => {
@@ -215,7 +265,13 @@ impl Entities {
 
     /// Begins an entity.
     fn begin(&mut self, named: NamedEntity) -> Result<(), NoMemory>
-        ensures { OnOk result (KeepsNumbers self.old.by_ordinal.entries self.new.by_ordinal.entries) }
+        ensures keeps { OnOk result (KeepsNumbers self.old.by_ordinal.entries self.new.by_ordinal.entries) }
+        ensures number { OnOk result (
+            let number = length self.old.list.items in
+            PutsNumber self.old.by_ordinal.entries self.new.by_ordinal.entries named.ordinal number) }
+        ensures name { OnOk result (
+            PutsName self.old self.new named.linkage named.name (length self.old.list.items)) }
+        ensures entity { OnOk result (BeginsEntity self.old.list.items self.new.list.items named) }
     {
         let Ok(number) = u32::try_from(self.list.len()) else {
             return Err(NoMemory);
@@ -229,7 +285,13 @@ impl Entities {
 
     /// One more declaration of an entity.
     fn declare_again(&mut self, number: u32, declaration: Declaration) -> Result<(), NoMemory>
-        ensures { OnOk result (KeepsNumbers self.old.by_ordinal.entries self.new.by_ordinal.entries) }
+        ensures keeps { OnOk result (KeepsNumbers self.old.by_ordinal.entries self.new.by_ordinal.entries) }
+        ensures number { OnOk result (
+            PutsNumber self.old.by_ordinal.entries self.new.by_ordinal.entries declaration.ordinal number) }
+        ensures external { OnOk result (self.new.external ≡ self.old.external) }
+        ensures internal { OnOk result (self.new.internal ≡ self.old.internal) }
+        ensures entity { OnOk result (
+            DeclaresAgain self.old.list.items self.new.list.items number declaration) }
     {
         put_number(&mut self.by_ordinal, declaration.ordinal, number)?;
         match self.list.get_mut(number as usize) {
@@ -240,7 +302,8 @@ impl Entities {
 
     /// A name that is declared (`AreEntities`).
     pub fn declare(&mut self, named: NamedEntity) -> Result<(), NoMemory>
-        ensures { OnOk result (KeepsNumbers self.old.by_ordinal.entries self.new.by_ordinal.entries) }
+        ensures keeps { OnOk result (KeepsNumbers self.old.by_ordinal.entries self.new.by_ordinal.entries) }
+        ensures gathers { OnOk result (Gathers self.old self.new named) }
     {
         match self.before(named.linkage, &named.name) {
             Some(number) => {

@@ -1,7 +1,7 @@
 //! The locals of a body (C99 6.2.4, 4; 6.9.1, 9).
 ghost use Rattle.std.specs.Prelude.{◌≡◌, Some, IfOk, OnOk, nat_eq};
 ghost use Rattle.std.specs.Map.{lookup};
-ghost use Rattle.lk_elab_expr.specs.Keeping.{KeepsNumbers};
+ghost use Rattle.lk_elab_expr.specs.Keeping.{KeepsNumbers, PutsNumber};
 ghost use Rattle.lk_elab_expr.specs.Leading.{GoesOn};
 
 use crate::elaborator::Elaborator;
@@ -28,7 +28,8 @@ pub(crate) fn put_number(
     ordinal: u32,
     number: u32,
 ) -> Result<(), NoMemory>
-    ensures { OnOk result (KeepsNumbers numbers.old.entries numbers.new.entries) }
+    ensures keeps { OnOk result (KeepsNumbers numbers.old.entries numbers.new.entries) }
+    ensures puts { OnOk result (PutsNumber numbers.old.entries numbers.new.entries ordinal number) }
 {
     match numbers.insert(ordinal, number)? {
         Some(_) => Err(nowhere()),
