@@ -67,41 +67,48 @@ found_in (x ∷ uses) k u is = by_test (λ is. found_in uses k u is) (nat_eq k x
 
 -- what is there is there still, perhaps earlier
 kept_put : (uses : List (ℕ × Use)) (k : ℕ) (used : Use) (d n : ℕ) → HasUse uses d n → HasUse (with_use k used uses) d n
-kept_put [] k used d n has = absurd has.1
-kept_put (x ∷ uses) k used d n has = by_test (λ h. kept_put uses k used d n h) (nat_eq k x.0) refl has.1
+kept_put [] k used d n has = absurd (none_is has.0 has.1)
   where
-    second : (d : ℕ) (u : Use) → (d, u) ≡ x → x.1.ordinal ≤ u.ordinal
-    second d u is = subst (λ (y : ℕ × Use). y.1.ordinal ≤ u.ordinal) is (omega arith)
+    none_is : (u : Use) → ◌≡◌ {A = Option Use} None (Some u) → ⊥
+    none_is u is = cc
+kept_put (x ∷ uses) k used d n has = by_test (λ h. kept_put uses k used d n h) (nat_eq k x.0)
+  where
+    some_is : (a b : Use) → ◌≡◌ {A = Option Use} (Some a) (Some b) → a ≡ b
+    some_is a b is = cc
 
-    first : (d : ℕ) (u : Use) → (d, u) ≡ x → d ≡ x.0
-    first d u is = ap (λ (y : ℕ × Use). y.0) is
+    sooner : (a b c : Use) (n : ℕ) → a ≡ b → c.ordinal ≤ a.ordinal → b.ordinal ≤ n → c.ordinal ≤ n
+    sooner a b c n same first second = omega (arith, subst (λ (b : Use). b.ordinal ≤ n) (sym same) second, first)
 
-    of_rest : HasUse (with_use k used uses) d n → HasUse (x ∷ with_use k used uses) d n
-    of_rest h = (h.0, inr h.1, h.2)
+    replaced : (c : Bool) → (if c then Some x.1 else lookup (nat_eq d) uses) ≡ Some has.0 →
+        (v : Use) × ((if c then Some (earlier (Some x.1) used) else lookup (nat_eq d) uses) ≡ Some v) × (v.ordinal ≤ n)
+    replaced true is = (earlier (Some x.1) used, refl, sooner x.1 has.0 (earlier (Some x.1) used) n (some_is x.1 has.0 is) (earlier_second x.1 used) has.2)
+    replaced false is = (has.0, is, has.2)
 
-    by_test : (HasUse uses d n → HasUse (with_use k used uses) d n) → (b : Bool) → nat_eq k x.0 ≡ b → IsIn (d, has.0) (x ∷ uses) →
+    further : (HasUse uses d n → HasUse (with_use k used uses) d n) → (c : Bool) → (if c then Some x.1 else lookup (nat_eq d) uses) ≡ Some has.0 →
+        (v : Use) × ((if c then Some x.1 else lookup (nat_eq d) (with_use k used uses)) ≡ Some v) × (v.ordinal ≤ n)
+    further rest true is = (has.0, is, has.2)
+    further rest false is = rest (has.0, is, has.2)
+
+    by_test : (HasUse uses d n → HasUse (with_use k used uses) d n) → (b : Bool) →
         HasUse (if b then (x.0, earlier (if b then Some x.1 else lookup (nat_eq k) uses) used) ∷ uses
         else x ∷ insert_entry nat_eq uses k (earlier (if b then Some x.1 else lookup (nat_eq k) uses) used)) d n
-    by_test rest true same (inl is) =
-        let u = earlier (Some x.1) used in
-        (u, inl (ap (λ m. (m, u)) (first d has.0 is)), omega (arith, earlier_second x.1 used, second d has.0 is, has.2))
-    by_test rest true same (inr h) = (has.0, inr h, has.2)
-    by_test rest false other (inl is) = (has.0, inl is, has.2)
-    by_test rest false other (inr h) = of_rest (rest (has.0, h, has.2))
+    by_test rest true = replaced (nat_eq d x.0) has.1
+    by_test rest false = further rest (nat_eq d x.0) has.1
 
 -- it is there itself, or an earlier one
 there_put : (uses : List (ℕ × Use)) (k : ℕ) (used : Use) → HasUse (with_use k used uses) k used.ordinal
-there_put [] k used = (used, inl refl, omega arith)
+there_put [] k used = (used, ap (λ b. if b then Some used else None) (itself k), omega arith)
+  where
+    itself : (k : ℕ) → nat_eq k k ≡ true
+    itself k = grind arith
 there_put (x ∷ uses) k used = by_test (there_put uses k used) (nat_eq k x.0) refl
   where
-    of_rest : HasUse (with_use k used uses) k used.ordinal → HasUse (x ∷ with_use k used uses) k used.ordinal
-    of_rest h = (h.0, inr h.1, h.2)
-
     by_test : HasUse (with_use k used uses) k used.ordinal → (b : Bool) → nat_eq k x.0 ≡ b →
         HasUse (if b then (x.0, earlier (if b then Some x.1 else lookup (nat_eq k) uses) used) ∷ uses
         else x ∷ insert_entry nat_eq uses k (earlier (if b then Some x.1 else lookup (nat_eq k) uses) used)) k used.ordinal
-    by_test rest true same = (earlier (Some x.1) used, inl (ap (λ m. (m, earlier (Some x.1) used)) (same_number k x.0 same)), earlier_first (Some x.1) used)
-    by_test rest false other = of_rest rest
+    by_test rest true same =
+        (earlier (Some x.1) used, ap (λ b. if b then Some (earlier (Some x.1) used) else lookup (nat_eq k) uses) same, earlier_first (Some x.1) used)
+    by_test rest false other = (rest.0, ap (λ b. if b then Some x.1 else lookup (nat_eq k) (with_use k used uses)) other ∙ rest.1, rest.2)
 
 -- ---- walks
 

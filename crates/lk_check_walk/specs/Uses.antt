@@ -1,5 +1,6 @@
 -- The names of which an expression speaks itself: the name that it is, and the one whose address it takes; and when what is recorded of them is true and whole.
-use Rattle.std.specs.Prelude.{ℕ, ◌≡◌, ◌≤◌, ⊤, Option, Some, None, List}
+use Rattle.std.specs.Prelude.{ℕ, ◌≡◌, ◌≤◌, ⊤, Option, Some, None, List, nat_eq}
+use Rattle.std.specs.Map.{lookup}
 use Rattle.lk_tree.specs.declared.expression.DeclaratorForm.TheOpen.{ExprForm-F}
 use Rattle.lk_tree.specs.declared.expression.Expr.{Expr}
 use Rattle.lk_tree.specs.declared.operators.PrefixOperator.{PrefixOperator}
@@ -99,7 +100,7 @@ pub record IsOfWord (table : Table) (n : ℕ) (meant : Meant) (env : Env) (node 
 
 -- one that stands no later speaks of the name
 abbrev pub HasUse : List (ℕ × Use) → (declaring ordinal : ℕ) → Type 0
-HasUse uses declaring ordinal = (used : Use) × IsIn (declaring, used) uses × (used.ordinal ≤ ordinal)
+HasUse uses declaring ordinal = (used : Use) × (lookup (nat_eq declaring) uses ≡ Some used) × (used.ordinal ≤ ordinal)
 
 -- `spoken_of` gives the name of which an expression speaks
 module _ (spoken_of : Env → Expr → Option Declared) where

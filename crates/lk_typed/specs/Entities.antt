@@ -163,7 +163,8 @@ module _ (externs : List Name) (unit : Unit) where
     pub record AreEntities : Type 0 where
       pub all : (env : Env) (node : Node) (n : NameDeclared) → IsEntityName env node n → (e k : ℕ) × Declares e k n
       pub none_else : (e k : ℕ) (is : Declaration) → IsDeclaration e k is → (env : Env) × (node : Node) × (n : NameDeclared) × IsEntityName env node n × IsDeclarationOf types n is
-      pub one : (e k f j : ℕ) (n m : NameDeclared) → Declares e k n → Declares f j m → (e ≡ f) ↔ AreOfOne n m
+      pub one : (e k f j : ℕ) (env around : Env) (node other : Node) (n m : NameDeclared) → IsEntityName env node n → IsEntityName around other m →
+          Declares e k n → Declares f j m → (e ≡ f) ↔ AreOfOne n m
       pub first : (e : ℕ) (entity : Entity) → slice_get entities e ≡ Some entity →
           (env : Env) × (node : Node) × (n : NameDeclared) × IsEntityName env node n × Declares e 0 n × IsEntityOf types bodies env node n entity
       pub entities_rise : (e f : ℕ) (a b : Declaration) → e < f → IsDeclaration e 0 a → IsDeclaration f 0 b → a.ordinal < b.ordinal
