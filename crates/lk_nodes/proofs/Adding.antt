@@ -1,5 +1,5 @@
--- What a node adds to the environment, told with the parts of the node: each part stands in an environment with the names from outside that the node is given, and what is
--- known of a struct behind it is known behind the node.
+-- What a node adds to the environment, told with the parts of the node: each part stands in an environment with the names from outside that the node is given; what is known of a
+-- struct before the node is known there, and what is known behind the part is known behind the node.
 use Rattle.std.proofs.Common.{◌≡◌, List, [], ◌∷◌, ◌++◌, length, sym, subst}
 use Rattle.std.specs.Prelude.{⊤}
 use Rattle.lk_typed.specs.Declarations.{declaration_adds}
@@ -10,7 +10,7 @@ use Rattle.lk_typed.specs.NodeParts.{external_adds, parts}
 use Rattle.lk_typed.specs.Nodes.{Node, AnExternal, ADeclaration, ADefinition, AMember, AnItem, AParameter, ATypeName, ADeclarator, AnInitialiser, AStatement, AnExpression, Placed, at}
 use Rattle.lk_typed.specs.Statements.{stmt_adds}
 use Rattle.lk_tree.specs.declared.statement.Decl.TheVariants as decl
-use Rattle.lk_nodes.proofs.Structs.{KeepsStructs, KnownStay, TagsWithin, after_both, both_kept, known_kept, nothing_kept, past_kept, structs_behind, tags_both, tags_further}
+use Rattle.lk_nodes.proofs.Structs.{AreWhole, KeepsStructs, KnownStay, NamesHaveElements, TagsWithin, after_both, both_kept, known_behind, names_both, names_further, nothing_kept, past_kept, stays_same, stays_then, structs_behind, tags_both, tags_further}
 
 -- what a node adds to the environment in which it stands
 abbrev pub adds_of : Env → Node → Additions
@@ -31,37 +31,49 @@ abbrev pub behind_node : Env → Node → List Members
 behind_node env node = structs_behind env.structs (adds_of env node)
 
 module _ (outside : Outside) where
-  -- an environment with these names from outside, whose tags mean structs that there are
+  -- an environment with these names from outside, whose tags mean structs that there are, whose structs have complete members, and whose typedefs have complete elements
   abbrev pub Sound : Env → Type 0
-  Sound env = (env.outside ≡ outside) × TagsWithin env.tags (length env.structs)
+  Sound env = (env.outside ≡ outside) × TagsWithin env.tags (length env.structs) × AreWhole env.structs × NamesHaveElements env.structs env.declared
 
   -- so is the one behind additions
   pub extended : (env : Env) {a : Additions} → Sound env → KeepsStructs env.structs a → Sound (extend env a)
-  extended env {a} sound kept = (sound.0, tags_both env.tags a.tags _ (tags_further env.tags (length env.structs) _ kept.longer sound.1) kept.tags)
+  extended env {a} sound kept = (
+    sound.0,
+    tags_both env.tags a.tags _ (tags_further env.tags (length env.structs) _ kept.longer sound.1) kept.tags,
+    kept.whole sound.2,
+    names_both _ env.declared a.declared (names_further env.structs _ (known_behind kept) env.declared sound.3) kept.names,
+  )
 
-  -- a node stands in such an environment, and what is known of structs behind it stays known up to these structs
-  pub record Fits (after : List Members) (p : Placed) : Type 0 where
+  -- a node stands in such an environment; what is known of these structs is known there, and what is known behind it stays known up to others
+  pub record Fits (before after : List Members) (p : Placed) : Type 0 where
     pub sound : Sound p.env
+    pub earlier : KnownStay before p.env.structs
     pub stays : KnownStay (behind_node p.env p.node) after
 
-  abbrev pub AllFit : List Members → List Placed → Type 0
-  AllFit after [] = ⊤
-  AllFit after (p ∷ ps) = Fits after p × AllFit after ps
+  abbrev pub AllFit : List Members → List Members → List Placed → Type 0
+  AllFit before after [] = ⊤
+  AllFit before after (p ∷ ps) = Fits before after p × AllFit before after ps
 
   -- what stays known up to these structs stays known up to others
-  pub fit_further : (ps : List Placed) (xs ys : List Members) → KnownStay xs ys → AllFit xs ps → AllFit ys ps
-  fit_further [] xs ys further all = tt
-  fit_further (p ∷ ps) xs ys further all =
-      (record { sound = all.0.sound; stays = λ s fields known. further s fields (all.0.stays s fields known) }, fit_further ps xs ys further all.1)
+  pub fit_further : (ps : List Placed) (before xs ys : List Members) → KnownStay xs ys → AllFit before xs ps → AllFit before ys ps
+  fit_further [] before xs ys further all = tt
+  fit_further (p ∷ ps) before xs ys further all =
+      (record { sound = all.0.sound; earlier = all.0.earlier; stays = stays_then _ xs ys all.0.stays further }, fit_further ps before xs ys further all.1)
 
-  fit_both : (ps qs : List Placed) (xs : List Members) → AllFit xs ps → AllFit xs qs → AllFit xs (ps ++ qs)
-  fit_both [] qs xs first others = others
-  fit_both (p ∷ ps) qs xs first others = (first.0, fit_both ps qs xs first.1 others)
+  -- what is known of earlier structs is known there
+  pub fit_earlier : (ps : List Placed) (xs ys after : List Members) → KnownStay xs ys → AllFit ys after ps → AllFit xs after ps
+  fit_earlier [] xs ys after earlier all = tt
+  fit_earlier (p ∷ ps) xs ys after earlier all =
+      (record { sound = all.0.sound; earlier = stays_then xs ys _ earlier all.0.earlier; stays = all.0.stays }, fit_earlier ps xs ys after earlier all.1)
+
+  fit_both : (ps qs : List Placed) (before xs : List Members) → AllFit before xs ps → AllFit before xs qs → AllFit before xs (ps ++ qs)
+  fit_both [] qs before xs first others = others
+  fit_both (p ∷ ps) qs before xs first others = (first.0, fit_both ps qs before xs first.1 others)
 
   -- additions keep structs, and so do these nodes, which make them
   pub record Tells (structs : List Members) (a : Additions) (ps : List Placed) : Type 0 where
     pub kept : KeepsStructs structs a
-    pub parts : AllFit (structs_behind structs a) ps
+    pub parts : AllFit structs (structs_behind structs a) ps
 
   -- no node
   pub none : (structs : List Members) → Tells structs nothing []
@@ -69,15 +81,15 @@ module _ (outside : Outside) where
 
   -- one node
   pub one : (env : Env) (node : Node) → Sound env → KeepsStructs env.structs (adds_of env node) → Tells env.structs (adds_of env node) (at env node ∷ [])
-  one env node sound kept = record { kept = kept; parts = (record { sound = sound; stays = λ s fields known. known }, tt) }
+  one env node sound kept = record { kept = kept; parts = (record { sound = sound; earlier = stays_same _; stays = stays_same _ }, tt) }
 
   -- nodes, then others
   pub turn : {structs : List Members} {a b : Additions} {ps qs : List Placed} → Tells structs a ps → Tells (structs_behind structs a) b qs → Tells structs (both a b) (ps ++ qs)
   turn {structs} {a} {b} {ps} {qs} first second =
       record {
         kept = both_kept first.kept second.kept;
-        parts = subst (λ (xs : List Members). AllFit xs (ps ++ qs)) (sym (after_both structs a.structs b.structs))
-            (fit_both ps qs _ (fit_further ps _ _ (known_kept _ _ second.kept.kept) first.parts) second.parts);
+        parts = subst (λ (xs : List Members). AllFit structs xs (ps ++ qs)) (sym (after_both structs a.structs b.structs))
+            (fit_both ps qs structs _ (fit_further ps structs _ _ (known_behind second.kept) first.parts) (fit_earlier qs structs _ _ (known_behind first.kept) second.parts));
       }
 
   -- a node, then others
@@ -89,7 +101,7 @@ module _ (outside : Outside) where
   more {structs} {a} {b} {ps} first second =
       record {
         kept = both_kept first.kept second;
-        parts = subst (λ (xs : List Members). AllFit xs ps) (sym (after_both structs a.structs b.structs)) (fit_further ps _ _ (known_kept _ _ second.kept) first.parts);
+        parts = subst (λ (xs : List Members). AllFit structs xs ps) (sym (after_both structs a.structs b.structs)) (fit_further ps structs _ _ (known_behind second) first.parts);
       }
 
   -- where the scope of nodes ends

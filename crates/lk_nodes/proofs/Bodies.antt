@@ -10,6 +10,7 @@ use Rattle.lk_tree.specs.declared.declaration.Init.TheOpen.{Init-F, Entry-F, Ini
 use Rattle.lk_tree.specs.declared.declaration.Init.{Init, out-Init, roll-Init, out-roll-Init}
 use Rattle.lk_tree.specs.declared.declaration.InitDeclarator.{InitDeclarator}
 use Rattle.lk_tree.specs.declared.declaration.InitList.{InitList, out-InitList, roll-InitList, out-roll-InitList}
+use Rattle.lk_tree.specs.declared.expression.Declarator.{Declarator}
 use Rattle.lk_tree.specs.declared.expression.Expr.{Expr}
 use Rattle.lk_tree.specs.declared.expression.Specifier.{Specifier}
 use Rattle.lk_tree.specs.declared.specifiers.Storage.{Storage}
@@ -21,16 +22,16 @@ use Rattle.lk_tree.specs.declared.statement.ForFirst.TheVariants as first
 use Rattle.lk_tree.specs.declared.statement.Function.{Function}
 use Rattle.lk_tree.specs.declared.statement.Stmt.{Stmt, roll-Stmt}
 use Rattle.lk_tree.specs.declared.statement.StmtForm.{StmtForm, out-StmtForm, roll-StmtForm, out-roll-StmtForm}
-use Rattle.lk_typed.specs.DeclarationRules.{Given, InBlock, InDeclaration, InDefinition, Scope, AtFile, Defined, type_in}
+use Rattle.lk_typed.specs.DeclarationRules.{Given, Holder, InBlock, InDeclaration, InDefinition, Scope, AtFile, Defined, type_in}
 use Rattle.lk_typed.specs.Declarations.{declarator_adds, declarators_add, given_by, initialiser_adds, is_alone, may_lack_size, name_adds, named_additions}
 use Rattle.lk_typed.specs.Env.{Env, Additions, Members, Outside, both, converted_to, enter, extend, nothing, past_scope}
-use Rattle.lk_typed.specs.Expressions.{declarator_found, expr_adds, expr_word, specifiers_found}
+use Rattle.lk_typed.specs.Expressions.{declarator_found, expr_adds, expr_word, specifier_found, specifiers_found}
 use Rattle.lk_typed.specs.InitialiserRules.{Object}
 use Rattle.lk_typed.specs.Initialisers.{Adder, as_initialiser, designator_adds, designator_part, designator_parts, designators_add, entries_in_turn, entry_object, in_turn, init_adds, of_entry, of_init, of_list, parts_of_init, text_alone, unless_word}
 use Rattle.lk_typed.specs.Labels.{labels}
-use Rattle.lk_typed.specs.Layers.{type_made}
-use Rattle.lk_typed.specs.NodeParts.{behind_declarator, body_items, declared_left, declarators_in_turn, defined_left, in_body, initialiser_part}
-use Rattle.lk_typed.specs.Nodes.{ADeclaration, ADefinition, ADeclarator, AnInitialiser, AStatement, AnExpression, Placed, at}
+use Rattle.lk_typed.specs.Layers.{span_of, type_made}
+use Rattle.lk_typed.specs.NodeParts.{behind_declarator, body_items, declared_left, declarators_in_turn, defined_left, in_body, initialiser_part, type_left}
+use Rattle.lk_typed.specs.Nodes.{ADeclaration, ADefinition, ADeclarator, AnInitialiser, AStatement, AnExpression, Placed, Unnamed, at}
 use Rattle.lk_typed.specs.Parts.{added_by, behind, behind_inner, first_adds, first_part, item_adds, item_around, item_part, items_add, items_in_turn, perhaps, specifiers_parts, statement_parts, to_result}
 use Rattle.lk_typed.specs.StatementRules.{Around, in_body_of_loop, in_function}
 use Rattle.lk_typed.specs.Statements.{StmtTeller, adding, all_in_turn, of_form, of_item, of_stmt, optional_adds, scoped, statement, stmt_adds}
@@ -39,7 +40,9 @@ use Rattle.lk_typed.specs.Told.{DeclaratorTold, Named, SpecifierTold}
 use Rattle.lk_typed.specs.Ty.{Ty}
 use Rattle.lk_nodes.proofs.Adding.{NodeTells, Sound, Tells, extended, more, next, none, part, past, turn}
 use Rattle.lk_nodes.proofs.Lists.{With}
-use Rattle.lk_nodes.proofs.Structs.{KeepsStructs, after_both, names_kept, nothing_kept, structs_behind, tags_both, tags_further}
+use Rattle.lk_nodes.proofs.Elements.{TypesHaveElements, declared_elements, specifier_elements, told_elements, types_both, types_further}
+use Rattle.lk_nodes.proofs.Making.{declarator_makes}
+use Rattle.lk_nodes.proofs.Structs.{KeepsStructs, MayHaveElements, adds_further, after_both, known_behind, may_elements_stay, names_both, names_kept, nothing_kept, stays_then, structs_behind, tags_both}
 use Rattle.lk_nodes.proofs.Trees.{each_of, Each, each_all, declarator_part, declarator_tells, expr_tells, operand_part, specifier_tells, specifiers_tell, PSpecifier}
 
 -- ---- additions, then others
@@ -59,10 +62,10 @@ extend_then env a b =
     ap (λ xs. record env { declared = env.declared ++ (a.declared ++ b.declared); tags = env.tags ++ (a.tags ++ b.tags); structs = xs }) (sym (after_both env.structs a.structs b.structs))
 
 -- a declared name
-name_kept : (structs : List Members) (env : Env) (scope : Scope) (ss : List Storage) (given : Given) (init : Option Init) (name : Option Named) (t : Option Ty) →
+pub name_kept : (structs : List Members) (env : Env) (scope : Scope) (ss : List Storage) (given : Given) (init : Option Init) (name : Option Named) (t : Option Ty) → MayHaveElements structs t →
     KeepsStructs structs (named_additions env scope ss given init name t)
-name_kept structs env scope ss given init None t = nothing_kept structs
-name_kept structs env scope ss given init (Some named) t = names_kept structs _
+name_kept structs env scope ss given init None t complete = nothing_kept structs
+name_kept structs env scope ss given init (Some named) t complete = names_kept structs _ (declared_elements structs env scope ss given init named t complete, tt)
 
 -- ---- what an initialiser adds, by its form
 
@@ -273,33 +276,59 @@ module _ (outside : Outside) (at_end : Env) where
   initialiser_tells None object env sound = none outside env.structs
   initialiser_tells (Some i) object env sound = part outside at_end env (AnInitialiser object i) sound (init_tells i env object)
 
+  -- the type that a declarator makes behind it
+  pub made_elements : (d : Declarator) (env : Env) (may_be_absent : Bool) (holder : Holder) (told : SpecifierTold) → Sound outside env → TypesHaveElements env.structs told.types →
+      MayHaveElements (structs_behind env.structs ((declarator_found d).additions env)) (type_made env may_be_absent (type_in holder told) (declarator_found d))
+  made_elements d env may_be_absent holder told sound types =
+      let one = declarator_part outside at_end d (declarator_tells outside at_end d) env (type_left env told false Unnamed d) sound in
+      may_elements_stay _ _ (known_behind one.kept) _ ((declarator_makes at_end d).elements (span_of env may_be_absent (declarator_found d)) _ (told_elements env.structs holder told types))
+
   -- a declarator with its name
-  name_tells : (scope : Scope) (told : SpecifierTold) (d : InitDeclarator) (env : Env) → Sound outside env →
+  name_tells : (scope : Scope) (told : SpecifierTold) (d : InitDeclarator) (env : Env) → Sound outside env → TypesHaveElements env.structs told.types →
       Tells outside env.structs (name_adds scope told env d) (at env (ADeclarator (declared_left scope told at_end env d) d.declarator) ∷ [])
-  name_tells scope told d env sound =
+  name_tells scope told d env sound types =
       let inner = declarator_found d.declarator in
       let a = inner.additions env in
       let t = type_made env (may_lack_size told.storages d.init) (type_in InDeclaration told) inner in
       more outside (declarator_part outside at_end d.declarator (declarator_tells outside at_end d.declarator) env (declared_left scope told at_end env d) sound)
-      (name_kept (structs_behind env.structs a) (extend env a) scope told.storages (given_by d.init) d.init inner.name t)
+      (name_kept (structs_behind env.structs a) (extend env a) scope told.storages (given_by d.init) d.init inner.name t
+      (made_elements d.declarator env (may_lack_size told.storages d.init) InDeclaration told sound types))
 
   -- a declarator with its initialiser
-  one_declarator : (scope : Scope) (told : SpecifierTold) (d : InitDeclarator) (env : Env) → Sound outside env →
+  pub one_declarator : (scope : Scope) (told : SpecifierTold) (d : InitDeclarator) (env : Env) → Sound outside env → TypesHaveElements env.structs told.types →
       Tells outside env.structs (declarator_adds scope told env d) (at env (ADeclarator (declared_left scope told at_end env d) d.declarator) ∷ initialiser_part scope told env d)
-  one_declarator scope told d env sound =
-      let name = name_tells scope told d env sound in
+  one_declarator scope told d env sound types =
+      let name = name_tells scope told d env sound types in
       next outside name (initialiser_tells d.init _ (extend env (name_adds scope told env d)) (extended outside env sound name.kept))
 
   -- the declarators of a declaration
-  declarators_tell : (ds : List InitDeclarator) (scope : Scope) (told : SpecifierTold) (env : Env) → Sound outside env →
+  pub declarators_tell : (ds : List InitDeclarator) (scope : Scope) (told : SpecifierTold) (env : Env) → Sound outside env → TypesHaveElements env.structs told.types →
       Tells outside env.structs (declarators_add scope told env ds) (declarators_in_turn at_end scope told env ds)
-  declarators_tell [] scope told env sound = none outside env.structs
-  declarators_tell (d ∷ ds) scope told env sound =
-      let one = one_declarator scope told d env sound in turn outside one (declarators_tell ds scope told (extend env (declarator_adds scope told env d)) (extended outside env sound one.kept))
+  declarators_tell [] scope told env sound types = none outside env.structs
+  declarators_tell (d ∷ ds) scope told env sound types =
+      let one = one_declarator scope told d env sound types in
+      turn outside one
+      (declarators_tell ds scope told (extend env (declarator_adds scope told env d)) (extended outside env sound one.kept) (types_further _ _ (known_behind one.kept) told.types types))
 
   -- specifiers
-  all_specifiers : (ss : List Specifier) (env : Env) (alone : Bool) → Sound outside env → Tells outside env.structs (specifiers_found ss env alone).additions (specifiers_parts alone env ss)
+  pub all_specifiers : (ss : List Specifier) (env : Env) (alone : Bool) → Sound outside env → Tells outside env.structs (specifiers_found ss env alone).additions (specifiers_parts alone env ss)
   all_specifiers ss env alone sound = specifiers_tell outside at_end ss (each_all (PSpecifier outside at_end) (specifier_tells outside at_end) ss) env alone sound
+
+  -- the types that they tell, behind them
+  pub specifiers_types : (ss : List Specifier) (env : Env) (alone : Bool) → Sound outside env →
+      TypesHaveElements (structs_behind env.structs (specifiers_found ss env alone).additions) (specifiers_found ss env alone).types
+  specifiers_types [] env alone sound = tt
+  specifiers_types (s ∷ ss) env alone sound =
+      let first = specifier_found s env alone in
+      let after = extend env first.additions in
+      let others = specifiers_found ss after alone in
+      let one = specifier_tells outside at_end s env alone sound in
+      let stays = extended outside env sound one.kept in
+      let two = all_specifiers ss after alone stays in
+      subst (λ xs. TypesHaveElements xs (first.types ++ others.types)) (sym (after_both env.structs first.additions.structs others.additions.structs))
+      (types_both _ first.types others.types
+      (types_further env.structs _ (stays_then env.structs after.structs _ (known_behind one.kept) (known_behind two.kept)) first.types (specifier_elements s env alone sound.3))
+      (specifiers_types ss after alone stays))
 
   -- a declaration
   pub declaration_tells : (node : Declare) (scope : Scope) (env : Env) → NodeTells outside at_end env (ADeclaration scope node)
@@ -307,7 +336,8 @@ module _ (outside : Outside) (at_end : Env) where
       let alone = is_alone node.declarators in
       let told = specifiers_found node.specifiers env alone in
       let one = all_specifiers node.specifiers env alone sound in
-      turn outside one (declarators_tell node.declarators scope told (extend env told.additions) (extended outside env sound one.kept))
+      turn outside one
+      (declarators_tell node.declarators scope told (extend env told.additions) (extended outside env sound one.kept) (specifiers_types node.specifiers env alone sound))
 
   -- ---- statements
 
@@ -461,25 +491,28 @@ module _ (outside : Outside) (at_end : Env) where
   -- ---- definitions
 
   -- the name that a definition declares
-  defined_name : (node : Function) (told : SpecifierTold) (env : Env) →
+  defined_name : (node : Function) (told : SpecifierTold) (env : Env) → Sound outside env → TypesHaveElements env.structs told.types →
       (λ (inner : DeclaratorTold). let a = inner.additions env in KeepsStructs (structs_behind env.structs a)
       (named_additions (extend env a) AtFile told.storages Defined None inner.name (type_made env false (type_in InDefinition told) inner))) (declarator_found node.declarator)
-  defined_name node told env =
+  defined_name node told env sound types =
       let inner = declarator_found node.declarator in
       let a = inner.additions env in
       name_kept (structs_behind env.structs a) (extend env a) AtFile told.storages Defined None inner.name (type_made env false (type_in InDefinition told) inner)
+      (made_elements node.declarator env false InDefinition told sound types)
 
-  -- a body stands in an environment whose tags mean structs that there are
-  body_sound : (node : Function) (told : SpecifierTold) (env : Env) → Sound outside env → Sound outside (in_body told env node)
-  body_sound node told env sound =
+  -- a body stands in a sound environment
+  body_sound : (node : Function) (told : SpecifierTold) (env : Env) → Sound outside env → TypesHaveElements env.structs told.types → Sound outside (in_body told env node)
+  body_sound node told env sound types =
       let inner = declarator_found node.declarator in
       let a = inner.additions env in
       let one = declarator_part outside at_end node.declarator (declarator_tells outside at_end node.declarator) env (defined_left told at_end env node) sound in
-      let name = defined_name node told env in
-      let behind = extended outside (extend env a) (extended outside env sound one.kept) name in (
+      let name = defined_name node told env sound types in
+      let behind = extended outside (extend env a) (extended outside env sound one.kept) name in
+      let parameters = adds_further _ _ (inner.parameters (enter env)) name ((declarator_tells outside at_end node.declarator).parameters env sound) in (
         behind.0,
-        tags_both (behind_declarator told env node).tags (inner.parameters (enter env)).tags _ behind.1
-            (tags_further (inner.parameters (enter env)).tags _ _ name.longer ((declarator_tells outside at_end node.declarator).parameters env sound)),
+        tags_both (behind_declarator told env node).tags (inner.parameters (enter env)).tags _ behind.1 parameters.0,
+        behind.2,
+        names_both _ (behind_declarator told env node).declared (inner.parameters (enter env)).declared behind.3 parameters.1,
       )
 
   -- a definition
@@ -491,8 +524,9 @@ module _ (outside : Outside) (at_end : Env) where
       let one = all_specifiers node.specifiers env false sound in
       let stays = extended outside env sound one.kept in
       let two = declarator_part outside at_end node.declarator (declarator_tells outside at_end node.declarator) after (defined_left told at_end after node) stays in
-      turn outside one (next outside two (named_then (defined_name node told after)
-      (past outside (items_tell items (each_all PBlockItem block_item_tells items) (in_body told after node) (in_function (labels node.body)) (body_sound node told after stays)))))
+      let types = specifiers_types node.specifiers env false sound in
+      turn outside one (next outside two (named_then (defined_name node told after stays types)
+      (past outside (items_tell items (each_all PBlockItem block_item_tells items) (in_body told after node) (in_function (labels node.body)) (body_sound node told after stays types)))))
     where
       named_then : {structs : List Members} {a b : Additions} {ps : List Placed} → KeepsStructs structs a → Tells outside (structs_behind structs a) b ps → Tells outside structs (both a b) ps
       named_then {structs} {a} {b} {ps} kept others = turn outside {ps = []} {qs = ps} (record { kept = kept; parts = tt }) others

@@ -8,7 +8,12 @@ pub mod Names
 pub mod Sources
 pub mod Statements
 pub mod Structs
+pub mod Rules
+pub mod Elements
+pub mod Making
 pub mod Adding
 pub mod Trees
 pub mod Bodies
 pub mod Environments
+pub mod Objects
+pub mod Settled

@@ -1,10 +1,16 @@
 -- Parts that a walk numbers one behind the other: a list, and a part that may be missing.
 use Rattle.std.proofs.Common.{◌≤◌, ℕ, List, [], ◌∷◌, Option, Some, None, map, arith}
+use Rattle.std.specs.Prelude.{⊤}
 use Rattle.lk_tree.specs.Numbers.{Numbered, list, list_of, optional_of}
 
 -- a value with a proof
 abbrev pub With : {A : Type 0} → (A → Type 0) → Type 0
 With {A} Q = (a : A) × Q a
+
+-- it holds of what is there
+abbrev pub IfThere : {A : Type 0} → (A → Type 0) → Option A → Type 0
+IfThere P None = ⊤
+IfThere P (Some x) = P x
 
 -- what a walk makes, from each number on, lies from there up to the number behind it
 abbrev pub Lays : {A : Type 0} → (A → ℕ → ℕ → Type 0) → Numbered A → Type 0

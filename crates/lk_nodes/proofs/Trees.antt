@@ -1,8 +1,9 @@
 -- What the nodes of an expression, a declarator or a specifier add.
-use Rattle.std.proofs.Common.{◌≡◌, ◌∙◌, ℕ, ℤ, Bool, true, false, List, [], ◌∷◌, ◌++◌, Option, Some, None, map, length, refl, sym, ap, subst}
-use Rattle.std.specs.Prelude.{⊤, ◌&&◌, not, if◌then◌else◌, option_map}
+use Rattle.std.proofs.Common.{◌≡◌, ◌∙◌, ℕ, ℤ, Bool, true, false, List, [], ◌∷◌, ◌++◌, Option, Some, None, map, refl, sym, ap, subst}
+use Rattle.std.specs.Prelude.{⊤, ◌&&◌, not, if◌then◌else◌, is_some, option_map}
 use Rattle.std.proofs.lemmas.Bool.{false≢true}
 use Rattle.std.proofs.lemmas.List.{append-nil}
+use Rattle.lk_base.specs.declared.code.Code.TheVariants.{Incomplete, Redeclared}
 use Rattle.lk_base.specs.declared.spot.Spot.{Spot}
 use Rattle.lk_tree.specs.declared.expression.DeclaratorForm.TheOpen.{DeclaratorForm-F, ExprForm-F, MemberDeclarator-F, Specifier-F, Declarator-F, Expr-F, Item-F, Member-F, Parameter-F, TypeName-F}
 use Rattle.lk_tree.specs.declared.expression.DeclaratorForm.TheFolds.{ind-Declarator, ind-Expr, ind-Item, ind-Member, ind-Parameter, ind-Specifier, ind-TypeName, map-DeclaratorForm, map-ExprForm, map-MemberDeclarator, map-Specifier, map-Declarator, map-Expr, map-Item, map-Member, map-Parameter, map-TypeName}
@@ -19,11 +20,11 @@ use Rattle.lk_tree.specs.declared.expression.TypeName.{TypeName, out-TypeName, r
 use Rattle.lk_tree.specs.declared.operators.BinaryOperator.{BinaryOperator}
 use Rattle.lk_typed.specs.Assignments.{operator_of}
 use Rattle.lk_typed.specs.DeclarationRules.{InType, type_in}
-use Rattle.lk_typed.specs.Env.{Env, Additions, Field, Members, Outside, as_function, as_operand, both, converted_to, enter, extend, nothing, past_scope}
+use Rattle.lk_typed.specs.Env.{Env, Additions, Field, Members, Outside, as_function, as_operand, both, converted_to, enter, extend, field_of, nothing, past_scope}
 use Rattle.lk_typed.specs.ExprRules as rules
 use Rattle.lk_typed.specs.ExprRules.{adds_of_expr, all_additions, judged}
 use Rattle.lk_typed.specs.Expressions.{at_pair, declarator_found, declarator_layer, expression, item_found, member_found, member_declarator_found, parameter_found, specifier_found, specifiers_found, type_found}
-use Rattle.lk_typed.specs.Faults.{Breach}
+use Rattle.lk_typed.specs.Faults.{Breach, breach_of}
 use Rattle.lk_typed.specs.Forms.{as_cast, as_passed, as_right, behind, found_at, in_place, passes_of, placed_arguments}
 use Rattle.lk_typed.specs.Layers as layers
 use Rattle.lk_typed.specs.Layers.{DeclaratorLayer, each_parameter, faulty_member, field_told, field_unless, inner_of, parameter_name, parameter_type, parameters_of, type_made, with_declarator}
@@ -33,10 +34,11 @@ use Rattle.lk_typed.specs.NodeParts as parts
 use Rattle.lk_typed.specs.NodeParts.{member_part, type_part_if_there, type_parts}
 use Rattle.lk_typed.specs.Nodes.{AMember, AnItem, AParameter, ATypeName, ADeclarator, AnExpression, Placed, at, Left, NameUse, IsParameter, Unnamed}
 use Rattle.lk_typed.specs.Parts.{declarator_parts, items_parts, members_parts, parameters_in_turn, perhaps, specifier_parts, specifiers_parts}
-use Rattle.lk_typed.specs.Sizes.{is_broken}
+use Rattle.lk_typed.specs.Redeclared.{typedef_type}
+use Rattle.lk_typed.specs.Sizes.{is_broken, is_complete}
 use Rattle.lk_typed.specs.Telling.{added, in_declarator, of_member_declarator, of_specifier, size_added}
 use Rattle.lk_typed.specs.Told as told
-use Rattle.lk_typed.specs.Told.{MemberTold, Named, SpecifierTold, before_first, enum_tag, enumerator, members_made, specifiers, struct_begins, struct_meant_by, struct_use}
+use Rattle.lk_typed.specs.Told.{MemberTold, Named, SpecifierTold, before_first, enum_tag, enumerator, known_or_faulty, members_made, specifiers, struct_begins, struct_meant_by, struct_use}
 use Rattle.lk_typed.specs.Ty.{Ty, is_function}
 use Rattle.lk_typed.specs.Typing.{Typing}
 use Rattle.lk_rules.specs.LayerLaws.{DeclaratorTree, MemberDeclaratorTree, SpecifierTree, declarator_parts_told, member_declarator_parts_told, specifier_parts_told}
@@ -44,9 +46,10 @@ use Rattle.lk_rules.specs.Laws.{name_found}
 use Rattle.lk_rules.proofs.Found.{Layer, expressions_follow_their_rules}
 use Rattle.lk_rules.proofs.Layered.{declarators_follow_their_forms, items_follow_their_parts, member_declarators_follow_their_forms, members_follow_their_parts, parameters_follow_their_parts, specifiers_follow_their_forms, type_names_follow_their_parts}
 use Rattle.lk_rules.proofs.Roles.{additions_in_any_role}
-use Rattle.lk_nodes.proofs.Adding.{NodeTells, Sound, Tells, extended, fit_further, more, next, none, part, past, turn}
-use Rattle.lk_nodes.proofs.Lists.{With}
-use Rattle.lk_nodes.proofs.Structs.{KeepsStructs, TagsWithin, after_both, enum_kept, known_behind_struct, named_kept, names_kept, nothing_kept, struct_begun, structs_behind, tags_further, whole_kept}
+use Rattle.lk_nodes.proofs.Adding.{NodeTells, Sound, Tells, extended, fit_earlier, fit_further, more, next, none, part, past, turn}
+use Rattle.lk_nodes.proofs.Lists.{IfThere, With}
+use Rattle.lk_nodes.proofs.Rules.{none_before, none_behind, rule_holds}
+use Rattle.lk_nodes.proofs.Structs.{AddsWithin, AllComplete, AreComplete, KeepsStructs, MayHaveElements, adds_further, after_both, enum_kept, fields_both, fields_stay, known_behind, known_behind_struct, named_kept, names_kept, nothing_kept, struct_begun, structs_behind, whole_kept}
 
 -- ---- layers of trees
 
@@ -68,17 +71,12 @@ ParameterNode = Parameter-F DeclaratorForm ExprForm MemberDeclarator Specifier D
 abbrev TypeNameNode : Type 0
 TypeNameNode = TypeName-F DeclaratorForm ExprForm MemberDeclarator Specifier Declarator Expr Item Member Parameter TypeName
 
--- ---- each of a list, and what may be missing
+-- ---- each of a list
 
 -- it holds of each
 abbrev pub Each : {A : Type 0} → (A → Type 0) → List A → Type 0
 Each P [] = ⊤
 Each P (x ∷ xs) = P x × Each P xs
-
--- it holds of what is there
-abbrev pub IfThere : {A : Type 0} → (A → Type 0) → Option A → Type 0
-IfThere P None = ⊤
-IfThere P (Some x) = P x
 
 -- of values with proofs
 pub each_of : {A : Type 0} (P : A → Type 0) (xs : List (With P)) → Each P (map (λ a. a.0) xs)
@@ -120,6 +118,60 @@ field_adds env before (Some named) (Some t) faulty = by_struct (is_broken env.st
     by_struct true = refl
     by_struct false = unless_adds (member_rules env before named.name t ++ large_struct_rules env before t) named.name t faulty
 
+-- ---- fields have complete types
+
+-- a field that breaks no rule is complete
+unless_complete : (structs : List Members) (bs : List Breach) (name : List ℕ) (t : Ty) (faulty : MemberTold) → (bs ≡ [] → is_complete structs t ≡ true) → AllComplete structs faulty.fields →
+    AllComplete structs (field_unless bs name t faulty).fields
+unless_complete structs [] name t faulty holds all = (holds refl, tt)
+unless_complete structs (b ∷ bs) name t faulty holds all = all
+
+-- the field that a declarator makes
+told_complete : (env : Env) (before : List Field) (name : Option Named) (t : Option Ty) (faulty : MemberTold) → AllComplete env.structs faulty.fields →
+    AllComplete env.structs (field_told env before name t faulty).fields
+told_complete env before None t faulty all = all
+told_complete env before (Some named) None faulty all = all
+told_complete env before (Some named) (Some t) faulty all = by_struct (is_broken env.structs t)
+  where
+    by_struct : (b : Bool) → AllComplete env.structs (if b then faulty else field_unless (member_rules env before named.name t ++ large_struct_rules env before t) named.name t faulty).fields
+    by_struct true = all
+    by_struct false =
+        let declared = if is_some (field_of before named.name) then breach_of Redeclared named.name ∷ [] else [] in
+        unless_complete env.structs _ named.name t faulty
+        (λ none. rule_holds (is_complete env.structs t) Incomplete (none_behind declared _ (none_before _ (large_struct_rules env before t) none))) all
+
+-- the field that a declarator of a member makes is complete behind it
+field_complete : (d : MemberDeclarator) (env : Env) (t : Option Ty) (before : List Field) →
+    AllComplete (structs_behind env.structs (member_declarator_found d env t before).additions) (member_declarator_found d env t before).fields
+field_complete d env t before =
+    subst (λ f. AllComplete (structs_behind env.structs (f env t before).additions) (f env t before).fields) (sym (member_declarators_follow_their_forms d)) (by_form (out-MemberDeclarator d))
+  where
+    by_form : (form : MemberDeclaratorTree) →
+        (λ (told : MemberTold). AllComplete (structs_behind env.structs told.additions) told.fields) (of_member_declarator (member_declarator_parts_told form) env t before)
+    by_form (MemberDeclarator-F.Plain inner) =
+        let found = declarator_found inner in
+        let behind = extend env (found.additions env) in
+        let faulty = faulty_member (found.additions env) (found.holds_sizeof env) in
+        let made = type_made env false t found in
+        subst (λ a. AllComplete (structs_behind env.structs a) (field_told behind before found.name made faulty).fields)
+        (sym (field_adds behind before found.name made faulty)) (told_complete behind before found.name made faulty tt)
+    by_form (MemberDeclarator-F.Field inner width) = tt
+    by_form (MemberDeclarator-F.Unnamed width) = tt
+
+-- what is made of complete fields has complete members
+made_complete : (structs : List Members) (told : MemberTold) → AllComplete structs told.fields → AreComplete structs (members_made told)
+made_complete structs told all = by_sound told.sound told.fields all
+  where
+    by_sound : (b : Bool) (fields : List Field) → AllComplete structs fields → AreComplete structs (if b then known_or_faulty fields else Members.Faulty)
+    by_sound false fields all = tt
+    by_sound true [] all = tt
+    by_sound true (field ∷ fields) all = all
+
+-- an enumerator is no typedef
+item_elements : (structs : List Members) (value : Option ℤ) → MayHaveElements structs (typedef_type (enumerator value))
+item_elements structs None = tt
+item_elements structs (Some z) = tt
+
 module _ (outside : Outside) (at_end : Env) where
   -- ---- of each kind of node: its additions with its parts
 
@@ -131,9 +183,10 @@ module _ (outside : Outside) (at_end : Env) where
   abbrev pub PTypeName : TypeName → Type 0
   PTypeName n = (env : Env) → NodeTells outside at_end env (ATypeName n)
 
-  -- a member, behind any fields
-  abbrev pub PMember : Member → Type 0
-  PMember m = (env : Env) (before : List Field) → NodeTells outside at_end env (AMember before m)
+  -- a member, behind any fields; its own fields are complete behind it
+  pub record PMember (m : Member) : Type 0 where
+    pub tells : (env : Env) (before : List Field) → NodeTells outside at_end env (AMember before m)
+    pub complete : (env : Env) (before : List Field) → Sound outside env → AllComplete (structs_behind env.structs (member_found m env before).additions) (member_found m env before).fields
 
   -- an enumerator, behind any value
   abbrev pub PItem : Item → Type 0
@@ -153,11 +206,11 @@ module _ (outside : Outside) (at_end : Env) where
       (env : Env) (told : SpecifierTold) (t : Option Ty) (before : List Field) → Sound outside env →
       Tells outside env.structs (member_declarator_found d env t before).additions (member_part env told before (out-MemberDeclarator d))
 
-  -- a declarator that is the name alone adds nothing; the tags of its parameters mean structs that it adds
+  -- a declarator that is the name alone adds nothing; the tags of its parameters mean structs that there are behind it
   pub record LayerTells (l : DeclaratorLayer) (ps : Env → Left → List Placed) : Type 0 where
     pub tells : (env : Env) (left : Left) → Sound outside env → Tells outside env.structs (l.told.additions env) (ps env left)
     pub name : l.is_name ≡ true → (env : Env) → l.told.additions env ≡ nothing
-    pub parameters : (env : Env) → Sound outside env → TagsWithin (l.told.parameters (enter env)).tags (length (structs_behind env.structs (l.told.additions env)))
+    pub parameters : (env : Env) → Sound outside env → AddsWithin (structs_behind env.structs (l.told.additions env)) (l.told.parameters (enter env))
 
   -- a declarator
   abbrev pub PDeclarator : Declarator → Type 0
@@ -255,8 +308,21 @@ module _ (outside : Outside) (at_end : Env) where
       Tells outside env.structs (told.members_in_turn (map member_found ms) env before).additions (members_parts env before ms)
   members_tell [] all env before sound = none outside env.structs
   members_tell (m ∷ ms) all env before sound =
-      let first = part outside at_end env (AMember before m) sound (all.0 env before) in
+      let first = part outside at_end env (AMember before m) sound (all.0.tells env before) in
       next outside first (members_tell ms all.1 _ _ (extended outside env sound first.kept))
+
+  -- the fields of the members of a struct are complete behind them
+  members_complete : (ms : List Member) → Each PMember ms → (env : Env) (before : List Field) → Sound outside env →
+      AllComplete (structs_behind env.structs (told.members_in_turn (map member_found ms) env before).additions) (told.members_in_turn (map member_found ms) env before).fields
+  members_complete [] all env before sound = tt
+  members_complete (m ∷ ms) all env before sound =
+      let found = member_found m env before in
+      let after = extend env found.additions in
+      let others = told.members_in_turn (map member_found ms) after (before ++ found.fields) in
+      let stays = extended outside env sound (all.0.tells env before sound).kept in
+      let kept = (members_tell ms all.1 after (before ++ found.fields) stays).kept in
+      subst (λ xs. AllComplete xs (found.fields ++ others.fields)) (sym (after_both env.structs found.additions.structs others.additions.structs))
+      (fields_both _ found.fields others.fields (fields_stay _ _ (known_behind kept) found.fields (all.0.complete env before sound)) (members_complete ms all.1 after (before ++ found.fields) stays))
 
   -- the enumerators of an enumeration
   items_tell : (is : List Item) → Each PItem is → (env : Env) (before : Option ℤ) → Sound outside env →
@@ -295,6 +361,20 @@ module _ (outside : Outside) (at_end : Env) where
   fields_tell (d ∷ ds) all told env before sound =
       let first = all.0 env told (type_in InType told) before sound in
       turn outside first (fields_tell ds all.1 told _ _ (extended outside env sound first.kept))
+
+  -- the fields of the declarators of a member are complete behind them
+  fields_complete : (ds : List MemberDeclarator) → Each PField ds → (told : SpecifierTold) (env : Env) (before : List Field) → Sound outside env →
+      (λ (made : MemberTold). AllComplete (structs_behind env.structs made.additions) made.fields) (layers.declarators_in_turn (map member_declarator_found ds) env (type_in InType told) before)
+  fields_complete [] all told env before sound = tt
+  fields_complete (d ∷ ds) all told env before sound =
+      let t = type_in InType told in
+      let found = member_declarator_found d env t before in
+      let after = extend env found.additions in
+      let others = layers.declarators_in_turn (map member_declarator_found ds) after t (before ++ found.fields) in
+      let stays = extended outside env sound (all.0 env told t before sound).kept in
+      let kept = (fields_tell ds all.1 told after (before ++ found.fields) stays).kept in
+      subst (λ xs. AllComplete xs (found.fields ++ others.fields)) (sym (after_both env.structs found.additions.structs others.additions.structs))
+      (fields_both _ found.fields others.fields (fields_stay _ _ (known_behind kept) found.fields (field_complete d env t before)) (fields_complete ds all.1 told after (before ++ found.fields) stays))
 
   -- a declarator
   pub declarator_part : (d : Declarator) → PDeclarator d → (env : Env) (left : Left) → Sound outside env →
@@ -341,21 +421,31 @@ module _ (outside : Outside) (at_end : Env) where
     where
       by_name : (structs : List Members) (name : Option Named) (t : Option Ty) → KeepsStructs structs (parameter_name name t)
       by_name structs None t = nothing_kept structs
-      by_name structs (Some named) None = names_kept structs _
-      by_name structs (Some named) (Some t) = names_kept structs _
+      by_name structs (Some named) None = names_kept structs _ (tt, tt)
+      by_name structs (Some named) (Some t) = names_kept structs _ (tt, tt)
 
   -- a member, by its parts
   member_tells_by : (m : Member) → Each PSpecifier m.specifiers → Each PField m.declarators → PMember m
-  member_tells_by m all fields env before sound =
-      subst (λ f. Tells outside env.structs (f env before).additions (parts.member_parts env before m)) (sym (members_follow_their_parts m))
-      (let first = specifiers_tell m.specifiers all env false sound in
-      turn outside first (fields_tell m.declarators fields (specifiers_found m.specifiers env false) _ before (extended outside env sound first.kept)))
+  member_tells_by m all fields =
+      record {
+        tells = λ env before sound.
+            subst (λ f. Tells outside env.structs (f env before).additions (parts.member_parts env before m)) (sym (members_follow_their_parts m))
+            (let first = specifiers_tell m.specifiers all env false sound in
+            turn outside first (fields_tell m.declarators fields (specifiers_found m.specifiers env false) _ before (extended outside env sound first.kept)));
+        complete = λ env before sound.
+            let told = specifiers_found m.specifiers env false in
+            let after = extend env told.additions in
+            let made = layers.declarators_in_turn (map member_declarator_found m.declarators) after (type_in InType told) before in
+            let stays = extended outside env sound (specifiers_tell m.specifiers all env false sound).kept in
+            subst (λ f. AllComplete (structs_behind env.structs (f env before).additions) (f env before).fields) (sym (members_follow_their_parts m))
+            (subst (λ xs. AllComplete xs made.fields) (sym (after_both env.structs told.additions.structs made.additions.structs)) (fields_complete m.declarators fields told after before stays));
+      }
 
   -- an enumerator, by its value
   item_tells_by : (i : Item) → IfThere PExpr (out-Item i).value → PItem i
   item_tells_by i there env before sound =
       subst (λ f. Tells outside env.structs (f env before).additions (perhaps env AnExpression (out-Item i).value)) (sym (items_follow_their_parts i))
-      (more outside (perhaps_tells (out-Item i).value there env sound) (names_kept _ _))
+      (more outside (perhaps_tells (out-Item i).value there env sound) (names_kept _ _ (item_elements _ _, tt)))
 
   -- ---- one layer, where this holds of its parts
 
@@ -488,20 +578,19 @@ module _ (outside : Outside) (at_end : Env) where
           let a = (declarator_found inner).additions env in structs_behind env.structs (both a (past_scope (parameters_of (map parameter_found ps) dots (enter (extend env a))).additions))
 
       by_name : (b : Bool) → (declarator_layer inner).is_name ≡ b → (env : Env) → Sound outside env →
-          TagsWithin ((if b then (λ env. (parameters_of (map parameter_found ps) dots env).additions) else (declarator_found inner).parameters) (enter env)).tags (length (behind_all env))
+          AddsWithin (behind_all env) ((if b then (λ env. (parameters_of (map parameter_found ps) dots env).additions) else (declarator_found inner).parameters) (enter env))
       by_name true is env sound =
           let a = (declarator_found inner).additions env in
           let first = declarator_part inner tells env (record { type = None; may_be_absent = false; behind = env; use_of_name = Unnamed; is_whole = false }) sound in
           let second = parameters_tell ps all false dots (enter (extend env a)) (extended outside env sound first.kept) in
-          subst (λ (e : Env). TagsWithin (parameters_of (map parameter_found ps) dots (enter e)).additions.tags (length (behind_all env)))
-          (ap (extend env) (tells.name is env) ∙ extend_nothing env)
-          (subst (λ xs. TagsWithin (parameters_of (map parameter_found ps) dots (enter (extend env a))).additions.tags (length xs)) (sym (after_both env.structs a.structs _)) second.kept.tags)
+          subst (λ (e : Env). AddsWithin (behind_all env) (parameters_of (map parameter_found ps) dots (enter e)).additions) (ap (extend env) (tells.name is env) ∙ extend_nothing env)
+          (subst (λ xs. AddsWithin xs (parameters_of (map parameter_found ps) dots (enter (extend env a))).additions) (sym (after_both env.structs a.structs _)) (second.kept.tags, second.kept.names))
       by_name false is env sound =
           let a = (declarator_found inner).additions env in
           let first = declarator_part inner tells env (record { type = None; may_be_absent = false; behind = env; use_of_name = Unnamed; is_whole = false }) sound in
           let second = parameters_tell ps all false dots (enter (extend env a)) (extended outside env sound first.kept) in
-          subst (λ xs. TagsWithin ((declarator_found inner).parameters (enter env)).tags (length xs)) (sym (after_both env.structs a.structs _))
-          (tags_further _ _ _ second.kept.longer (tells.parameters env sound))
+          subst (λ xs. AddsWithin xs ((declarator_found inner).parameters (enter env))) (sym (after_both env.structs a.structs _))
+          (adds_further _ _ ((declarator_found inner).parameters (enter env)) second.kept (tells.parameters env sound))
 
   -- an array declarator
   array_tells : (inner : Declarator) → PDeclarator inner → (size : Option Expr) → IfThere PExpr size → DeclaratorTells (DeclaratorForm-F.ArrayOf (Some inner) size)
@@ -513,28 +602,28 @@ module _ (outside : Outside) (at_end : Env) where
             let a = (declarator_found inner).additions env in
             let first = declarator_part inner tells env (record { type = None; may_be_absent = false; behind = env; use_of_name = Unnamed; is_whole = false }) sound in
             let second = perhaps_tells size there (extend env a) (extended outside env sound first.kept) in
-            subst (λ xs. TagsWithin ((declarator_found inner).parameters (enter env)).tags (length xs)) (sym (after_both env.structs a.structs _))
-            (tags_further _ _ _ second.kept.longer (tells.parameters env sound));
+            subst (λ xs. AddsWithin xs ((declarator_found inner).parameters (enter env))) (sym (after_both env.structs a.structs _))
+            (adds_further _ _ ((declarator_found inner).parameters (enter env)) second.kept (tells.parameters env sound));
       }
 
   -- a form of a declarator
   in_declarator_form : (y : DeclaratorGiven) → DeclaratorTells (declarator_form_below y)
-  in_declarator_form (DeclaratorForm-F.Star qualifiers None) spot n = record { tells = λ env left sound. none outside env.structs; name = λ is. absurd (false≢true is); parameters = λ env sound. tt }
+  in_declarator_form (DeclaratorForm-F.Star qualifiers None) spot n = record { tells = λ env left sound. none outside env.structs; name = λ is. absurd (false≢true is); parameters = λ env sound. (tt, tt) }
   in_declarator_form (DeclaratorForm-F.Star qualifiers (Some inner)) spot n =
       record { tells = λ env left sound. declarator_part inner.0 inner.1 env _ sound; name = λ is. absurd (false≢true is); parameters = inner.1.parameters }
-  in_declarator_form (DeclaratorForm-F.Named name) spot n = record { tells = λ env left sound. none outside env.structs; name = λ is env. refl; parameters = λ env sound. tt }
+  in_declarator_form (DeclaratorForm-F.Named name) spot n = record { tells = λ env left sound. none outside env.structs; name = λ is env. refl; parameters = λ env sound. (tt, tt) }
   in_declarator_form (DeclaratorForm-F.Group inner) spot n = record { tells = λ env left sound. declarator_part inner.0 inner.1 env _ sound; name = inner.1.name; parameters = inner.1.parameters }
   in_declarator_form (DeclaratorForm-F.ArrayOf None None) spot n =
-      record { tells = λ env left sound. size_tells None tt env sound (none outside env.structs); name = λ is. absurd (false≢true is); parameters = λ env sound. tt }
+      record { tells = λ env left sound. size_tells None tt env sound (none outside env.structs); name = λ is. absurd (false≢true is); parameters = λ env sound. (tt, tt) }
   in_declarator_form (DeclaratorForm-F.ArrayOf None (Some size)) spot n =
-      record { tells = λ env left sound. size_tells (Some size.0) size.1 env sound (none outside env.structs); name = λ is. absurd (false≢true is); parameters = λ env sound. tt }
+      record { tells = λ env left sound. size_tells (Some size.0) size.1 env sound (none outside env.structs); name = λ is. absurd (false≢true is); parameters = λ env sound. (tt, tt) }
   in_declarator_form (DeclaratorForm-F.ArrayOf (Some inner) None) spot n = array_tells inner.0 inner.1 None tt spot n
   in_declarator_form (DeclaratorForm-F.ArrayOf (Some inner) (Some size)) spot n = array_tells inner.0 inner.1 (Some size.0) size.1 spot n
   in_declarator_form (DeclaratorForm-F.FunctionOf None ps dots) spot n =
       record {
         tells = λ env left sound. list_tells (map (λ a. a.0) ps) (each_of PParameter ps) _ dots env sound (none outside env.structs);
         name = λ is. absurd (false≢true is);
-        parameters = λ env sound. tt;
+        parameters = λ env sound. (tt, tt);
       }
   in_declarator_form (DeclaratorForm-F.FunctionOf (Some inner) ps dots) spot n = function_tells inner.0 inner.1 (map (λ a. a.0) ps) (each_of PParameter ps) dots spot n
 
@@ -558,8 +647,9 @@ module _ (outside : Outside) (at_end : Env) where
       let inside = members_tell ms all start [] (extended outside env sound begins.kept) in
       let made = members_made (told.members_in_turn (map member_found ms) start []) in
       record {
-        kept = whole_kept made begins inside.kept;
-        parts = fit_further outside (members_parts start [] ms) _ _ (known_behind_struct made begins inside.kept) inside.parts;
+        kept = whole_kept made begins inside.kept (made_complete _ (told.members_in_turn (map member_found ms) start []) (members_complete ms all start [] (extended outside env sound begins.kept)));
+        parts = fit_earlier outside (members_parts start [] ms) _ _ _ (known_behind begins.kept)
+            (fit_further outside (members_parts start [] ms) _ _ _ (known_behind_struct made begins inside.kept) inside.parts);
       }
 
   -- a specifier, by its layer

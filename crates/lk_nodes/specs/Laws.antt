@@ -16,14 +16,16 @@ use Rattle.lk_typed.specs.DeclarationRules.{Scope}
 use Rattle.lk_typed.specs.Entities.{DeclaresName, IsDeclaratorOf, NameDeclared, StandsIn, defined_type, specifiers_of}
 use Rattle.lk_typed.specs.Env.{Env, Field, Known, Name, extend, members_of}
 use Rattle.lk_typed.specs.Expressions.{declarator_found, expression}
+use Rattle.lk_typed.specs.Faults.{Fault}
 use Rattle.lk_typed.specs.InitialiserRules.{Object}
 use Rattle.lk_typed.specs.NodeParts.{parts, type_declared}
 use Rattle.lk_typed.specs.Nodes.{Node, ADeclaration, ADeclarator, ADefinition, AnExpression, AnInitialiser, AStatement, ATypeName, Left, Placed}
 use Rattle.lk_typed.specs.Stands.{IsIn}
 use Rattle.lk_typed.specs.StatementRules.{Around}
 use Rattle.lk_typed.specs.Told.{Named}
-use Rattle.lk_typed.specs.Units.{IsNode, around, at_end, externals}
+use Rattle.lk_typed.specs.Units.{IsFaultOf, IsNode, around, at_end, externals}
 use Rattle.lk_nodes.specs.Kinds.{is_numbered_by_its_part, kind_of, number_of}
+use Rattle.lk_nodes.specs.Settled.{AreSettled}
 
 -- this holds of each numbered source, whatever names --externs lists
 abbrev pub OfNumbered : (List Name → Unit → Type 0) → Type 0
@@ -162,3 +164,7 @@ abbrev pub KnownStructsStay : Type 0
 KnownStructsStay =
     (externs : List Name) (unit : Unit) (env : Env) (e : Expr) (s : ℕ) (fields : List Field) → IsNode externs unit env (AnExpression e) →
     members_of (extend env (expression e env).adds).structs s ≡ Known fields → members_of (at_end externs unit).structs s ≡ Known fields
+
+-- in and behind an initialiser of a source without fault the structs that its object holds have the members that they have at the end of the source (C99 6.7, 7; 6.7.8, 3)
+abbrev pub SourcesAreSettled : Type 0
+SourcesAreSettled = (externs : List Name) (unit : Unit) → ((f : Fault) → IsFaultOf externs unit f → ⊥) → AreSettled externs unit

@@ -1,5 +1,5 @@
 //! Laws of the numbers of nodes, and of their environments.
-ghost use Rattle.lk_nodes.specs.Laws.{NodesAreToldApart, ExpressionsAreToldApart, TypeNamesAreToldApart, DeclaratorsAreToldApart, StatementsAreToldApart, InitialisersAreToldApart, ValuesAreToldApart, ListsAreToldApart, NamesAreThoseOfDeclarators, NamesAreToldApart, DeclaredNamesHaveTypes, DefinedNamesHaveTypes, PartsAreOfOneNode, PartsAreToldApart, ExternalsAreToldApart, NumbersRiseInside, PartsHaveGreaterNumbers, NumbersAreBounded, OutsideStays, KnownStructsStay};
+ghost use Rattle.lk_nodes.specs.Laws.{NodesAreToldApart, ExpressionsAreToldApart, TypeNamesAreToldApart, DeclaratorsAreToldApart, StatementsAreToldApart, InitialisersAreToldApart, ValuesAreToldApart, ListsAreToldApart, NamesAreThoseOfDeclarators, NamesAreToldApart, DeclaredNamesHaveTypes, DefinedNamesHaveTypes, PartsAreOfOneNode, PartsAreToldApart, ExternalsAreToldApart, NumbersRiseInside, PartsHaveGreaterNumbers, NumbersAreBounded, OutsideStays, KnownStructsStay, SourcesAreSettled};
 
 /// Two nodes of one kind with one number are one, in one environment.
 pub fn nodes_are_told_apart()
@@ -99,4 +99,9 @@ pub fn outside_stays()
 /// What is known of a struct behind an expression is known at the end of the source.
 pub fn known_structs_stay()
     ensures { KnownStructsStay }
+{}
+
+/// Structs that an object with an initialiser holds have all their members there, in a source without fault.
+pub fn sources_are_settled()
+    ensures { SourcesAreSettled }
 {}
