@@ -1,5 +1,5 @@
 -- The form of an expression in its place, by the variant of the tree; and that of a node.
-use Rattle.std.proofs.Common.{◌≡◌, ◌∙◌, ◌⊎◌, inl, inr, ℕ, List, Some, refl, sym, ap}
+use Rattle.std.proofs.Common.{◌≡◌, ◌∙◌, ◌⊎◌, inl, inr, ℕ, List, [], ◌∷◌, Some, map, refl, sym, ap}
 use Rattle.lk_tree.specs.declared.expression.DeclaratorForm.TheOpen.{ExprForm-F}
 use Rattle.lk_tree.specs.declared.expression.Expr.{Expr}
 use Rattle.lk_tree.specs.declared.expression.ExprForm.{ExprForm, out-ExprForm, roll-ExprForm, out-roll-ExprForm}
@@ -10,15 +10,23 @@ use Rattle.lk_tree.specs.declared.operators.BinaryOperator.{BinaryOperator}
 use Rattle.lk_tree.specs.declared.operators.PrefixOperator.{PrefixOperator}
 use Rattle.lk_tree.specs.declared.operators.StepOperator.{StepOperator}
 use Rattle.lk_typed.specs.Elaborated.{InPlace, PlacedForm, form_of, name_in}
-use Rattle.lk_typed.specs.Env.{Env}
+use Rattle.lk_typed.specs.Env.{Env, as_function, as_operand}
 use Rattle.lk_typed.specs.Expressions.{expression}
-use Rattle.lk_typed.specs.Forms.{placed}
+use Rattle.lk_typed.specs.Forms.{as_passed, behind, placed, placed_arguments}
+use Rattle.lk_typed.specs.Library.{Passing}
 use Rattle.lk_typed.specs.LibraryCalls.{OpenLibraryCall}
+use Rattle.lk_typed.specs.declared.expression.Callee.{Callee, out-Callee, roll-Callee, out-roll-Callee}
+use Rattle.lk_typed.specs.declared.expression.Callee.TheOpen.{Callee-F}
+use Rattle.lk_typed.specs.declared.expression.TypedExpr.{TypedExpr}
 use Rattle.lk_typed.specs.declared.library.LibraryCall.{LibraryCall, out-LibraryCall, roll-LibraryCall, out-roll-LibraryCall}
 use Rattle.lk_typed.specs.declared.expression.TypedForm.{TypedForm, out-TypedForm, roll-TypedForm, out-roll-TypedForm}
 use Rattle.lk_rules.proofs.Found.{Layer}
+use Rattle.lk_elab_expr.specs.PassedArguments.{passes_to}
 use Rattle.lk_elab_expr.specs.Standing.{OpenForm}
 use Rattle.lk_elab_expr.specs.Walking.{one_in, two_in}
+
+abbrev pub OpenCallee : Type 0
+OpenCallee = Callee-F Callee TypedForm LibraryCall TypedExpr
 
 pub form_at : (p : InPlace) (f : ExprForm) (form : Layer) → p.1.form ≡ f → roll-ExprForm form ≡ f → form_of p ≡ placed expression name_in p.0 form
 form_at p f form is rolls = ap (placed expression name_in p.0) (ap out-ExprForm (is ∙ sym rolls) ∙ out-roll-ExprForm form)
@@ -71,3 +79,30 @@ two_at p x y (inl is) = has_two p x y _ _ _ (form_at p (tree.Comma x y) (ExprFor
 two_at p x y (inr (inl is)) = has_two p x y _ _ _ (form_at p (tree.Assign is.0 x y) (ExprForm-F.Assign is.0 x y) is.1 (tree.rolls-Assign is.0 x y)) refl
 two_at p x y (inr (inr (inl is))) = has_two p x y _ _ _ (form_at p (tree.Binary is.0 x y) (ExprForm-F.Binary is.0 x y) is.1 (tree.rolls-Binary is.0 x y)) refl
 two_at p x y (inr (inr (inr is))) = has_two p x y _ _ _ (form_at p (tree.Index x y) (ExprForm-F.Index x y) is (tree.rolls-Index x y)) refl
+
+-- ---- calls
+
+pub record HasCallAt (p : InPlace) (x : Expr) (es : List Expr) : Type 0 where
+  pub function : InPlace
+  pub arguments : List InPlace
+  pub at : form_of p ≡ ExprForm-F.Call function arguments
+  pub is : function.1 ≡ x
+  pub are : map (λ (a : InPlace). a.1) arguments ≡ es
+
+placed_same : (env : Env) (passes : List Passing) (es : List Expr) → map (λ (a : InPlace). a.1) (placed_arguments expression env passes es) ≡ es
+placed_same env [] [] = refl
+placed_same env (pass ∷ passes) [] = refl
+placed_same env [] (e ∷ es) = ap (λ es. e ∷ es) (placed_same (behind env (expression e (as_operand env))) [] es)
+placed_same env (pass ∷ passes) (e ∷ es) = ap (λ es. e ∷ es) (placed_same (behind env (expression e (as_passed pass env))) passes es)
+
+pub call_at : (p : InPlace) (x : Expr) (es : List Expr) → p.1.form ≡ tree.Call x es → HasCallAt p x es
+call_at p x es is = record {
+  function = (as_function p.0, x);
+  arguments = placed_arguments expression (behind p.0 (expression x (as_function p.0))) (passes_to (as_function p.0, x)) es;
+  at = form_at p (tree.Call x es) (ExprForm-F.Call x es) is (tree.rolls-Call x es);
+  is = refl;
+  are = placed_same _ _ es;
+}
+
+pub callee_made_of : (f : Callee) (form : OpenCallee) → roll-Callee form ≡ f → out-Callee f ≡ form
+callee_made_of f form rolls = ap out-Callee (sym rolls) ∙ out-roll-Callee form

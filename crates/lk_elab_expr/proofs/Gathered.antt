@@ -40,7 +40,7 @@ module _ (externs : List Name) (unit : Unit) (types : List CType) (bodies : List
   of_was : (e : ℕ) (was entity : Entity) → slice_get were e ≡ Some was → slice_get entities e ≡ Some entity → entity.declarations ≡ was.declarations
   of_was e was entity at_were at = ap (λ (x : Entity). x.declarations) (finished.each e was entity at_were at).same
 
-  there : (e k : ℕ) (is : Declaration) → IsDeclaration were e k is → IsThere e k is
+  pub there : (e k : ℕ) (is : Declaration) → IsDeclaration were e k is → IsThere e k is
   there e k is was =
       let here = at_index entities e (let h = slice_get_within were e was.entity was.at in let same = finished.same in omega (arith, h, same)) in
       record { entity = here.0; at = here.1; has = subst (λ ds. slice_get ds k ≡ Some is) (sym (of_was e was.entity here.0 was.at here.1)) was.has }

@@ -30,16 +30,16 @@ at_contained [] x (i, within, is) = absurd (omega (arith, within))
 at_contained (y ∷ xs) x (zero, within, is) = (0, ap Some is)
 at_contained (y ∷ xs) x (suc i, within, is) = let found = at_contained xs x (i, omega (arith, within), is) in (suc found.0, found.1)
 
-at_before : {A : Type 0} (xs ys : List A) (i : ℕ) (x : A) → slice_get xs i ≡ Some x → slice_get (xs ++ ys) i ≡ Some x
+pub at_before : {A : Type 0} (xs ys : List A) (i : ℕ) (x : A) → slice_get xs i ≡ Some x → slice_get (xs ++ ys) i ≡ Some x
 at_before [] ys i x at = absurd (none-some x at)
 at_before (y ∷ xs) ys zero x at = at
 at_before (y ∷ xs) ys (suc i) x at = at_before xs ys i x at
 
-at_last : {A : Type 0} (xs : List A) (x : A) → slice_get (xs ++ x ∷ []) (length xs) ≡ Some x
+pub at_last : {A : Type 0} (xs : List A) (x : A) → slice_get (xs ++ x ∷ []) (length xs) ≡ Some x
 at_last [] x = refl
 at_last (y ∷ xs) x = at_last xs x
 
-at_split : {A : Type 0} (xs : List A) (y : A) (i : ℕ) (x : A) → slice_get (xs ++ y ∷ []) i ≡ Some x → (slice_get xs i ≡ Some x) ⊎ ((i ≡ length xs) × (x ≡ y))
+pub at_split : {A : Type 0} (xs : List A) (y : A) (i : ℕ) (x : A) → slice_get (xs ++ y ∷ []) i ≡ Some x → (slice_get xs i ≡ Some x) ⊎ ((i ≡ length xs) × (x ≡ y))
 at_split [] y zero x at = inr (refl, sym (same_Some y x at))
 at_split [] y (suc i) x at = absurd (none-some x at)
 at_split (z ∷ xs) y zero x at = inl at

@@ -160,7 +160,6 @@ module _ (old new : Elaborator) (on : GoesOn old new) where
   told_stays at_end e node told = record {
     ready = on.ready told.ready;
     expressions = λ e' x stands. true_stays (e', x) (told.expressions e' x stands);
-    no_calls = told.no_calls;
     names = λ e' n stands. true_name_stays (e', n) told.ready (told.names e' n stands);
   }
 

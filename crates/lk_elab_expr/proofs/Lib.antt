@@ -1,4 +1,7 @@
 mod Assigned
+mod CallForms
+mod CalledWays
+mod CalledWords
 mod Casting
 mod Conversions
 mod Decided
@@ -15,8 +18,12 @@ mod Named
 pub mod Numbers
 mod Operating
 mod Owned
+mod Passing
 mod Promoting
+pub mod PuttingLocals
+pub mod Rising
 mod Roles
+mod Sizing
 mod Ruled
 pub mod Used
 mod Valued

@@ -40,8 +40,7 @@ word_by env e declared AnotherForm is found = absurd (none-some declared found)
 
 module _ (externs : List Name) (unit : Unit) (uses : List (ℕ × Use))
     (truth : (declaring : ℕ) (use_ : Use) → IsIn (declaring, use_) uses → IsSoInside (units.at_end externs unit) (units.externals externs unit) (IsOfUse word_in declaring use_))
-    (each : HasUses word_in (units.at_end externs unit) (units.externals externs unit) uses)
-    (alone : (declaring : ℕ) (use_ : Use) → IsIn (declaring, use_) uses → lookup (nat_eq declaring) uses ≡ Some use_) where
+    (each : HasUses word_in (units.at_end externs unit) (units.externals externs unit) uses) where
   is_use : (declaring : ℕ) (use_ : Use) → IsSoInside (units.at_end externs unit) (units.externals externs unit) (IsOfUse word_in declaring use_) → IsUseAt externs unit declaring use_
   unfolding IsWord
   is_use declaring use_ inside =
@@ -66,8 +65,7 @@ module _ (externs : List Name) (unit : Unit) (uses : List (ℕ × Use))
   earliest : (env : Env) (e : Expr) (name : Name) (declared : Declared) → IsNode externs unit env (AnExpression e) → written e ≡ AWord name → look_up env name ≡ Some declared → Earliest declared.ordinal e.ordinal
   unfolding Earliest
   earliest env e name declared (node_of external among stands) is found =
-      let has = each external among env e declared stands (ap (λ plain. found_by env (name_written plain)) is ∙ found) in
-      (has.0, alone declared.ordinal has.0 has.1, has.2)
+      each external among env e declared stands (ap (λ plain. found_by env (name_written plain)) is ∙ found)
 
   each_use : (declaring : ℕ) (other : Use) → IsUseAt externs unit declaring other → Earliest declaring other.ordinal
   each_use declaring other at =

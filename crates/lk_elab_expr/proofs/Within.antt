@@ -10,7 +10,7 @@ use Rattle.lk_typed.specs.Forms.{in_place, parts_in}
 use Rattle.lk_typed.specs.Nodes.{AnExpression, ATypeName, Placed, at}
 use Rattle.lk_typed.specs.Stands.{IsIn}
 use Rattle.lk_typed.specs.Stands.Stands.{here, inside}
-use Rattle.lk_elab_expr.specs.Telling.{IsCall, IsTold, IsTrueOf, IsTrueOfName}
+use Rattle.lk_elab_expr.specs.Telling.{IsTold, IsTrueOf, IsTrueOfName}
 use Rattle.lk_elab_expr.specs.Walking.{IsToldOf, one_in, two_in}
 use Rattle.lk_elab_expr.specs.declared.elaborator.Elaborator.{Elaborator}
 use Rattle.lk_elab_expr.proofs.Knowing.{same_some, some_none}
@@ -83,7 +83,6 @@ module _ (at_end : Env) (walk : Elaborator) (p : InPlace) (told : IsToldOf at_en
   told_part part is = record {
     ready = told.ready;
     expressions = λ e' x stands. told.expressions e' x (inside part is stands);
-    no_calls = λ e' x stands. told.no_calls e' x (inside part is stands);
     names = λ e' n stands. told.names e' n (inside part is stands);
   }
 
@@ -113,9 +112,6 @@ one_form p i j Form has is at = subst (λ k. form_of p ≡ Form k) (same_some (s
 pub two_form : (p l r j k : InPlace) (Form : InPlace → InPlace → PlacedForm) → ((j k : InPlace) → two_in (Form j k) ≡ Some (j, k)) → form_of p ≡ Form j k → two_in (form_of p) ≡ Some (l, r) →
     form_of p ≡ Form l r
 two_form p l r j k Form has is at = subst (λ (two : InPlace × InPlace). form_of p ≡ Form two.0 two.1) (same_some (sym (has j k) ∙ sym (ap two_in is) ∙ at)) is
-
-pub no_call : (at_end : Env) (walk : Elaborator) (p : InPlace) → IsToldOf at_end walk p → IsCall (form_of p) → ⊥
-no_call at_end walk p told = told.no_calls p.0 p.1 here
 
 -- the same of an expression that is one in its place
 pub placed_of : (at_end : Env) (walk : Elaborator) (i : InPlace) (e : Expr) → i.1 ≡ e → IsToldOf at_end walk i → IsToldOf at_end walk (i.0, e)

@@ -1,3 +1,7 @@
+pub mod Allocating
+pub mod Beginning
+pub mod CalledWords
+pub mod Calling
 pub mod CastForms
 pub mod Converting
 pub mod Deciding
@@ -13,6 +17,9 @@ pub mod LibraryForms
 pub mod Naming
 pub mod OperandTypes
 pub mod PassedArguments
+pub mod PuttingLocals
+pub mod Rising
 pub mod Standing
+pub mod Starting
 pub mod Telling
 pub mod Walking

@@ -1,12 +1,11 @@
 -- What was found at the nodes of a source is true of them (C99 6.5).
-use Rattle.std.specs.Prelude.{ℕ, ◌≡◌, ⊤, Some, List, map, slice_get, nat_eq}
+use Rattle.std.specs.Prelude.{ℕ, ◌≡◌, Some, List, map, slice_get, nat_eq}
 use Rattle.std.specs.Map.{lookup}
 use Rattle.std.specs.HashSet.{contains_by}
 use Rattle.lk_types.specs.Table.{Table, IsKnown}
-use Rattle.lk_tree.specs.declared.expression.DeclaratorForm.TheOpen.{ExprForm-F}
 use Rattle.lk_tree.specs.declared.expression.Expr.{Expr}
 use Rattle.lk_tree.specs.declared.expression.TypeName.{TypeName, out-TypeName}
-use Rattle.lk_typed.specs.Elaborated.{InPlace, PlacedForm, StandsFor, form_of, members_behind, type_named}
+use Rattle.lk_typed.specs.Elaborated.{InPlace, StandsFor, members_behind, type_named}
 use Rattle.lk_typed.specs.Env.{Env, Declared, Field, Known, is_name, is_one_of}
 use Rattle.lk_typed.specs.Expressions.{expression}
 use Rattle.lk_typed.specs.Meaning.{meaning, IsReady}
@@ -50,31 +49,8 @@ abbrev pub IsTrueOfName : Elaborator → Env × TypeName → Type 0
 IsTrueOfName walk n =
     (t : ℕ) → lookup (nat_eq (out-TypeName n.1).ordinal) walk.records.named ≡ Some t → IsKnown walk.types t × (type_named n ≡ Some (meaning walk.types t))
 
-abbrev pub IsCall : PlacedForm → Type 0
-IsCall (ExprForm-F.Comma l r) = ⊥
-IsCall (ExprForm-F.Assign o l r) = ⊥
-IsCall (ExprForm-F.Choice c l r) = ⊥
-IsCall (ExprForm-F.Binary o l r) = ⊥
-IsCall (ExprForm-F.Cast n i) = ⊥
-IsCall (ExprForm-F.Pre o i) = ⊥
-IsCall (ExprForm-F.Prefix o i) = ⊥
-IsCall (ExprForm-F.SizeofExpr i) = ⊥
-IsCall (ExprForm-F.SizeofType n) = ⊥
-IsCall (ExprForm-F.Index l r) = ⊥
-IsCall (ExprForm-F.Call f arguments) = ⊤
-IsCall (ExprForm-F.Member i name) = ⊥
-IsCall (ExprForm-F.Arrow i name) = ⊥
-IsCall (ExprForm-F.Post o i) = ⊥
-IsCall (ExprForm-F.Word name) = ⊥
-IsCall (ExprForm-F.Number k n) = ⊥
-IsCall (ExprForm-F.Char n) = ⊥
-IsCall (ExprForm-F.Text bytes) = ⊥
-IsCall (ExprForm-F.Paren i) = ⊥
-
 -- what was found of each expression and type name that stands in a node, in the environment in which it stands there; `at_end` is the environment behind the source
 pub record IsTold (at_end : Env) (walk : Elaborator) (env : Env) (node : Node) : Type 0 where
   pub ready : IsReady walk.types
   pub expressions : (env' : Env) (e : Expr) → Stands (parts at_end) (breaches at_end) (hiding at_end) mark_of env node env' (AnExpression e) → IsTrueOf walk (env', e)
-  -- no call stands there (C99 6.5.2.2)
-  pub no_calls : (env' : Env) (e : Expr) → Stands (parts at_end) (breaches at_end) (hiding at_end) mark_of env node env' (AnExpression e) → IsCall (form_of (env', e)) → ⊥
   pub names : (env' : Env) (n : TypeName) → Stands (parts at_end) (breaches at_end) (hiding at_end) mark_of env node env' (ATypeName n) → IsTrueOfName walk (env', n)

@@ -1,8 +1,10 @@
 //! Arguments of calls (C99 6.5.2.2).
-ghost use Rattle.std.specs.Prelude.{IfOk, OnOk};
+ghost use Rattle.std.specs.Prelude.{IfOk, OnOk, Some};
+ghost use Rattle.lk_elab_expr.specs.Converting.{Gives, StandsAnyhow};
 ghost use Rattle.lk_elab_expr.specs.Known.{OfEach};
 ghost use Rattle.lk_elab_expr.specs.Leading.{Grows};
-ghost use Rattle.lk_elab_expr.specs.PassedArguments.{IsPassedFor};
+ghost use Rattle.lk_elab_expr.specs.PassedArguments.{IsPassedFor, PassesAll, PassesAs, PassesFor, PromotedValue};
+ghost use Rattle.lk_elab_expr.specs.PassedArguments.{PutsArgument, PutsPart, WantsNone};
 
 use crate::elaborator::Elaborator;
 use crate::expressions::part_node;
@@ -29,28 +31,59 @@ fn passing_at(walk: &Elaborator, function: u32, index: usize) -> Result<Option<P
     Ok(passing(walk.types.table(), &function, index))
 }
 
-/// What stands for an argument behind those that have a parameter: it is promoted (C99 6.5.2.2, 7).
-fn further(walk: &mut Elaborator, argument: u32) -> Result<Part, NoMemory>
-    ensures { OnOk result (Grows walk.old walk.new) }
+/// No parameter of the function with a number is without an argument, where there are so many (C99 6.5.2.2, 2).
+fn none_wanting(walk: &Elaborator, function: u32, count: usize) -> Result<(), NoMemory>
+    ensures { OnOk result (OfEach walk.now function (λ f. WantsNone f count)) }
 {
-    let target = promoted_at(walk, argument)?;
-    converted_operand(walk, argument, &target)
+    match passing_at(walk, function, count) {
+        Ok(Some(_)) => Err(nowhere()),
+        Ok(None) => Ok(()),
+        Err(NoMemory) => Err(NoMemory),
+    }
 }
 
-/// What stands for the argument with a number, which is passed so, where it computes something. It is converted to its
-/// parameter (C99 6.5.2.2, 7). The size of an allocation is none here.
+/// What stands for an argument behind those that have a parameter: it is promoted (C99 6.5.2.2, 7).
+fn further(walk: &mut Elaborator, argument: u32) -> Result<Part, NoMemory>
+    ensures promoted { IfOk result (λ part. Gives walk.old walk.new argument part PromotedValue) }
+    ensures role { IfOk result StandsAnyhow }
+    ensures grows { OnOk result (Grows walk.old walk.new) }
+{
+    let target = promoted_at(walk, argument)?;
+    let part = converted_operand(walk, argument, &target)?;
+    Ok(part)
+}
+
+/// What stands for the argument with a number, which is passed to its parameter so, where it computes something. It is
+/// converted to that (C99 6.5.2.2, 7). The size of an allocation is none here.
+fn passed_to(walk: &mut Elaborator, pass: Passing, argument: u32) -> Result<Option<Part>, NoMemory>
+    ensures passes { IfOk result (PassesAs walk.old walk.new (Some pass) argument) }
+    ensures grows { OnOk result (Grows walk.old walk.new) }
+{
+    match pass {
+        Passing::Converted(target) => {
+            let part = given(walk, argument, &target)?;
+            Ok(Some(part))
+        }
+        Passing::NullFor(_) | Passing::Routine => Ok(None),
+        Passing::Size => Err(nowhere()),
+    }
+}
+
+/// What stands for the argument with a number, which is passed so, where it computes something.
 fn passed_as(
     walk: &mut Elaborator,
     pass: Option<Passing>,
     argument: u32,
 ) -> Result<Option<Part>, NoMemory>
-    ensures { OnOk result (Grows walk.old walk.new) }
+    ensures passes { IfOk result (PassesAs walk.old walk.new pass argument) }
+    ensures grows { OnOk result (Grows walk.old walk.new) }
 {
     match pass {
-        Some(Passing::Converted(target)) => Ok(Some(given(walk, argument, &target)?)),
-        Some(Passing::NullFor(_) | Passing::Routine) => Ok(None),
-        Some(Passing::Size) => Err(nowhere()),
-        None => Ok(Some(further(walk, argument)?)),
+        Some(pass) => passed_to(walk, pass, argument),
+        None => {
+            let part = further(walk, argument)?;
+            Ok(Some(part))
+        }
     }
 }
 
@@ -62,7 +95,8 @@ fn argument_part(
     index: usize,
     argument: u32,
 ) -> Result<Option<Part>, NoMemory>
-    ensures { OnOk result (Grows walk.old walk.new) }
+    ensures passes { IfOk result (PassesFor walk.old walk.new function index argument) }
+    ensures grows { OnOk result (Grows walk.old walk.new) }
 {
     match passing_at(walk, function, index) {
         Ok(pass) => passed_as(walk, pass, argument),
@@ -79,12 +113,14 @@ fn put_part(
     folded: bool,
     out: &mut Seq<TypedExpr>,
 ) -> Result<(), NoMemory>
-    ensures { OnOk result (Grows walk.old walk.new) }
+    ensures puts { OnOk result (PutsPart walk.old walk.new e.now part folded out.old out.new) }
+    ensures grows { OnOk result (Grows walk.old walk.new) }
 {
     match part {
         Some(part) => {
             let node = part_node(walk, e, part, folded)?;
-            out.push(node)
+            out.push(node)?;
+            Ok(())
         }
         None => Ok(()),
     }
@@ -100,10 +136,15 @@ fn put_argument(
     folded: bool,
     out: &mut Seq<TypedExpr>,
 ) -> Result<(), NoMemory>
-    ensures { OnOk result (Grows walk.old walk.new) }
+    ensures puts { OnOk result (
+        PutsArgument walk.old walk.new function index e.now folded out.old out.new) }
+    ensures grows { OnOk result (Grows walk.old walk.new) }
 {
     match argument_part(walk, function, index, e.ordinal) {
-        Ok(part) => put_part(walk, e, part, folded, out),
+        Ok(part) => {
+            put_part(walk, e, part, folded, out)?;
+            Ok(())
+        }
         Err(NoMemory) => Err(NoMemory),
     }
 }
@@ -116,11 +157,13 @@ pub(crate) fn passed_arguments(
     arguments: &[Expr],
     folded: bool,
 ) -> Result<Seq<TypedExpr>, NoMemory>
-    ensures { OnOk result (Grows walk.old walk.new) }
+    ensures passed { IfOk result (PassesAll walk.old walk.new function arguments.now folded) }
+    ensures grows { OnOk result (Grows walk.old walk.new) }
 {
     let mut out = Seq::new(Vec::new(walk.alloc));
     for (index, e) in arguments.iter().enumerate() {
         put_argument(walk, function, index, e, folded, &mut out)?;
     }
+    none_wanting(walk, function, arguments.len())?;
     Ok(out)
 }

@@ -1,6 +1,13 @@
 //! Calls (C99 6.5.2.2).
-ghost use Rattle.std.specs.Prelude.{OnOk};
+ghost use Rattle.std.specs.Prelude.{◌≡◌, IfOk, OnOk};
+ghost use Rattle.lk_typed.specs.Elaborated.{InPlace};
+ghost use Rattle.lk_typed.specs.Words as words;
+ghost use Rattle.lk_typed.specs.declared.expression.TypedForm.{out-TypedForm};
+ghost use Rattle.lk_elab_expr.specs.Calling.{CallsFunction, CallsNamed, CallsOther, CallsWord, DecidesCall, DecidesLibrary, DecidesNamed};
+ghost use Rattle.lk_elab_expr.specs.Calling.{FormsCall, FormsCalling, FormsSo, IsCallWith, MakesPointer};
 ghost use Rattle.lk_elab_expr.specs.Leading.{Grows};
+ghost use Rattle.lk_elab_expr.specs.Telling.{IsTrueOf};
+ghost use Rattle.lk_elab_expr.specs.declared.calls.Calling.TheVariants.{Creating, Named, Pointed};
 
 use crate::allocations::{Allocation, allocate, sized_allocation, zeroed_allocation};
 use crate::arguments::passed_arguments;
@@ -42,7 +49,9 @@ enum Calling {
 }
 
 /// Whether a function is one that `--externs` names.
-fn is_extern_name(walk: &Elaborator, name: &Name) -> bool {
+fn is_extern_name(walk: &Elaborator, name: &Name) -> bool
+    ensures { (p : InPlace) → IsTrueOf walk.now p → result ≡ words.is_extern p.0 name.now }
+{
     let used = NameUse {
         role: Role::Function,
         is_defined: walk.outside.defined.contains(name),
@@ -52,7 +61,9 @@ fn is_extern_name(walk: &Elaborator, name: &Name) -> bool {
 }
 
 /// What a call calls by the name of a function.
-fn function_called(walk: &Elaborator, name: &Name, ordinal: u32) -> Result<Called, NoMemory> {
+fn function_called(walk: &Elaborator, name: &Name, ordinal: u32) -> Result<Called, NoMemory>
+    ensures { IfOk result (CallsFunction walk.now name.now ordinal) }
+{
     let entity = walk.entities.declared_at(ordinal)?;
     if is_extern_name(walk, name) {
         Ok(Called::Extern(entity))
@@ -62,10 +73,15 @@ fn function_called(walk: &Elaborator, name: &Name, ordinal: u32) -> Result<Calle
 }
 
 /// What a call calls, where its function is a name of one.
-fn word_called(walk: &Elaborator, word: NamedWord) -> Result<Option<Called>, NoMemory> {
+fn word_called(walk: &Elaborator, word: NamedWord) -> Result<Option<Called>, NoMemory>
+    ensures { IfOk result (CallsWord walk.now word.entry.name.now word.entry.ordinal) }
+{
     let meant = meant_at(walk, word.ordinal)?;
     match meant.meaning {
-        Meaning::Function(_) => Ok(Some(function_called(walk, word.name, meant.ordinal)?)),
+        Meaning::Function(_) => {
+            let called = function_called(walk, word.name, meant.ordinal)?;
+            Ok(Some(called))
+        }
         Meaning::Object(_, _)
         | Meaning::Typedef(_)
         | Meaning::Enumerator(_)
@@ -74,14 +90,24 @@ fn word_called(walk: &Elaborator, word: NamedWord) -> Result<Option<Called>, NoM
     }
 }
 
+/// What a call calls, where it calls no function of the library.
+fn other_called(walk: &Elaborator, function: &Expr) -> Result<Option<Called>, NoMemory>
+    ensures { IfOk result (CallsOther walk.now function.now) }
+{
+    match word_in(function) {
+        Some(word) => word_called(walk, word),
+        None => Ok(None),
+    }
+}
+
 /// What a call calls by the name of a function, perhaps in parentheses.
-fn named_called(walk: &Elaborator, function: &Expr) -> Result<Option<Called>, NoMemory> {
-    match called_at(walk, function.ordinal)? {
-        Some(known) => Ok(Some(Called::Library(known))),
-        None => match word_in(function) {
-            Some(word) => word_called(walk, word),
-            None => Ok(None),
-        },
+fn named_called(walk: &Elaborator, function: &Expr) -> Result<Option<Called>, NoMemory>
+    ensures { IfOk result (CallsNamed walk.now function.now) }
+{
+    match called_at(walk, function.ordinal) {
+        Ok(Some(known)) => Ok(Some(Called::Library(known))),
+        Ok(None) => other_called(walk, function),
+        Err(NoMemory) => Err(NoMemory),
     }
 }
 
@@ -92,14 +118,22 @@ fn library_calling(
     arguments: &[Expr],
     role: Role,
 ) -> Result<Calling, NoMemory>
-    ensures { OnOk result (Grows walk.old walk.new) }
+    ensures decides { IfOk result (DecidesLibrary walk.old walk.new known arguments.now role) }
+    ensures grows { OnOk result (Grows walk.old walk.new) }
 {
     match known {
-        LibraryFunction::Malloc => Ok(Calling::Allocating(sized_allocation(
-            walk, arguments, role,
-        )?)),
-        LibraryFunction::Calloc => Ok(Calling::Allocating(zeroed_allocation(walk, arguments)?)),
-        LibraryFunction::Create => Ok(Calling::Creating(routine_of(walk, arguments)?)),
+        LibraryFunction::Malloc => {
+            let allocation = sized_allocation(walk, arguments, role)?;
+            Ok(Calling::Allocating(allocation))
+        }
+        LibraryFunction::Calloc => {
+            let allocation = zeroed_allocation(walk, arguments)?;
+            Ok(Calling::Allocating(allocation))
+        }
+        LibraryFunction::Create => {
+            let routine = routine_of(walk, arguments)?;
+            Ok(Calling::Creating(routine))
+        }
         LibraryFunction::Join
         | LibraryFunction::Detach
         | LibraryFunction::ExitThread
@@ -128,6 +162,22 @@ fn library_calling(
     }
 }
 
+/// How a call is made that calls this by a name, with these arguments, and stands as this.
+fn named_calling(
+    walk: &mut Elaborator,
+    called: Called,
+    arguments: &[Expr],
+    role: Role,
+) -> Result<Calling, NoMemory>
+    ensures decides { IfOk result (DecidesNamed walk.old walk.new called arguments.now role) }
+    ensures grows { OnOk result (Grows walk.old walk.new) }
+{
+    match called {
+        Called::Library(known) => library_calling(walk, known, arguments, role),
+        Called::Extern(_) | Called::Program(_) => Ok(Calling::Named(called)),
+    }
+}
+
 /// How a call is made of this function with these arguments, which stands as this.
 fn how_called(
     walk: &mut Elaborator,
@@ -135,20 +185,25 @@ fn how_called(
     arguments: &[Expr],
     role: Role,
 ) -> Result<Calling, NoMemory>
-    ensures { OnOk result (Grows walk.old walk.new) }
+    ensures decides { IfOk result (DecidesCall walk.old walk.new function.now arguments.now role) }
+    ensures grows { OnOk result (Grows walk.old walk.new) }
 {
-    match named_called(walk, function)? {
-        Some(Called::Library(known)) => library_calling(walk, known, arguments, role),
-        Some(Called::Extern(entity)) => Ok(Calling::Named(Called::Extern(entity))),
-        Some(Called::Program(entity)) => Ok(Calling::Named(Called::Program(entity))),
+    let found = named_called(walk, function)?;
+    match found {
+        Some(called) => named_calling(walk, called, arguments, role),
         None => Ok(Calling::Pointed),
     }
 }
 
 /// A call by a name with these values.
-fn call_with(alloc: Global, called: Called, values: Seq<TypedExpr>) -> Result<TypedForm, NoMemory> {
+fn call_with(alloc: Global, called: Called, values: Seq<TypedExpr>) -> Result<TypedForm, NoMemory>
+    ensures { IfOk result (λ form. IsCallWith called values (out-TypedForm form)) }
+{
     match called {
-        Called::Library(known) => Ok(TypedForm::Library(library_call(alloc, known, values)?)),
+        Called::Library(known) => {
+            let call = library_call(alloc, known, values)?;
+            Ok(TypedForm::Library(call))
+        }
         Called::Extern(entity) => Ok(TypedForm::Extern(entity, values)),
         Called::Program(entity) => Ok(TypedForm::Call(Callee::Function(entity), values)),
     }
@@ -163,10 +218,13 @@ fn call_named(
     arguments: &[Expr],
     folded: bool,
 ) -> Result<TypedForm, NoMemory>
-    ensures { OnOk result (Grows walk.old walk.new) }
+    ensures made { IfOk result (
+        FormsSo walk.old walk.new (Named called) function arguments.now folded) }
+    ensures grows { OnOk result (Grows walk.old walk.new) }
 {
     let values = passed_arguments(walk, function, arguments, folded)?;
-    call_with(walk.alloc, called, values)
+    let form = call_with(walk.alloc, called, values)?;
+    Ok(form)
 }
 
 /// `pthread_create`, by the name with a number: it starts a thread at this function.
@@ -178,10 +236,13 @@ fn call_create(
     arguments: &[Expr],
     folded: bool,
 ) -> Result<TypedForm, NoMemory>
-    ensures { OnOk result (Grows walk.old walk.new) }
+    ensures made { IfOk result (
+        FormsSo walk.old walk.new (Creating routine) function arguments.now folded) }
+    ensures grows { OnOk result (Grows walk.old walk.new) }
 {
     let values = passed_arguments(walk, function, arguments, folded)?;
-    Ok(TypedForm::Library(create(walk.alloc, routine, values)?))
+    let call = create(walk.alloc, routine, values)?;
+    Ok(TypedForm::Library(call))
 }
 
 /// The pointer by which a function is called.
@@ -191,10 +252,14 @@ fn pointer_of(
     function: &Expr,
     folded: bool,
 ) -> Result<Boxed<TypedExpr>, NoMemory>
-    ensures { OnOk result (Grows walk.old walk.new) }
+    ensures made { IfOk result (MakesPointer walk.old walk.new function.now folded) }
+    ensures grows { OnOk result (Grows walk.old walk.new) }
 {
     match value_as(walk, function.ordinal, Role::Function) {
-        Ok(part) => part_of(walk, function, part, folded),
+        Ok(part) => {
+            let pointer = part_of(walk, function, part, folded)?;
+            Ok(pointer)
+        }
         Err(NoMemory) => Err(NoMemory),
     }
 }
@@ -207,7 +272,9 @@ fn call_pointed(
     arguments: &[Expr],
     folded: bool,
 ) -> Result<TypedForm, NoMemory>
-    ensures { OnOk result (Grows walk.old walk.new) }
+    ensures made { IfOk result (
+        FormsCalling walk.old walk.new Pointed function.now arguments.now folded) }
+    ensures grows { OnOk result (Grows walk.old walk.new) }
 {
     let pointer = pointer_of(walk, function, folded)?;
     let values = passed_arguments(walk, function.ordinal, arguments, folded)?;
@@ -223,7 +290,9 @@ fn call_so(
     arguments: &[Expr],
     folded: bool,
 ) -> Result<TypedForm, NoMemory>
-    ensures { OnOk result (Grows walk.old walk.new) }
+    ensures made { IfOk result (
+        FormsCalling walk.old walk.new calling function.now arguments.now folded) }
+    ensures grows { OnOk result (Grows walk.old walk.new) }
 {
     match calling {
         Calling::Allocating(allocation) => allocate(walk, allocation, arguments, folded),
@@ -243,10 +312,10 @@ pub(crate) fn call(
     arguments: &[Expr],
     way: Way,
 ) -> Result<TypedForm, NoMemory>
-    ensures { OnOk result (Grows walk.old walk.new) }
+    ensures made { IfOk result (FormsCall walk.old walk.new function.now arguments.now way) }
+    ensures grows { OnOk result (Grows walk.old walk.new) }
 {
-    match how_called(walk, function, arguments, way.role) {
-        Ok(calling) => call_so(walk, calling, function, arguments, way.folded),
-        Err(NoMemory) => Err(NoMemory),
-    }
+    let calling = how_called(walk, function, arguments, way.role)?;
+    let form = call_so(walk, calling, function, arguments, way.folded)?;
+    Ok(form)
 }

@@ -1,6 +1,7 @@
 //! The state in which the typed tree of a source is made.
 ghost use Rattle.lk_typed.specs.Elements.{HasFewElements};
 ghost use Rattle.lk_typed.specs.Meaning.{IsReady};
+ghost use Rattle.lk_elab_expr.specs.Beginning.{Begins};
 
 use crate::entities::Entities;
 use crate::locals::Locals;
@@ -37,6 +38,7 @@ impl Elaborator {
     pub fn new(alloc: Global, checked: Checked) -> Elaborator
         requires ready { IsReady checked.types }
         requires few { HasFewElements checked.types }
+        ensures { Begins checked result }
     {
         let Checked {
             types,

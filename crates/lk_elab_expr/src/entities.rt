@@ -10,6 +10,7 @@ ghost use Rattle.lk_elab_expr.specs.Gathering.{AreFinished, IsComposite, IsFinis
 ghost use Rattle.lk_elab_expr.specs.Gathering.{BeginsEntity, BeginsWith, DeclaresAgain, PutsName};
 ghost use Rattle.lk_elab_expr.specs.Gathering.{Gathers, IsGathered, declaration_of, entity_at, entity_named};
 ghost use Rattle.lk_elab_expr.specs.Keeping.{KeepsNumbers, PutsNumber};
+ghost use Rattle.lk_elab_expr.specs.Rising.{Rises};
 
 use crate::locals::put_number;
 use crate::type_numbers::known;
@@ -43,6 +44,8 @@ pub struct NamedEntity {
 pub struct Entities {
     alloc: Global,
     list: Vec<Entity>,
+    /// The number of the node that declares the last name; 0 where there is none.
+    last: u32,
     /// The entity of each node that declares one.
     by_ordinal: IndexMap<u32, u32>,
     /// The entity of each name of external linkage.
@@ -196,6 +199,7 @@ impl Entities {
         Entities {
             alloc,
             list: Vec::new(alloc),
+            last: 0,
             by_ordinal: IndexMap::new(alloc),
             external: IndexMap::new(alloc),
             internal: IndexMap::new(alloc),
@@ -300,8 +304,8 @@ impl Entities {
         }
     }
 
-    /// A name that is declared (`AreEntities`).
-    pub fn declare(&mut self, named: NamedEntity) -> Result<(), NoMemory>
+    /// Puts a name among the declarations of the entity that it is.
+    fn put(&mut self, named: NamedEntity) -> Result<(), NoMemory>
         ensures keeps { OnOk result (KeepsNumbers self.old.by_ordinal.entries self.new.by_ordinal.entries) }
         ensures gathers { OnOk result (Gathers self.old self.new named) }
     {
@@ -315,5 +319,20 @@ impl Entities {
                 Ok(())
             }
         }
+    }
+
+    /// A name that is declared (`AreEntities`). Names are declared in the order of the text.
+    pub fn declare(&mut self, named: NamedEntity) -> Result<(), NoMemory>
+        ensures keeps { OnOk result (KeepsNumbers self.old.by_ordinal.entries self.new.by_ordinal.entries) }
+        ensures gathers { OnOk result (Gathers self.old self.new named) }
+        ensures rises { OnOk result (Rises self.old self.new named) }
+    {
+        let ordinal = named.ordinal;
+        if ordinal <= self.last {
+            return Err(nowhere());
+        }
+        self.put(named)?;
+        self.last = ordinal;
+        Ok(())
     }
 }

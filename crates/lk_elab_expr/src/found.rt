@@ -1,8 +1,11 @@
 //! What the checker found at the nodes of expressions.
 ghost use Rattle.std.specs.Prelude.{◌↔◌, ◌≡◌, IfOk, IsTrue, OnOk};
 ghost use Rattle.lk_types.specs.Table.{IsKnown};
+ghost use Rattle.lk_typed.specs.Calls.{library_called};
 ghost use Rattle.lk_typed.specs.Elaborated as spec;
+ghost use Rattle.lk_typed.specs.Expressions.{expression};
 ghost use Rattle.lk_typed.specs.Typings.{IsOperand};
+ghost use Rattle.lk_check_expr.specs.Functions.{row_of};
 ghost use Rattle.lk_check_walk.specs.Judging.{HasOperand};
 ghost use Rattle.lk_elab_expr.specs.Known.{HasConstant, HasNodeType, HasTyping, HasValue, IsFoundAt, IsNamedAt, OfEach};
 ghost use Rattle.lk_elab_expr.specs.Leading.{Grows};
@@ -87,7 +90,10 @@ pub(crate) fn constant_at(walk: &Elaborator, ordinal: u32) -> Result<Constant, N
 pub(crate) fn called_at(
     walk: &Elaborator,
     ordinal: u32,
-) -> Result<Option<LibraryFunction>, NoMemory> {
+) -> Result<Option<LibraryFunction>, NoMemory>
+    ensures { IfOk result (λ known. OfEach walk.now ordinal (λ f.
+        library_called (expression f.1 f.0).look.word ≡ row_of known)) }
+{
     match found_of(walk, ordinal) {
         Ok(found) => Ok(found.look.called),
         Err(NoMemory) => Err(NoMemory),

@@ -1,6 +1,9 @@
 //! Calls of the library, by those of their arguments that compute something (POSIX, `pthread.h`; C99 7.19, 7.20).
-ghost use Rattle.std.specs.Prelude.{◌≡◌, ◌++◌, [], ◌∷◌, IfOk, OnOk};
+ghost use Rattle.std.specs.Prelude.{◌≡◌, ◌++◌, [], ◌∷◌, IfOk, IfSome, OnOk};
 ghost use Rattle.lk_typed.specs.declared.library.LibraryCall.{out-LibraryCall};
+ghost use Rattle.lk_check_expr.specs.Looks.{is_address};
+ghost use Rattle.lk_elab_expr.specs.CalledWords.{HasRoutine};
+ghost use Rattle.lk_elab_expr.specs.Starting.{FindsRoutine, StartsRoutine};
 ghost use Rattle.lk_elab_expr.specs.LibraryForms.{IsCallOf, IsCreate, IsOfOne, IsOfTwo, IsPrint, call_of_none, call_of_one, call_of_two, making_for};
 
 use crate::elaborator::Elaborator;
@@ -216,12 +219,26 @@ pub(crate) fn library_call(
     }
 }
 
+/// Whether an operator before an operand takes its address.
+fn is_address(op: PrefixOperator) -> bool
+    ensures { result ≡ is_address op }
+{
+    matches!(op, PrefixOperator::Address)
+}
+
 /// The number of the name that a start routine is, perhaps with parentheses and `&` round it.
-fn routine_word(e: &Expr) -> Option<u32> {
+fn routine_word(e: &Expr) -> Option<u32>
+    ensures { IfSome result (HasRoutine e.now) }
+{
     match &e.form {
         ExprForm::Word(_) => Some(e.ordinal),
-        ExprForm::Paren(inner) | ExprForm::Prefix(PrefixOperator::Address, inner) => {
-            routine_word(inner.get())
+        ExprForm::Paren(inner) => routine_word(inner.get()),
+        ExprForm::Prefix(op, inner) => {
+            if is_address(*op) {
+                routine_word(inner.get())
+            } else {
+                None
+            }
         }
         ExprForm::Comma(_, _)
         | ExprForm::Assign(_, _, _)
@@ -229,7 +246,6 @@ fn routine_word(e: &Expr) -> Option<u32> {
         | ExprForm::Binary(_, _, _)
         | ExprForm::Cast(_, _)
         | ExprForm::Pre(_, _)
-        | ExprForm::Prefix(_, _)
         | ExprForm::SizeofExpr(_)
         | ExprForm::SizeofType(_)
         | ExprForm::Index(_, _)
@@ -243,15 +259,23 @@ fn routine_word(e: &Expr) -> Option<u32> {
     }
 }
 
-/// The entity of a start routine. It is a name, and the third argument of `pthread_create`.
-pub(crate) fn routine_of(walk: &Elaborator, arguments: &[Expr]) -> Result<u32, NoMemory> {
-    let word = match arguments.get(2) {
-        Some(routine) => routine_word(routine),
-        None => None,
-    };
-    match word {
+/// The entity of the start routine that an argument is. It is a name.
+fn routine_at(walk: &Elaborator, routine: &Expr) -> Result<u32, NoMemory>
+    ensures { IfOk result (StartsRoutine walk.now routine.now) }
+{
+    match routine_word(routine) {
         Some(word) => entity_at(walk, word),
         None => Err(nowhere()),
+    }
+}
+
+/// The entity of the start routine. It is the third argument of `pthread_create`, which has four.
+pub(crate) fn routine_of(walk: &Elaborator, arguments: &[Expr]) -> Result<u32, NoMemory>
+    ensures { IfOk result (FindsRoutine walk.now arguments.now) }
+{
+    match arguments {
+        [_, _, routine, _] => routine_at(walk, routine),
+        [] | [_] | [_, _] | [_, _, _] | [_, _, _, _, _, ..] => Err(nowhere()),
     }
 }
 

@@ -1,8 +1,10 @@
 //! The locals of a body (C99 6.2.4, 4; 6.9.1, 9).
-ghost use Rattle.std.specs.Prelude.{◌≡◌, Some, IfOk, OnOk, nat_eq};
+ghost use Rattle.std.specs.Prelude.{◌≡◌, ◌↔◌, [], Some, IfOk, IsTrue, OnOk, length, nat_eq, true};
 ghost use Rattle.std.specs.Map.{lookup};
+ghost use Rattle.lk_types.specs.Table.{IsKnown};
 ghost use Rattle.lk_elab_expr.specs.Keeping.{KeepsNumbers, PutsNumber};
 ghost use Rattle.lk_elab_expr.specs.Leading.{GoesOn};
+ghost use Rattle.lk_elab_expr.specs.PuttingLocals.{AreBefore, IsSlotOf, PutsAmong, PutsLocalOf, Rise};
 
 use crate::elaborator::Elaborator;
 use crate::type_numbers::known;
@@ -39,7 +41,10 @@ pub(crate) fn put_number(
 
 impl Locals {
     /// No local.
-    pub fn new(alloc: Global) -> Locals {
+    pub fn new(alloc: Global) -> Locals
+        ensures list { result.list.items ≡ [] }
+        ensures numbers { result.numbers.entries ≡ [] }
+    {
         Locals {
             list: Vec::new(alloc),
             numbers: IndexMap::new(alloc),
@@ -47,10 +52,22 @@ impl Locals {
     }
 
     /// How many there are.
-    pub fn count(&self) -> Result<u32, NoMemory> {
+    pub fn count(&self) -> Result<u32, NoMemory>
+        ensures { IfOk result (λ count. count ≡ length self.now.list.items) }
+    {
         match u32::try_from(self.list.len()) {
             Ok(count) => Ok(count),
             Err(_) => Err(NoMemory),
+        }
+    }
+
+    /// Whether the node with this number stands behind those that declare the locals so far.
+    fn is_later(&self, ordinal: u32) -> bool
+        ensures { IsTrue result → Rise self.now.list.items → AreBefore self.now.list.items ordinal }
+    {
+        match self.list.last() {
+            Some(last) => last.ordinal < ordinal,
+            None => true,
         }
     }
 
@@ -65,10 +82,13 @@ impl Locals {
         }
     }
 
-    /// One more local.
+    /// One more local. They are put in the order of the text.
     fn put(&mut self, local: Local) -> Result<(), NoMemory>
-        ensures { OnOk result (KeepsNumbers self.old.numbers.entries self.new.numbers.entries) }
+        ensures { OnOk result (PutsAmong self.old self.new local) }
     {
+        if !self.is_later(local.ordinal) {
+            return Err(nowhere());
+        }
         let number = self.count()?;
         put_number(&mut self.numbers, local.ordinal, number)?;
         self.list.push(local)?;
@@ -76,14 +96,19 @@ impl Locals {
     }
 
     /// The locals, behind their body.
-    pub fn into_list(self) -> Vec<Local> {
+    pub fn into_list(self) -> Vec<Local>
+        ensures { result ≡ self.list }
+    {
         let Locals { list, .. } = self;
         list
     }
 }
 
 /// Whether an object of automatic storage is a slot: a scalar whose address nothing in the text takes (C99 6.2.5, 21).
-fn is_slot(walk: &Elaborator, ty: TypeId, ordinal: u32) -> Result<bool, NoMemory> {
+fn is_slot(walk: &Elaborator, ty: TypeId, ordinal: u32) -> Result<bool, NoMemory>
+    ensures known { OnOk result (IsKnown walk.now.types ty) }
+    ensures slot { IfOk result (λ slot. (slot ≡ true) ↔ IsSlotOf walk.now ty ordinal) }
+{
     let types = walk.types.table();
     let ty = ExprType::Listed(known(types, ty)?);
     Ok(is_scalar(types, &ty) && !walk.records.is_taken(ordinal))
@@ -98,6 +123,7 @@ pub fn put_local(
     ordinal: u32,
 ) -> Result<(), NoMemory>
     ensures goes_on { OnOk result (GoesOn walk.old walk.new) }
+    ensures puts { OnOk result (PutsLocalOf walk.old walk.new name ty spot ordinal) }
 {
     let is_slot = is_slot(walk, ty, ordinal)?;
     walk.locals.put(Local {

@@ -1,8 +1,13 @@
 //! Names as expressions (C99 6.5.1, 2).
 
-ghost use Rattle.std.specs.Prelude.{◌≡◌, Bool, Some, IfOk};
+ghost use Rattle.std.specs.Prelude.{◌≡◌, Bool, Some, IfOk, IfSome};
+ghost use Rattle.std.specs.Option.{option_map};
+ghost use Rattle.lk_typed.specs.Env.{Env};
+ghost use Rattle.lk_typed.specs.Expressions.{expression};
 ghost use Rattle.lk_typed.specs.Tables.{Tables};
 ghost use Rattle.lk_typed.specs.declared.expression.TypedForm.{out-TypedForm};
+ghost use Rattle.lk_check_walk.specs.Uses.{found_by};
+ghost use Rattle.lk_elab_expr.specs.CalledWords.{HasWord, IsEntityOf};
 ghost use Rattle.lk_elab_expr.specs.Known.{OfEach};
 ghost use Rattle.lk_elab_expr.specs.Leading.{Leads};
 ghost use Rattle.lk_elab_expr.specs.Leaves.{IsStorage};
@@ -23,7 +28,12 @@ pub(crate) struct NamedWord<'a> {
 }
 
 /// The name that an expression is, perhaps in parentheses.
-pub(crate) fn word_in(e: &Expr) -> Option<NamedWord<'_>> {
+#[tactic(auto, using(lk_check_walk::proofs::Words::silent_word), unfolding(lk_check_walk::proofs::Words::is_silent))]
+pub(crate) fn word_in(e: &Expr) -> Option<NamedWord<'_>>
+    ensures word { (env : Env) →
+        (expression e.now env).look.word ≡ found_by env (option_map (λ w. w.name.now) result) }
+    ensures stands { IfSome result (λ w. HasWord e.now w.name.now w.ordinal) }
+{
     match &e.form {
         ExprForm::Word(name) => Some(NamedWord {
             name,
@@ -51,7 +61,9 @@ pub(crate) fn word_in(e: &Expr) -> Option<NamedWord<'_>> {
 }
 
 /// The entity for which the name with a number stands.
-pub(crate) fn entity_at(walk: &Elaborator, ordinal: u32) -> Result<u32, NoMemory> {
+pub(crate) fn entity_at(walk: &Elaborator, ordinal: u32) -> Result<u32, NoMemory>
+    ensures { IfOk result (λ entity. OfEach walk.now ordinal (λ p. IsEntityOf walk.now p entity)) }
+{
     match meant_at(walk, ordinal) {
         Ok(meant) => walk.entities.declared_at(meant.ordinal),
         Err(NoMemory) => Err(NoMemory),

@@ -1,7 +1,7 @@
 use Rattle.std.proofs.Common.{◌+◌, ◌*◌, max}
 use denote.Param.Weighed.{most}
 use Rattle.lk_tree.specs.declared.expression.Expr.{size-Expr}
-use Rattle.lk_elab_expr.specs.Leading.{Grows}
+use Rattle.lk_elab_expr.specs.PassedArguments.{ArePassedSoFar}
 use Rattle.lk_elab_expr.proofs.+walk.Given as goal
 
 abbrev pub decreases-expressions::form_of : goal.decreases-expressions::form_of
@@ -71,7 +71,7 @@ abbrev pub decreases-calls::call_so : goal.decreases-calls::call_so
 decreases-calls::call_so l = 10 * max (size-Expr l.function.now) (most (λ x. size-Expr x) l.arguments.now) + 8
 
 abbrev pub invariant-arguments::passed_arguments-loop-index : goal.invariant-arguments::passed_arguments-loop-index
-invariant-arguments::passed_arguments-loop-index l = Grows l.fn.walk l.walk
+invariant-arguments::passed_arguments-loop-index l = ArePassedSoFar l.fn.walk l.walk l.function l.arguments l.folded l.index l.out
 
 abbrev pub decreases-arguments::put_part : goal.decreases-arguments::put_part
 decreases-arguments::put_part l = 10 * size-Expr l.e.now + 3

@@ -1,0 +1,7 @@
+use Rattle.std.proofs.Common.{subst}
+use Rattle.lk_elab_expr.specs.Allocating.{CountsBeside}
+use Rattle.lk_elab_expr.proofs.allocations.times_size.Goals as goal
+
+pub returns-in-Ok-Some : goal.returns-in-Ok-Some
+returns-in-Ok-Some c = λ at_end p l r form left right told_l told_r.
+    let is = subst (CountsBeside c.args.walk.now c.args.right.now c.args.left.now) c.in-Ok-Some.field-0-is c.in-Ok-Some.ensures at_end r l right left told_r told_l in (l, r, form, is.0, is.1)
