@@ -90,7 +90,7 @@ module _ (old new : Table) (good : IsTable old) (longer : IsLonger old new) wher
 -- ---- the source
 
 module _ (old new : Elaborator) (on : GoesOn old new) where
-  source_stays : (externs : List Name) (unit : Unit) → IsToldSource externs unit old → IsToldSource externs unit new
+  pub source_stays : (externs : List Name) (unit : Unit) → IsToldSource externs unit old → IsToldSource externs unit new
   source_stays externs unit is =
       let good = is.ready.table_is in
       record {

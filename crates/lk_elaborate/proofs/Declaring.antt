@@ -100,13 +100,13 @@ module _ (scope : Scope) (env : Env) (node : Declare) (here : Env) (d : InitDecl
   type_is : type_declared scope told here d ≡ completed d.init (composite_type after scope told.storages named.name type_so_far)
   type_is = ap (λ n. completed d.init (type_of_name after scope told.storages n type_so_far)) name_is
 
-  there : look_up (extend here (name_adds scope told here d)) named.name ≡ Some it
+  pub there : look_up (extend here (name_adds scope told here d)) named.name ≡ Some it
   there =
       ap (λ (a : Additions). look_up (extend here (record { declared = ((declarator_found d.declarator).additions here).declared ++ a.declared; tags = []; structs = [] })) named.name) additions_are ∙
       named_there here ((declarator_found d.declarator).additions here) it
 
   module _ (among : IsDeclaratorOf scope env node here d) (t : Ty) (typed : type_declared scope told here d ≡ Some t) where
-    declares : DeclaresName env (ADeclaration scope node) (the_name t)
+    pub declares : DeclaresName env (ADeclaration scope node) (the_name t)
     declares = DeclaresName.in_declaration among name_is there typed
 
     module _ (externs : List Name) (unit : Unit) (walk : Elaborator) (is_told : IsToldSource externs unit walk) (stands : IsNode externs unit env (ADeclaration scope node)) (h : DeclaredHere)
@@ -122,7 +122,7 @@ module _ (scope : Scope) (env : Env) (node : Declare) (here : Env) (d : InitDecl
 
 -- ---- where its initialiser stands
 
-among_parts : (last : Env) (scope : Scope) (told : SpecifierTold) (e : Env) (ds : List InitDeclarator) (here : Env) (d : InitDeclarator) (part : Placed) → StandsAmong scope told e ds here d →
+pub among_parts : (last : Env) (scope : Scope) (told : SpecifierTold) (e : Env) (ds : List InitDeclarator) (here : Env) (d : InitDeclarator) (part : Placed) → StandsAmong scope told e ds here d →
     IsIn part (initialiser_part scope told here d) → IsIn part (declarators_in_turn last scope told e ds)
 among_parts last scope told e [] here d part none is = elim none [ ]
 among_parts last scope told e (x ∷ ds) here d part StandsAmong.first is = inr (in_first part (initialiser_part scope told e d) _ is)

@@ -37,6 +37,8 @@ use Rattle.lk_typed.specs.Units.{IsNode, at_end}
 use Rattle.lk_typed.specs.declared.members.Field.{Field as FieldFound}
 use Rattle.lk_typed.specs.declared.members.Members.{Members}
 use Rattle.lk_typed.specs.declared.members.Members.TheVariants as members
+use Rattle.lk_nodes.specs.Settled.{Holds}
+use Rattle.lk_nodes.specs.Settled.Holds.{itself}
 use Rattle.lk_check_walk.specs.Structs.{listed, member_of}
 use Rattle.lk_check_walk.specs.declared.records.InitialiserKind.{InitialiserKind}
 use Rattle.lk_check_walk.specs.declared.records.InitialiserKind.TheVariants as kind
@@ -44,8 +46,7 @@ use Rattle.lk_elab_expr.specs.declared.elaborator.Elaborator.{Elaborator}
 use Rattle.lk_elaborate.specs.Giving.{AreGivenAs, AreNodes, GivesTo, GivesToEntries, GivesToEntry, GivesToExpr, GivesToList, GivesToText, Puts, count_in, part_given}
 use Rattle.lk_elaborate.specs.Giving.AreGivenAs.{no_more, next}
 use Rattle.lk_elaborate.specs.Giving.BeginsAs.{a_value, the_bytes, the_word}
-use Rattle.lk_elaborate.specs.Settled.{Holds, fields_listed}
-use Rattle.lk_elaborate.specs.Settled.Holds.{itself}
+use Rattle.lk_elaborate.specs.Settled.{fields_listed}
 use Rattle.lk_elaborate.specs.Source.{IsToldSource}
 use Rattle.lk_elaborate.specs.Words.{is_word_kind}
 use Rattle.lk_elaborate.specs.declared.givens.Beginning.TheVariants as begins

@@ -23,6 +23,8 @@ use Rattle.lk_typed.specs.declared.initialiser.AbsentCells.{AbsentCells}
 use Rattle.lk_typed.specs.declared.initialiser.LocalPart.{LocalPart}
 use Rattle.lk_typed.specs.declared.initialiser.LocalValue.{LocalValue}
 use Rattle.lk_typed.specs.declared.statement.LocalInit.{LocalInit}
+use Rattle.lk_nodes.specs.Settled.{Holds}
+use Rattle.lk_nodes.specs.Settled.Holds.{in_element, in_member, itself}
 use Rattle.lk_elab_expr.proofs.Growing.{grows_on}
 use Rattle.lk_elab_expr.specs.Leading.{Grows, Leads, local_by}
 use Rattle.lk_elab_expr.specs.declared.elaborator.Elaborator.{Elaborator}
@@ -32,8 +34,7 @@ use Rattle.lk_elaborate.specs.Giving.AreGivenAs.{no_more, next}
 use Rattle.lk_elaborate.specs.Giving.BeginsAs.{a_value, the_bytes, the_word}
 use Rattle.lk_elaborate.specs.LocalParts.{GivesLocalParts}
 use Rattle.lk_elaborate.specs.Places.{ArePut}
-use Rattle.lk_elaborate.specs.Settled.{Holds, fields_listed}
-use Rattle.lk_elaborate.specs.Settled.Holds.{in_element, in_member, itself}
+use Rattle.lk_elaborate.specs.Settled.{fields_listed}
 use Rattle.lk_elaborate.specs.Source.{IsToldSource}
 use Rattle.lk_elaborate.specs.declared.givens.Beginning.{Beginning}
 use Rattle.lk_elaborate.specs.declared.givens.PartGiven.{PartGiven}

@@ -1,6 +1,7 @@
 -- What stands in a node of a source stands in the source.
 use Rattle.std.proofs.Common.{List}
 use Rattle.lk_tree.specs.declared.statement.Unit.{Unit}
+use Rattle.lk_typed.specs.Entities.{StandsIn}
 use Rattle.lk_typed.specs.Env.{Env, Name}
 use Rattle.lk_typed.specs.NodeParts.{parts}
 use Rattle.lk_typed.specs.Nodes.{Node, Placed}
@@ -8,7 +9,6 @@ use Rattle.lk_typed.specs.Stands.{IsIn}
 use Rattle.lk_typed.specs.Stands.Stands.{here, inside}
 use Rattle.lk_typed.specs.Units.{IsNode, at_end}
 use Rattle.lk_typed.specs.Units.IsNode.{node_of}
-use Rattle.lk_elaborate.specs.Settled.{StandsIn}
 
 module _ (externs : List Name) (unit : Unit) where
   pub stands_then : {a b c : Env} {n m k : Node} → StandsIn externs unit a n b m → StandsIn externs unit b m c k → StandsIn externs unit a n c k

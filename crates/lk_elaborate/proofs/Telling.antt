@@ -50,13 +50,13 @@ module _ (old new : Elaborator) (grows : Grows old new) (externs : List Name) (u
 
 -- ---- what a part of a local begins with
 
-abbrev value_in : Bor Expr → Beginning → Bor Expr
+abbrev pub value_in : Bor Expr → Beginning → Bor Expr
 value_in d (begins.Value e) = e
 value_in d (begins.Bytes spot n bytes) = d
 value_in d begins.Word = d
 
 -- which of the three it is
-abbrev kind_of : Beginning → ℕ
+abbrev pub kind_of : Beginning → ℕ
 kind_of (begins.Value e) = 0
 kind_of (begins.Bytes spot n bytes) = 1
 kind_of begins.Word = 2
@@ -71,12 +71,12 @@ ordinal_in d (begins.Value e) = d
 ordinal_in d (begins.Bytes spot n bytes) = n
 ordinal_in d begins.Word = d
 
-abbrev bytes_in : List ℕ → Beginning → List ℕ
+abbrev pub bytes_in : List ℕ → Beginning → List ℕ
 bytes_in d (begins.Value e) = d
 bytes_in d (begins.Bytes spot n bytes) = bytes
 bytes_in d begins.Word = d
 
-another : (m n : ℕ) → m ≡ n → nat_eq m n ≡ false → ⊥
+pub another : (m n : ℕ) → m ≡ n → nat_eq m n ≡ false → ⊥
 another m n same different = grind (arith, nat_tests)
 
 pub value_begins : (externs : List Name) (unit : Unit) (old new : Elaborator) → AreTold externs unit old → (tables : Tables) → Leads new tables → (ty : ℕ) (t : Ty) (e : Bor Expr) (b : Beginning)

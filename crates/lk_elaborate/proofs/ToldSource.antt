@@ -1,4 +1,4 @@
--- What the checker found of a numbered source without calls is true of its nodes, as its typed tree asks for it.
+-- What the checker found of a numbered source is true of its nodes, as its typed tree asks for it.
 use Rattle.std.proofs.Common.{◌≡◌, ◌∙◌, ℕ, Bool, true, false, List, [], ◌∷◌, Option, Some, None, length, map, refl, sym, ap, subst, inl, inr, arith, nat_eq}
 use Rattle.std.specs.Prelude.{if◌then◌else◌, slice_get, unwrap_or}
 use Rattle.std.specs.Map.{lookup}
@@ -18,7 +18,7 @@ use Rattle.lk_tree.specs.declared.expression.ExprForm.{out-ExprForm}
 use Rattle.lk_tree.specs.declared.expression.TypeName.{TypeName, out-TypeName}
 use Rattle.lk_tree.specs.declared.statement.Unit.{Unit}
 use Rattle.lk_types.specs.Table.{Table}
-use Rattle.lk_typed.specs.Elaborated.{StandsFor, form_of, members_behind, name_in, type_named}
+use Rattle.lk_typed.specs.Elaborated.{StandsFor, members_behind, name_in, type_named}
 use Rattle.lk_typed.specs.Forms.{placed}
 use Rattle.lk_typed.specs.DeclarationRules.{Scope}
 use Rattle.lk_typed.specs.Entities.{DeclaresName, IsDeclaratorOf, NameDeclared, defined_type, specifiers_of}
@@ -39,6 +39,7 @@ use Rattle.lk_typed.specs.Units.IsNode.{node_of}
 use Rattle.lk_typed.specs.declared.members.Field.{Field as FieldFound}
 use Rattle.lk_typed.specs.declared.members.Members.{Members as MembersFound}
 use Rattle.lk_typed.specs.declared.members.Members.TheVariants as members
+use Rattle.lk_nodes.specs.Settled.{AreSettled}
 use Rattle.lk_nodes.proofs.Environments.{known_structs_stay, outside_stays}
 use Rattle.lk_nodes.proofs.Names.{declared_names_have_types, defined_names_have_types, names_are_told_apart}
 use Rattle.lk_nodes.proofs.Sources.{expressions_are_told_apart, type_names_are_told_apart, values_are_told_apart}
@@ -54,8 +55,7 @@ use Rattle.lk_check_walk.specs.declared.records.DeclaredHere.{DeclaredHere}
 use Rattle.lk_check_walk.specs.declared.records.InitialiserKind.{InitialiserKind}
 use Rattle.lk_check_walk.specs.declared.records.Meant.{Meant}
 use Rattle.lk_check_unit.specs.Sources.{RecordsOf}
-use Rattle.lk_elab_expr.specs.Telling.{HasFields, IsCall, IsMeant, IsTold, IsTrueOf, IsTrueOfName}
-use Rattle.lk_elaborate.specs.Settled.{AreSettled}
+use Rattle.lk_elab_expr.specs.Telling.{HasFields, IsMeant, IsTold, IsTrueOf, IsTrueOfName}
 use Rattle.lk_elaborate.specs.Source.{IsToldSource}
 use Rattle.lk_elab_expr.specs.declared.elaborator.Elaborator.{Elaborator}
 
@@ -65,7 +65,7 @@ same_number : (m n : ℕ) → nat_eq m n ≡ true → m ≡ n
 same_number m n is = grind (arith, nat_tests)
 
 -- what is looked up is among the entries
-entry_found : {V : Type 0} (entries : List (ℕ × V)) (k : ℕ) (v : V) → lookup (nat_eq k) entries ≡ Some v → IsAmong (k, v) entries
+pub entry_found : {V : Type 0} (entries : List (ℕ × V)) (k : ℕ) (v : V) → lookup (nat_eq k) entries ≡ Some v → IsAmong (k, v) entries
 entry_found [] k v is = absurd (none_is v is)
   where
     none_is : {V : Type 0} (v : V) → ◌≡◌ {A = Option V} None (Some v) → ⊥
@@ -212,8 +212,7 @@ module _ (externs : List Name) (before unit : Unit) (is : unit ≡ numbered befo
         let x = so.is_so in
         (x.name.type, defined_names_have_types externs before unit is env node named so.env so.node x.name node_is name (of_node so) x.declares x.number)
 
-    module _ (ready : IsReady walk.types) (outside : IsOutsideOf walk.outside externs unit) (structs : structs_in walk.types walk.names.structs ≡ end.structs)
-        (no_calls : (env : Env) (e : Expr) → IsNode externs unit env (AnExpression e) → IsCall (form_of (env, e)) → ⊥) where
+    module _ (ready : IsReady walk.types) (outside : IsOutsideOf walk.outside externs unit) (structs : structs_in walk.types walk.names.structs ≡ end.structs) where
       has_fields : (env : Env) (e : Expr) (s : ℕ) (fields : List Field) → IsNode externs unit env (AnExpression e) → members_behind (env, e) s ≡ Known fields → HasFields walk s fields
       has_fields env e s fields node known =
           let at = ap (λ o. unwrap_or o NotYet) (sym (slice_get-map (members_in walk.types) walk.names.structs s)) ∙ ap (λ structs. members_of structs s) structs ∙ known_structs_stay externs unit env e s fields node known in
@@ -234,7 +233,6 @@ module _ (externs : List Name) (before unit : Unit) (is : unit ≡ numbered befo
       told env node is_node = record {
         ready = ready;
         expressions = λ env' e stands. true_of env' e (node_in is_node stands);
-        no_calls = λ env' e stands. no_calls env' e (node_in is_node stands);
         names = λ env' n stands. name_told env' n (node_in is_node stands);
       }
 

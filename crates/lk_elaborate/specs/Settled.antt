@@ -1,36 +1,10 @@
--- Structs that an object of static storage or a local holds have all their members where its initialiser stands (C99 6.7.8, 3).
-use Rattle.std.specs.Prelude.{ℕ, ◌≡◌, Some, List, map, slice_get}
-use Rattle.lk_tree.specs.declared.declaration.Init.{Init}
-use Rattle.lk_tree.specs.declared.statement.Unit.{Unit}
+-- The types of the members of structs, as a table lists them.
+use Rattle.std.specs.Prelude.{ℕ, List, map}
 use Rattle.lk_types.specs.Building.{types_of}
 use Rattle.lk_types.specs.Table.{Table, members_of}
-use Rattle.lk_typed.specs.Env.{Env, Name}
-use Rattle.lk_typed.specs.InitialiserRules.{Object}
 use Rattle.lk_typed.specs.Meaning.{meaning}
-use Rattle.lk_typed.specs.MemberRules.{fields_in}
-use Rattle.lk_typed.specs.NodeParts.{parts}
-use Rattle.lk_typed.specs.NodeRules.{breaches, hiding, mark_of}
-use Rattle.lk_typed.specs.Nodes.{AnInitialiser, Node}
-use Rattle.lk_typed.specs.Stands.{Stands}
-use Rattle.lk_typed.specs.Ty.{Ty, Array, Struct}
-use Rattle.lk_typed.specs.Units.{IsNode, at_end}
+use Rattle.lk_typed.specs.Ty.{Ty}
 
 -- the types of the members of each struct in a table
 abbrev pub fields_listed : Table → ℕ → List Ty
 fields_listed table s = map (meaning table) (types_of (members_of table s))
-
--- a node of a source stands inside another one
-abbrev pub StandsIn : List Name → Unit → Env → Node → Env → Node → Type 0
-StandsIn externs unit env node env' node' = Stands (parts (at_end externs unit)) (breaches (at_end externs unit)) (hiding (at_end externs unit)) mark_of env node env' node'
-
--- an object of the type holds the struct with the number s
-pub data Holds (fields : ℕ → List Ty) (s : ℕ) : Ty → Type 0 where
-  itself : Holds fields s (Struct s)
-  in_element : {t : Ty} {n : ℕ} → Holds fields s t → Holds fields s (Array t n)
-  in_member : {r : ℕ} {t : Ty} (k : ℕ) → slice_get (fields r) k ≡ Some t → Holds fields s t → Holds fields s (Struct r)
-
--- in and behind an initialiser the structs that its object holds have the members that they have at the end of the source
-abbrev pub AreSettled : List Name → Unit → Type 0
-AreSettled externs unit =
-    (env env' : Env) (object : Object) (init : Init) (node : Node) (s : ℕ) → IsNode externs unit env (AnInitialiser (Some object) init) → Holds (fields_in env) s object.type →
-    StandsIn externs unit env (AnInitialiser (Some object) init) env' node → fields_in env' s ≡ fields_in (at_end externs unit) s

@@ -22,6 +22,7 @@ use Rattle.lk_typed.specs.Told.{Named}
 use Rattle.lk_typed.specs.Ty.{Ty}
 use Rattle.lk_typed.specs.Typings.{structs_in, HasKnownFields}
 use Rattle.lk_typed.specs.Units.{IsNode, at_end}
+use Rattle.lk_nodes.specs.Settled.{AreSettled}
 use Rattle.lk_check_walk.specs.Structs.{AreListed}
 use Rattle.lk_check_walk.specs.Uses.{taken_in, word_in}
 use Rattle.lk_check_walk.specs.Walks.{IsDeclaredAs, IsOfKind}
@@ -30,7 +31,6 @@ use Rattle.lk_check_walk.specs.declared.records.InitialiserKind.{InitialiserKind
 use Rattle.lk_check_unit.specs.Sources.{AreUses}
 use Rattle.lk_elab_expr.specs.Telling.{IsTold}
 use Rattle.lk_elab_expr.specs.declared.elaborator.Elaborator.{Elaborator}
-use Rattle.lk_elaborate.specs.Settled.{AreSettled}
 
 pub record IsToldSource (externs : List Name) (unit : Unit) (walk : Elaborator) : Type 0 where
   pub ready : IsReady walk.types

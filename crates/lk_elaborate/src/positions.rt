@@ -1,21 +1,18 @@
 //! What address constants point to (C99 6.6, 9; 6.5.6, 7 and 8).
-ghost use Rattle.std.specs.Prelude.{◌≡◌, [], false, nat_lt, IfOk, ℕ};
+ghost use Rattle.std.specs.Prelude.{◌≡◌, nat_lt, IfOk};
 ghost use Rattle.lk_typed.specs.Addresses as spec;
-ghost use Rattle.lk_typed.specs.Addresses.{count_of, inside, part_of, steps_to};
+ghost use Rattle.lk_typed.specs.Addresses.{steps_to};
 ghost use Rattle.lk_typed.specs.Statics.{element_reached, reached};
-ghost use Rattle.lk_typed.specs.Typing as typing;
-ghost use Rattle.lk_elaborate.specs.declared.positions.Anchor.{Anchor};
-ghost use Rattle.lk_elaborate.specs.Reaching.{address_in, position_in};
+ghost use Rattle.lk_typed.specs.Words.{whole_of};
+ghost use Rattle.lk_elaborate.specs.Reaching.{address_in, anchor_in, position_in};
 
 use lk_base::{CellStep, NoMemory, Seq};
-use lk_check_decl::MOST_ELEMENTS;
-use lk_typed::StaticValue;
 use std::alloc::Global;
 
 /// What has static storage.
 #[derive(Clone, Copy)]
 pub(crate) enum Anchor {
-    /// The object with this number among the entities.
+    /// The object that the node with this number declares.
     Object(u32),
     /// The string literal at the node with this number.
     Text(u32),
@@ -24,7 +21,7 @@ pub(crate) enum Anchor {
 /// A place in it: an element of an array, or one past the last; what is no element counts as an array of one.
 #[derive(Drop)]
 pub(crate) struct Position {
-    anchor: Anchor,
+    pub(crate) anchor: Anchor,
     /// The steps to the array, or to what is no element.
     steps: Seq<CellStep>,
     is_element: bool,
@@ -33,32 +30,27 @@ pub(crate) struct Position {
     count: u64,
 }
 
-/// What an expression is as an address constant, or where a place of static storage is.
+/// What an address constant points to, or where a place of static storage is.
 #[derive(Drop)]
 pub(crate) enum Reached {
-    /// It is no address constant.
-    NotAddress,
     /// The null pointer.
     Null,
-    /// The function with this number among the entities.
+    /// The function that the node with this number declares.
     Function(u32),
     /// A place of static storage.
     Inside(Position),
-    /// Arithmetic that leaves its array and its end, or a part of what isn't there.
-    Nowhere,
 }
 
 /// The steps to a part, and whether a place is one past it (`reached`).
 #[derive(Drop)]
-struct End {
-    steps: Seq<CellStep>,
-    is_past: bool,
+pub(crate) struct End {
+    pub(crate) steps: Seq<CellStep>,
+    pub(crate) is_past: bool,
 }
 
 /// The place of what has static storage.
 pub(crate) fn whole(alloc: Global, anchor: Anchor) -> Reached
-    ensures { (at : Anchor → typing.Anchor) (of : ℕ → ℕ) → address_in at of result ≡ typing.Inside
-        (record { anchor = at anchor; steps = []; is_element = false; index = 0; count = 1 }) }
+    ensures { address_in result ≡ whole_of (anchor_in anchor) }
 {
     Reached::Inside(Position {
         anchor,
@@ -67,13 +59,6 @@ pub(crate) fn whole(alloc: Global, anchor: Anchor) -> Reached
         index: 0,
         count: 1,
     })
-}
-
-/// How many elements an array has; the most that an array may have where its size isn't known.
-fn counted(count: u64) -> u64
-    ensures { result ≡ count_of count }
-{
-    if count == 0 { MOST_ELEMENTS } else { count }
 }
 
 impl Position {
@@ -86,8 +71,7 @@ impl Position {
 
     /// The place with all its steps in front of the part that is looked for.
     fn stepped(self) -> Result<Position, NoMemory>
-        ensures { IfOk result (λ place. (at : Anchor → typing.Anchor) →
-            place ≡ record self { steps = steps_to (position_in at self) }) }
+        ensures { IfOk result (λ place. place ≡ record self { steps = steps_to (position_in self) }) }
     {
         let mut place = self;
         if place.is_element {
@@ -96,52 +80,36 @@ impl Position {
         Ok(place)
     }
 
-    /// The first element of the array of so many that is there.
-    fn first_element(self, count: u64) -> Result<Reached, NoMemory>
-        ensures { IfOk result (λ r. (at : Anchor → typing.Anchor) (of : ℕ → ℕ) → address_in at of r ≡
-            part_of (position_in at self) (spec.first_element (count_of count) (position_in at self))) }
+    /// The first element of the array of so many at the place.
+    pub(crate) fn first_element(self, count: u64) -> Result<Position, NoMemory>
+        ensures { IfOk result (λ place. position_in place ≡ spec.first_element count (position_in self)) }
     {
-        if !self.is_there() {
-            return Ok(Reached::Nowhere);
-        }
         let mut place = self.stepped()?;
         place.is_element = true;
         place.index = 0;
-        place.count = counted(count);
-        Ok(Reached::Inside(place))
+        place.count = count;
+        Ok(place)
     }
 
-    /// The member with this number of the struct that is there.
-    fn member(self, number: u32) -> Result<Reached, NoMemory>
-        ensures { IfOk result (λ r. (at : Anchor → typing.Anchor) (of : ℕ → ℕ) → address_in at of r ≡
-            part_of (position_in at self) (spec.member_at number (position_in at self))) }
+    /// The member with this number of the struct at the place.
+    pub(crate) fn member(self, number: u32) -> Result<Position, NoMemory>
+        ensures { IfOk result (λ place. position_in place ≡ spec.member_at number (position_in self)) }
     {
-        if !self.is_there() {
-            return Ok(Reached::Nowhere);
-        }
         let mut place = self.stepped()?;
         place.steps.push(CellStep::Field(number))?;
         place.is_element = false;
         place.index = 0;
         place.count = 1;
-        Ok(Reached::Inside(place))
+        Ok(place)
     }
 
-    /// The place so many elements further.
-    fn moved(self, by: i128) -> Reached {
-        let index = i128::from(self.index);
-        let count = i128::from(self.count);
-        if by < -index || by > count - index {
-            return Reached::Nowhere;
-        }
-        match u64::try_from(index + by) {
-            Ok(index) => {
-                let mut place = self;
-                place.index = index;
-                Reached::Inside(place)
-            }
-            Err(_) => Reached::Nowhere,
-        }
+    /// The element with this number of the same array, or one past its last.
+    pub(crate) fn moved(self, index: u64) -> Position
+        ensures { position_in result ≡ record (position_in self) { index = index } }
+    {
+        let mut place = self;
+        place.index = index;
+        place
     }
 
     /// Where the element is, or where the one before is where it is one past the last.
@@ -167,9 +135,8 @@ impl Position {
     }
 
     /// Where it is.
-    fn end(self) -> Result<End, NoMemory>
-        ensures { IfOk result (λ end. (at : Anchor → typing.Anchor) →
-            reached (position_in at self) ≡ record { steps = end.steps; is_past = end.is_past }) }
+    pub(crate) fn end(self) -> Result<End, NoMemory>
+        ensures { IfOk result (λ end. reached (position_in self) ≡ record { steps = end.steps; is_past = end.is_past }) }
     {
         if self.is_element {
             return self.end_of_element();
@@ -177,50 +144,5 @@ impl Position {
         let is_past = !self.is_there();
         let Position { steps, .. } = self;
         Ok(End { steps, is_past })
-    }
-
-    /// The pointer to the place.
-    pub(crate) fn into_value(self) -> Result<StaticValue, NoMemory> {
-        let anchor = self.anchor;
-        let End { steps, is_past } = self.end()?;
-        match anchor {
-            Anchor::Object(entity) => Ok(StaticValue::Address(entity, steps, is_past)),
-            Anchor::Text(ordinal) => Ok(StaticValue::Text(ordinal, steps, is_past)),
-        }
-    }
-}
-
-impl Reached {
-    /// The first element of the array of so many at a place.
-    pub(crate) fn first_element(self, count: u64) -> Result<Reached, NoMemory>
-        ensures { IfOk result (λ r. (at : Anchor → typing.Anchor) (of : ℕ → ℕ) → address_in at of r ≡
-            inside (spec.first_element (count_of count)) (address_in at of self)) }
-    {
-        match self {
-            Reached::Inside(place) => place.first_element(count),
-            Reached::NotAddress => Ok(Reached::NotAddress),
-            Reached::Null | Reached::Function(_) | Reached::Nowhere => Ok(Reached::Nowhere),
-        }
-    }
-
-    /// The member with this number of the struct at a place.
-    pub(crate) fn member(self, number: u32) -> Result<Reached, NoMemory>
-        ensures { IfOk result (λ r. (at : Anchor → typing.Anchor) (of : ℕ → ℕ) → address_in at of r ≡
-            inside (spec.member_at number) (address_in at of self)) }
-    {
-        match self {
-            Reached::Inside(place) => place.member(number),
-            Reached::NotAddress => Ok(Reached::NotAddress),
-            Reached::Null | Reached::Function(_) | Reached::Nowhere => Ok(Reached::Nowhere),
-        }
-    }
-
-    /// The address so many elements further.
-    pub(crate) fn moved(self, by: i128) -> Reached {
-        match self {
-            Reached::Inside(place) => place.moved(by),
-            Reached::NotAddress => Reached::NotAddress,
-            Reached::Null | Reached::Function(_) | Reached::Nowhere => Reached::Nowhere,
-        }
     }
 }

@@ -13,6 +13,8 @@ ghost use Rattle.lk_elaborate.specs.Asking.{HasPromoted};
 ghost use Rattle.lk_elaborate.specs.Making.{FindsSwitch, IsKindOf, MakesElse, MakesFirst, MakesForm};
 ghost use Rattle.lk_elaborate.specs.Making.{MakesGiven, MakesHead, MakesIf, MakesItem, MakesItems};
 ghost use Rattle.lk_elaborate.specs.Making.{MakesPerhaps, MakesStatement, MakesSwitched, MakesValue};
+ghost use Rattle.lk_elaborate.specs.PuttingStatements.{PutsElse, PutsFirst, PutsForm};
+ghost use Rattle.lk_elaborate.specs.PuttingStatements.{PutsItem, PutsItems, PutsStatement};
 
 use crate::cases::{Cases, cases_of};
 use crate::declarations::block_declaration;
@@ -105,6 +107,7 @@ fn switch_cases(walk: &Elaborator, e: &Expr, inner: &Stmt) -> Result<Cases, NoMe
 /// The first part of a `for` (`IsFirst`).
 fn first_part(walk: &mut Elaborator, first: &ForFirst) -> Result<TypedFirst, NoMemory>
     ensures makes { IfOk result (MakesFirst walk.old walk.new first.now) }
+    ensures puts { OnOk result (PutsFirst walk.old walk.new first.now) }
     ensures goes_on { OnOk result (GoesOn walk.old walk.new) }
 {
     match first {
@@ -122,6 +125,7 @@ fn first_part(walk: &mut Elaborator, first: &ForFirst) -> Result<TypedFirst, NoM
 /// The first part of a `for`, in a box.
 fn boxed_first(walk: &mut Elaborator, first: &ForFirst) -> Result<Boxed<TypedFirst>, NoMemory>
     ensures makes { IfOk result (MakesFirst walk.old walk.new first.now) }
+    ensures puts { OnOk result (PutsFirst walk.old walk.new first.now) }
     ensures goes_on { OnOk result (GoesOn walk.old walk.new) }
 {
     let first = first_part(walk, first)?;
@@ -151,6 +155,7 @@ fn for_head(
 ) -> Result<ForHead, NoMemory>
     ensures makes { IfOk result (λ head.
         MakesHead walk.old walk.new first.now test.now step.now head.first head.test head.step) }
+    ensures puts { OnOk result (PutsFirst walk.old walk.new first.now) }
     ensures goes_on { OnOk result (GoesOn walk.old walk.new) }
 {
     let first = boxed_first(walk, first)?;
@@ -176,6 +181,7 @@ fn returning(
 ) -> Result<TypedStmtForm, NoMemory>
     ensures makes { IfOk result (λ form.
         MakesForm walk.old walk.new around.now (StmtForm-F.Return e.now) (out-TypedStmtForm form)) }
+    ensures puts { OnOk result (PutsForm walk.old walk.new (StmtForm-F.Return e.now)) }
     ensures goes_on { OnOk result (GoesOn walk.old walk.new) }
 {
     match e {
@@ -195,6 +201,7 @@ fn statement_part(
     around: &Around,
 ) -> Result<Boxed<TypedStmt>, NoMemory>
     ensures makes { IfOk result (MakesStatement walk.old walk.new around.now s.now) }
+    ensures puts { OnOk result (PutsStatement walk.old walk.new s.now) }
     ensures goes_on { OnOk result (GoesOn walk.old walk.new) }
 {
     let made = statement(walk, s, around)?;
@@ -210,6 +217,7 @@ fn part_if_any(
     around: &Around,
 ) -> Result<Option<Boxed<TypedStmt>>, NoMemory>
     ensures makes { IfOk result (MakesElse walk.old walk.new around.now s.now) }
+    ensures puts { OnOk result (PutsElse walk.old walk.new s.now) }
     ensures goes_on { OnOk result (GoesOn walk.old walk.new) }
 {
     match s {
@@ -229,6 +237,7 @@ fn block_item(
     around: &Around,
 ) -> Result<TypedItem, NoMemory>
     ensures makes { IfOk result (MakesItem walk.old walk.new around.now item.now) }
+    ensures puts { OnOk result (PutsItem walk.old walk.new item.now) }
     ensures goes_on { OnOk result (GoesOn walk.old walk.new) }
 {
     match item {
@@ -258,6 +267,7 @@ pub(crate) fn block_items(
     around: &Around,
 ) -> Result<Seq<TypedItem>, NoMemory>
     ensures makes { IfOk result (MakesItems walk.old walk.new around.now items.now) }
+    ensures puts { OnOk result (PutsItems walk.old walk.new items.now) }
     ensures goes_on { OnOk result (GoesOn walk.old walk.new) }
 {
     let mut made = no_items(walk.alloc);
@@ -301,6 +311,7 @@ fn switch_statement(
 ) -> Result<TypedStmtForm, NoMemory>
     ensures makes { IfOk result (λ form. MakesForm walk.old walk.new around.now
         (StmtForm-F.Switch e.now inner.now) (out-TypedStmtForm form)) }
+    ensures puts { OnOk result (PutsForm walk.old walk.new (StmtForm-F.Switch e.now inner.now)) }
     ensures goes_on { OnOk result (GoesOn walk.old walk.new) }
 {
     let found = switch_cases(walk, e, inner)?;
@@ -319,6 +330,7 @@ fn while_loop(
 ) -> Result<TypedStmtForm, NoMemory>
     ensures makes { IfOk result (λ form. MakesForm walk.old walk.new around.now
         (StmtForm-F.While e.now inner.now) (out-TypedStmtForm form)) }
+    ensures puts { OnOk result (PutsForm walk.old walk.new (StmtForm-F.While e.now inner.now)) }
     ensures goes_on { OnOk result (GoesOn walk.old walk.new) }
 {
     let inner = statement_part(walk, inner, around)?;
@@ -336,6 +348,7 @@ fn until_loop(
 ) -> Result<TypedStmtForm, NoMemory>
     ensures makes { IfOk result (λ form. MakesForm walk.old walk.new around.now
         (StmtForm-F.Until inner.now e.now) (out-TypedStmtForm form)) }
+    ensures puts { OnOk result (PutsForm walk.old walk.new (StmtForm-F.Until inner.now e.now)) }
     ensures goes_on { OnOk result (GoesOn walk.old walk.new) }
 {
     let inner = statement_part(walk, inner, around)?;
@@ -368,6 +381,8 @@ fn for_loop(
 ) -> Result<TypedStmtForm, NoMemory>
     ensures makes { IfOk result (λ form. MakesForm walk.old walk.new around.now
         (StmtForm-F.For first.now test.now step.now inner.now) (out-TypedStmtForm form)) }
+    ensures puts { OnOk result (
+        PutsForm walk.old walk.new (StmtForm-F.For first.now test.now step.now inner.now)) }
     ensures goes_on { OnOk result (GoesOn walk.old walk.new) }
 {
     let head = for_head(walk, first, test, step)?;
@@ -385,6 +400,7 @@ fn case(
 ) -> Result<TypedStmtForm, NoMemory>
     ensures makes { IfOk result (λ form. MakesForm walk.old walk.new around.now
         (StmtForm-F.Case e.now inner.now) (out-TypedStmtForm form)) }
+    ensures puts { OnOk result (PutsForm walk.old walk.new (StmtForm-F.Case e.now inner.now)) }
     ensures goes_on { OnOk result (GoesOn walk.old walk.new) }
 {
     let _e = e;
@@ -401,6 +417,7 @@ fn default_case(
 ) -> Result<TypedStmtForm, NoMemory>
     ensures makes { IfOk result (λ form. MakesForm walk.old walk.new around.now
         (StmtForm-F.Default inner.now) (out-TypedStmtForm form)) }
+    ensures puts { OnOk result (PutsForm walk.old walk.new (StmtForm-F.Default inner.now)) }
     ensures goes_on { OnOk result (GoesOn walk.old walk.new) }
 {
     let inner = statement_part(walk, inner, around)?;
@@ -417,6 +434,7 @@ fn labelled(
 ) -> Result<TypedStmtForm, NoMemory>
     ensures makes { IfOk result (λ form. MakesForm walk.old walk.new around.now
         (StmtForm-F.Label name.now inner.now) (out-TypedStmtForm form)) }
+    ensures puts { OnOk result (PutsForm walk.old walk.new (StmtForm-F.Label name.now inner.now)) }
     ensures goes_on { OnOk result (GoesOn walk.old walk.new) }
 {
     let _name = name;
@@ -433,6 +451,7 @@ fn block(
 ) -> Result<TypedStmtForm, NoMemory>
     ensures makes { IfOk result (λ form. MakesForm walk.old walk.new around.now
         (StmtForm-F.Block items.now) (out-TypedStmtForm form)) }
+    ensures puts { OnOk result (PutsForm walk.old walk.new (StmtForm-F.Block items.now)) }
     ensures goes_on { OnOk result (GoesOn walk.old walk.new) }
 {
     let items = block_items(walk, items, around)?;
@@ -447,6 +466,7 @@ fn dropped(
 ) -> Result<TypedStmtForm, NoMemory>
     ensures makes { IfOk result (λ form. MakesForm walk.old walk.new around.now
         (StmtForm-F.Do e.now) (out-TypedStmtForm form)) }
+    ensures puts { OnOk result (PutsForm walk.old walk.new (StmtForm-F.Do e.now)) }
     ensures goes_on { OnOk result (GoesOn walk.old walk.new) }
 {
     let _around = around;
@@ -458,6 +478,7 @@ fn dropped(
 fn going(walk: &mut Elaborator, name: &Name, around: &Around) -> Result<TypedStmtForm, NoMemory>
     ensures makes { IfOk result (λ form. MakesForm walk.old walk.new around.now
         (StmtForm-F.Goto name.now) (out-TypedStmtForm form)) }
+    ensures puts { OnOk result (PutsForm walk.old walk.new (StmtForm-F.Goto name.now)) }
     ensures goes_on { OnOk result (GoesOn walk.old walk.new) }
 {
     let _walk = walk;
@@ -474,6 +495,7 @@ fn statement_form(
 ) -> Result<TypedStmtForm, NoMemory>
     ensures makes { IfOk result (λ form. MakesForm walk.old walk.new around.now
         (out-StmtForm s.now.form) (out-TypedStmtForm form)) }
+    ensures puts { OnOk result (PutsForm walk.old walk.new (out-StmtForm s.now.form)) }
     ensures goes_on { OnOk result (GoesOn walk.old walk.new) }
 {
     match &s.form {
@@ -505,6 +527,7 @@ fn statement_form(
 #[cycle(statements)]
 fn statement(walk: &mut Elaborator, s: &Stmt, around: &Around) -> Result<TypedStmt, NoMemory>
     ensures makes { IfOk result (MakesStatement walk.old walk.new around.now s.now) }
+    ensures puts { OnOk result (PutsStatement walk.old walk.new s.now) }
     ensures goes_on { OnOk result (GoesOn walk.old walk.new) }
 {
     let form = statement_form(walk, s, around)?;

@@ -1,15 +1,23 @@
 //! What a scalar of static storage begins with (C99 6.6, 7 to 9; 6.7.8, 4 and 10).
-ghost use Rattle.std.specs.Prelude.{OnOk};
+ghost use Rattle.std.specs.Prelude.{◌≡◌, IfOk, OnOk, true};
+ghost use Rattle.lk_typed.specs.Meaning.{meaning};
+ghost use Rattle.lk_typed.specs.StaticInits.{IsTruthOf};
+ghost use Rattle.lk_typed.specs.Tables.{Tables};
+ghost use Rattle.lk_typed.specs.Ty as spec;
+ghost use Rattle.lk_elab_expr.specs.Known.{OfEach};
 ghost use Rattle.lk_elab_expr.specs.Leading.{Grows};
+ghost use Rattle.lk_elaborate.specs.Reaching.{address_in};
+ghost use Rattle.lk_elaborate.specs.StaticParts.{BeginsInteger, BeginsPointer, BeginsWithNumber, GivesStaticValue, HasConstantValue};
+ghost use Rattle.lk_elaborate.specs.StaticParts.{IsScalar, IsTruth, IsTruthFor, PointsInside, PointsTo};
 
-use crate::positions::Reached;
-use crate::reached::address_of;
+use crate::positions::{Anchor, End, Position, Reached};
+use crate::reached::converted_address;
 use crate::type_forms::{is_pointer_type, kind_at};
 use lk_arith::convert;
 use lk_base::{Kind, NoMemory};
-use lk_elab_expr::{Elaborator, expression, given_value, nowhere, value_node};
+use lk_elab_expr::{Elaborator, given_value, nowhere, value_at};
 use lk_tree::Expr;
-use lk_typed::{Constant, ExprType, StaticValue, TypedExpr};
+use lk_typed::{Constant, ExprType, StaticValue, Typed, TypedExpr};
 use lk_types::TypeId;
 
 /// What a scalar part begins with, and the expression that gives it where it is a pointer (`IsStaticValue`).
@@ -19,119 +27,144 @@ pub(crate) struct Begun {
     pub(crate) pointer: Option<TypedExpr>,
 }
 
-/// What a pointer begins with, by the address that it is (`IsPointerTo`). It is one (24).
-fn pointer_to(address: Reached) -> Result<StaticValue, NoMemory> {
-    match address {
-        Reached::Null => Ok(StaticValue::Null),
-        Reached::Function(entity) => Ok(StaticValue::Function(entity)),
-        Reached::Inside(position) => position.into_value(),
-        Reached::NotAddress | Reached::Nowhere => Err(nowhere()),
+/// The pointer to a place.
+fn pointer_inside(walk: &Elaborator, place: Position) -> Result<StaticValue, NoMemory>
+    ensures { IfOk result (PointsInside walk.now place) }
+{
+    let anchor = place.anchor;
+    let End { steps, is_past } = place.end()?;
+    match anchor {
+        Anchor::Object(ordinal) => {
+            let entity = walk.entities.declared_at(ordinal)?;
+            Ok(StaticValue::Address(entity, steps, is_past))
+        }
+        Anchor::Text(ordinal) => Ok(StaticValue::Text(ordinal, steps, is_past)),
     }
 }
 
-/// Whether an address, as a `_Bool`, is 0 or 1 (`IsTruthOf`; C99 6.3.1.2). What is no constant is an address (24).
-fn truth_of(address: &Reached) -> Result<i128, NoMemory> {
+/// What a pointer begins with, by the address that it is (`IsPointerTo`).
+fn pointer_to(walk: &Elaborator, address: Reached) -> Result<StaticValue, NoMemory>
+    ensures { IfOk result (PointsTo walk.now address) }
+{
+    match address {
+        Reached::Null => Ok(StaticValue::Null),
+        Reached::Function(ordinal) => {
+            let entity = walk.entities.declared_at(ordinal)?;
+            Ok(StaticValue::Function(entity))
+        }
+        Reached::Inside(place) => pointer_inside(walk, place),
+    }
+}
+
+/// Whether an address, as a `_Bool`, is 0 or 1 (`IsTruthOf`; C99 6.3.1.2).
+fn truth_of(address: &Reached) -> Result<i128, NoMemory>
+    ensures { IfOk result (λ z. (tables : Tables) → IsTruthOf tables (address_in address.now) z) }
+{
     match address {
         Reached::Null => Ok(0),
         Reached::Function(_) | Reached::Inside(_) => Ok(1),
-        Reached::NotAddress | Reached::Nowhere => Err(nowhere()),
     }
-}
-
-/// Where the address is that a node is.
-fn address_at(walk: &Elaborator, node: &TypedExpr) -> Result<Reached, NoMemory> {
-    address_of(walk.alloc, walk.types.table(), node)
-}
-
-/// The value of an expression that is an address constant.
-fn address_value(walk: &mut Elaborator, e: &Expr) -> Result<TypedExpr, NoMemory>
-    ensures { OnOk result (Grows walk.old walk.new) }
-{
-    let node = expression(walk, e, true)?;
-    let value = value_node(walk, node)?;
-    Ok(value)
-}
-
-/// Whether the address that a node is, as a `_Bool`, is 0 or 1.
-fn truth_at(walk: &Elaborator, node: &TypedExpr) -> Result<i128, NoMemory> {
-    let address = address_at(walk, node)?;
-    truth_of(&address)
 }
 
 /// Whether the address that an expression is, as a `_Bool`, is 0 or 1.
-fn truth(walk: &mut Elaborator, e: &Expr) -> Result<i128, NoMemory>
-    ensures { OnOk result (Grows walk.old walk.new) }
+fn truth(walk: &Elaborator, e: &Expr) -> Result<i128, NoMemory>
+    ensures { IfOk result (IsTruth walk.now e.now) }
 {
-    let value = address_value(walk, e)?;
-    let truth = truth_at(walk, &value)?;
-    Ok(truth)
+    let address = converted_address(walk, e)?;
+    truth_of(&address)
 }
 
-/// What an expression is as an integer constant expression.
-fn constant_of(walk: &Elaborator, e: &Expr) -> Option<Constant> {
-    match walk.records.found(e.ordinal) {
-        Some(found) => match found.typing {
-            Some(typing) => Some(typing.constant),
-            None => None,
-        },
-        None => None,
+/// What an integer of a kind begins with that is no constant: an address, as a `_Bool` (24, 34).
+fn truth_for(walk: &Elaborator, kind: Kind, e: &Expr) -> Result<i128, NoMemory>
+    ensures { IfOk result (IsTruthFor walk.now kind e.now) }
+{
+    match kind {
+        Kind::Bool => truth(walk, e),
+        Kind::Char
+        | Kind::SChar
+        | Kind::UChar
+        | Kind::Short
+        | Kind::UShort
+        | Kind::Int
+        | Kind::UInt
+        | Kind::Long
+        | Kind::ULong
+        | Kind::LLong
+        | Kind::ULLong => Err(nowhere()),
     }
 }
 
-/// A number with which an integer begins.
-fn begun_number(number: i128) -> Begun {
-    Begun {
+/// What an expression of which this is known is as an integer constant expression.
+fn constant_of(v: &Typed) -> Constant
+    ensures { result ≡ v.now.constant }
+{
+    v.constant
+}
+
+/// What the value of the expression with a number is as an integer constant expression.
+fn constant_at(walk: &Elaborator, ordinal: u32) -> Result<Constant, NoMemory>
+    ensures { IfOk result (λ c. OfEach walk.now ordinal (λ p. HasConstantValue p c)) }
+{
+    match value_at(walk, ordinal) {
+        Ok(v) => Ok(constant_of(&v)),
+        Err(NoMemory) => Err(NoMemory),
+    }
+}
+
+/// What an integer of a kind begins with: a constant, converted; or whether an address is one.
+fn number(walk: &Elaborator, kind: Kind, e: &Expr) -> Result<i128, NoMemory>
+    ensures { IfOk result (BeginsWithNumber walk.now kind e.now) }
+{
+    match constant_at(walk, e.ordinal)? {
+        Constant::Known(number) => Ok(convert(kind, number)),
+        Constant::NotConstant | Constant::Undefined => truth_for(walk, kind, e),
+    }
+}
+
+/// What an integer of a kind begins with.
+fn integer(walk: &Elaborator, kind: Kind, e: &Expr) -> Result<Begun, NoMemory>
+    ensures { IfOk result (BeginsInteger walk.now kind e.now) }
+{
+    let number = number(walk, kind, e)?;
+    Ok(Begun {
         value: StaticValue::Number(number),
         pointer: None,
-    }
+    })
 }
 
-/// What an integer begins with: a constant, converted; or whether an address is one.
-fn integer(walk: &mut Elaborator, kind: Kind, e: &Expr) -> Result<Begun, NoMemory>
-    ensures { OnOk result (Grows walk.old walk.new) }
+/// What a pointer begins with, by the expression of which it is the value.
+fn pointer_value(walk: &Elaborator, e: &Expr) -> Result<StaticValue, NoMemory>
+    ensures { IfOk result (BeginsPointer walk.now e.now) }
 {
-    match constant_of(walk, e) {
-        Some(Constant::Known(number)) => Ok(begun_number(convert(kind, number))),
-        Some(Constant::NotConstant | Constant::Undefined) | None => {
-            let number = truth(walk, e)?;
-            Ok(begun_number(number))
-        }
-    }
+    let address = converted_address(walk, e)?;
+    pointer_to(walk, address)
 }
 
-/// What a pointer begins with, by the node of its value.
-fn pointer_at(walk: &Elaborator, node: &TypedExpr) -> Result<StaticValue, NoMemory> {
-    let address = address_at(walk, node)?;
-    pointer_to(address)
-}
-
-/// What a pointer begins with, which has this value.
-fn begun_pointer(walk: &Elaborator, node: TypedExpr) -> Result<Begun, NoMemory> {
-    let value = pointer_at(walk, &node)?;
+/// What a pointer of the type with this number begins with.
+fn pointer(walk: &mut Elaborator, ty: TypeId, e: &Expr) -> Result<Begun, NoMemory>
+    requires { spec.is_pointer (meaning walk.old.types ty) ≡ true }
+    ensures value { IfOk result (GivesStaticValue walk.old walk.new ty e.now) }
+    ensures grows { OnOk result (Grows walk.old walk.new) }
+{
+    let value = pointer_value(walk, e)?;
+    let node = given_value(walk, e, &ExprType::Listed(ty), true)?;
     Ok(Begun {
         value,
         pointer: Some(node),
     })
 }
 
-/// What a pointer begins with.
-fn pointer(walk: &mut Elaborator, ty: TypeId, e: &Expr) -> Result<Begun, NoMemory>
-    ensures { OnOk result (Grows walk.old walk.new) }
-{
-    let node = given_value(walk, e, &ExprType::Listed(ty), true)?;
-    let begun = begun_pointer(walk, node)?;
-    Ok(begun)
-}
-
 /// A scalar type.
 #[derive(Clone, Copy)]
-enum Scalar {
+pub(crate) enum Scalar {
     Integer(Kind),
     Pointer,
 }
 
 /// The scalar type with this number. What an expression initialises alone is one (27).
-fn scalar_of(walk: &Elaborator, ty: TypeId) -> Result<Scalar, NoMemory> {
+fn scalar_of(walk: &Elaborator, ty: TypeId) -> Result<Scalar, NoMemory>
+    ensures { IfOk result (IsScalar (meaning walk.now.types ty)) }
+{
     match kind_at(walk.types.table(), ty)? {
         Some(kind) => Ok(Scalar::Integer(kind)),
         None => {
@@ -146,7 +179,8 @@ fn scalar_of(walk: &Elaborator, ty: TypeId) -> Result<Scalar, NoMemory> {
 
 /// What a scalar of this type begins with, by the expression that initialises it.
 pub(crate) fn static_value(walk: &mut Elaborator, ty: TypeId, e: &Expr) -> Result<Begun, NoMemory>
-    ensures { OnOk result (Grows walk.old walk.new) }
+    ensures value { IfOk result (GivesStaticValue walk.old walk.new ty e.now) }
+    ensures grows { OnOk result (Grows walk.old walk.new) }
 {
     match scalar_of(walk, ty)? {
         Scalar::Integer(kind) => integer(walk, kind, e),

@@ -8,6 +8,7 @@ ghost use Rattle.lk_typed.specs.Meaning.{meaning};
 ghost use Rattle.lk_typed.specs.NodeParts.{result_of};
 ghost use Rattle.lk_typed.specs.Ty as spec;
 ghost use Rattle.lk_elaborate.specs.Giving.{count_in, element_in};
+ghost use Rattle.lk_elaborate.specs.PuttingParameters.{AreTypesOf};
 ghost use Rattle.lk_elaborate.specs.Settled.{fields_listed};
 
 use lk_base::{CellStep, Kind, NoMemory};
@@ -145,10 +146,12 @@ pub(crate) fn part_at(types: &TypeTable, t: TypeId, number: u32) -> Result<Part,
 }
 
 /// The types of the parameters of a function. What is defined with a body is one (C99 6.9.1, 2).
-pub(crate) fn parameter_types(types: &TypeTable, t: TypeId) -> Result<TypeIds, NoMemory> {
+pub(crate) fn parameter_types(types: &TypeTable, t: TypeId) -> Result<TypeIds, NoMemory>
+    ensures { IfOk result (λ list. AreTypesOf types.now (meaning types.now t) list) }
+{
     let t = known(types, t)?;
     match form(types, t) {
-        CType::Function { params, .. } => params.copy(),
+        CType::Function { params, .. } => Ok(params.copy()?),
         CType::Void
         | CType::Int(_)
         | CType::ThreadId

@@ -1,23 +1,50 @@
 //! A source (C99 6.9).
+ghost use Rattle.std.specs.Prelude.{◌≡◌, All, IfOk, IsTrue, List, OnOk};
 ghost use Rattle.lk_typed.specs.Elements.{HasFewElements};
+ghost use Rattle.lk_typed.specs.Env.{Name};
 ghost use Rattle.lk_typed.specs.Meaning.{IsReady};
+ghost use Rattle.lk_typed.specs.TypedUnits.{IsTypedUnit};
+ghost use Rattle.lk_elab_expr.specs.Beginning.{Begins};
+ghost use Rattle.lk_elaborate.specs.Checked.{IsCheckedOf};
+ghost use Rattle.lk_elaborate.specs.Externals.{MakesExternal, MakesExternals};
+ghost use Rattle.lk_elaborate.specs.Finishing.{HasWholeStructs, IsFinishedOf, IsTreeOf, IsUnitOf, IsWhole};
+ghost use Rattle.lk_elaborate.specs.Outlining.{HasNoLocals};
+ghost use Rattle.lk_elaborate.specs.Outside.{GoesOutside};
 
 use crate::declarations::file_declaration;
 use crate::definitions::definition;
 use lk_base::{NoMemory, Seq};
 use lk_check_unit::Checked;
 use lk_check_walk::Records;
-use lk_elab_expr::{Elaborator, Entities, SourceTypes};
+use lk_elab_expr::{Elaborator, Entities, Locals, SourceTypes, nowhere};
 use lk_tree::{Decl, Unit};
-use lk_typed::{Body, Entity, StaticObject, TypedUnit};
+use lk_typed::{Body, Entity, Members, StaticObject, TypedUnit};
 use lk_types::TypeTable;
 use std::alloc::Global;
 
+/// Begins what has locals of its own.
+fn begin_locals(walk: &mut Elaborator)
+    ensures same { walk.new ≡ record walk.old { locals = walk.new.locals } }
+    ensures none { HasNoLocals walk.new }
+{
+    walk.locals = Locals::new(walk.alloc);
+}
+
 /// An external declaration.
-fn external(walk: &mut Elaborator, d: &Decl) -> Result<(), NoMemory> {
+fn external(walk: &mut Elaborator, d: &Decl) -> Result<(), NoMemory>
+    ensures makes { OnOk result (MakesExternal walk.old walk.new d.now) }
+    ensures goes { OnOk result (GoesOutside walk.old walk.new) }
+{
     match d {
-        Decl::Function(node) => definition(walk, node),
-        Decl::Declare(node) => file_declaration(walk, node),
+        Decl::Function(node) => {
+            begin_locals(walk);
+            definition(walk, node)?;
+            Ok(())
+        }
+        Decl::Declare(node) => {
+            file_declaration(walk, node)?;
+            Ok(())
+        }
         Decl::Empty(_) => Ok(()),
     }
 }
@@ -29,11 +56,27 @@ struct Finished {
     entities: Vec<Entity>,
 }
 
-/// The entities of a source, by the end of it.
-fn finish(types: SourceTypes, entities: Entities, records: &Records) -> Result<Finished, NoMemory> {
+/// The entities of a source, by the end of it. No list of the parts of `void` was given yet.
+fn finish(types: SourceTypes, entities: Entities, records: &Records) -> Result<Finished, NoMemory>
+    ensures { IfOk result (IsFinishedOf types entities records.now) }
+{
     let mut types = types.into_table();
     let entities = entities.into_list(&mut types, records)?;
+    if !types.parts().is_empty() {
+        return Err(nowhere());
+    }
     Ok(Finished { types, entities })
+}
+
+/// The external declarations of a source, in the order of the text.
+fn externals(walk: &mut Elaborator, list: &[Decl]) -> Result<(), NoMemory>
+    ensures makes { OnOk result (MakesExternals walk.old walk.new list.now) }
+    ensures goes { OnOk result (GoesOutside walk.old walk.new) }
+{
+    for d in list {
+        external(walk, d)?;
+    }
+    Ok(())
 }
 
 /// The typed tree of these parts.
@@ -43,7 +86,9 @@ fn unit_of(
     records: Records,
     objects: Seq<StaticObject>,
     bodies: Seq<Body>,
-) -> Result<TypedUnit, NoMemory> {
+) -> Result<TypedUnit, NoMemory>
+    ensures { IfOk result (IsUnitOf types entities records objects bodies) }
+{
     let Finished { types, entities } = finish(types, entities, &records)?;
     Ok(TypedUnit {
         types,
@@ -54,16 +99,10 @@ fn unit_of(
     })
 }
 
-/// The external declarations of a source, in the order of the text.
-fn externals(walk: &mut Elaborator, list: &[Decl]) -> Result<(), NoMemory> {
-    for d in list {
-        external(walk, d)?;
-    }
-    Ok(())
-}
-
 /// What was made of a source.
-fn typed_unit(walk: Elaborator) -> Result<TypedUnit, NoMemory> {
+fn typed_unit(walk: Elaborator) -> Result<TypedUnit, NoMemory>
+    ensures { IfOk result (IsTreeOf walk) }
+{
     let Elaborator {
         types,
         records,
@@ -72,13 +111,57 @@ fn typed_unit(walk: Elaborator) -> Result<TypedUnit, NoMemory> {
         bodies,
         ..
     } = walk;
-    unit_of(
+    let typed = unit_of(
         types,
         entities,
         records,
         Seq::new(objects),
         Seq::new(bodies),
-    )
+    )?;
+    Ok(typed)
+}
+
+/// Whether a struct is complete, or was never defined.
+fn is_whole(members: &Members) -> bool
+    ensures { IsTrue result → IsWhole members.now }
+{
+    match members {
+        Members::NotYet | Members::Known(_) => true,
+        Members::Begun | Members::Faulty => false,
+    }
+}
+
+/// Whether all are: no definition of a struct is open or faulty behind a source without a fault.
+fn are_whole(structs: &[Members]) -> bool
+    ensures { IsTrue result → All IsWhole structs.now }
+{
+    for members in structs {
+        if !is_whole(members) {
+            return false;
+        }
+    }
+    true
+}
+
+/// Whether each struct of a source has its tag, and is complete or was never defined. So it is where there is no fault.
+fn has_whole_structs(checked: &Checked) -> bool
+    ensures { IsTrue result → HasWholeStructs checked.now }
+{
+    let structs = checked.names.structs();
+    checked.records.tag_count() == structs.len() && are_whole(structs)
+}
+
+/// The state before the typed tree of a source is made of which this was found.
+fn begin(alloc: Global, checked: Checked) -> Result<Elaborator, NoMemory>
+    requires ready { IsReady checked.types }
+    requires few { HasFewElements checked.types }
+    ensures whole { OnOk result (HasWholeStructs checked) }
+    ensures begins { IfOk result (Begins checked) }
+{
+    if !has_whole_structs(&checked) {
+        return Err(nowhere());
+    }
+    Ok(Elaborator::new(alloc, checked))
 }
 
 /// The typed tree of a source in which there is no fault, and of which this was found (`IsTypedUnit`).
@@ -87,8 +170,11 @@ fn typed_unit(walk: Elaborator) -> Result<TypedUnit, NoMemory> {
 pub fn elaborate(alloc: Global, unit: &Unit, checked: Checked) -> Result<TypedUnit, NoMemory>
     requires ready { IsReady checked.types }
     requires few { HasFewElements checked.types }
+    ensures { IfOk result (λ typed. (externs : List Name) →
+        IsCheckedOf externs unit.now checked → IsTypedUnit externs unit.now typed) }
 {
-    let mut walk = Elaborator::new(alloc, checked);
+    let mut walk = begin(alloc, checked)?;
     externals(&mut walk, unit.externals.list())?;
-    typed_unit(walk)
+    let typed = typed_unit(walk)?;
+    Ok(typed)
 }

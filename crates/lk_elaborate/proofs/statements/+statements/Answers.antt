@@ -1,5 +1,5 @@
 use Rattle.std.proofs.Common.{◌∙◌, Some, None, refl, sym, ap, subst, drop, ◌+◌}
-use Rattle.std.specs.Prelude.{IfOk}
+use Rattle.std.specs.Prelude.{IfOk, OnOk}
 use Rattle.lk_tree.specs.declared.statement.StmtForm.TheVariants as form
 use Rattle.lk_tree.specs.declared.statement.BlockItem.TheOpen.{StmtForm-F}
 use Rattle.lk_typed.specs.declared.statement.TypedStmtForm.{out-TypedStmtForm}
@@ -10,8 +10,10 @@ use Rattle.lk_check_unit.proofs.Shapes as shape
 use Rattle.lk_elab_expr.proofs.Growing.{grows_on}
 use Rattle.lk_elaborate.proofs.Carried.{goes_same, goes_then}
 use Rattle.lk_elaborate.proofs.Making as made
+use Rattle.lk_elaborate.proofs.PuttingStatements as put
 use Rattle.lk_elaborate.proofs.Shaping as shaped
 use Rattle.lk_elaborate.specs.Making.{MakesElse, MakesForm}
+use Rattle.lk_elaborate.specs.PuttingStatements.{PutsElse, PutsForm}
 use Rattle.lk_elaborate.proofs.statements.+statements.Goals as goal
 
 pub labelled-returns-clause-makes : goal.labelled-returns-clause-makes
@@ -196,7 +198,11 @@ block_item-returns-in_ok-made-in-Stmt-clause-makes t c =
 
 pub block_items-loop-item-init : goal.block_items-loop-item-init
 block_items-loop-item-init t c =
-    record { goes_on = goes_same c.args.walk.now; left = made.all_left c.args.walk.now c.args.around.now c.args.items.now c.no_items-made.result c.no_items-made.ensures }
+    record {
+      goes_on = goes_same c.args.walk.now;
+      left = made.all_left c.args.walk.now c.args.around.now c.args.items.now c.no_items-made.result c.no_items-made.ensures;
+      put = put.all_left c.args.walk.now c.args.items.now;
+    }
 
 pub block_items-loop-item-preserved : goal.block_items-loop-item-preserved
 block_items-loop-item-preserved t c =
@@ -206,9 +212,136 @@ block_items-loop-item-preserved t c =
           made.one_less c.args.walk.now c.loop-item.walk c.block_item.new.walk c.args.around.now c.args.items.now (drop c.loop-item.item-index c.args.items.now) (drop (c.loop-item.item-index + 1) c.args.items.now)
           c.item-item.result c.loop-item.made c.in_ok-item.item c.push.new.self c.in_ok-push.ensures.ok (next_left c.args.items.now c.loop-item.item-index c.item-item.result c.loop-item-test.true c.item-item.is) c.in_ok-item.ensures.goes_on
           c.loop-item.invariant.left c.in_ok-item.ensures.makes;
+      put =
+          put.one_less c.args.walk.now c.loop-item.walk c.block_item.new.walk c.args.items.now (drop c.loop-item.item-index c.args.items.now) (drop (c.loop-item.item-index + 1) c.args.items.now) c.item-item.result
+          (next_left c.args.items.now c.loop-item.item-index c.item-item.result c.loop-item-test.true c.item-item.is) c.in_ok-item.ensures.goes_on c.in_ok-item.ensures.puts c.loop-item.invariant.put;
     }
 
 pub block_items-returns-clause-makes : goal.block_items-returns-clause-makes
 block_items-returns-clause-makes t c =
     made.none_left c.args.walk.now c.loop-item.walk c.args.around.now c.args.items.now (drop c.loop-item.item-index c.args.items.now) c.loop-item.made
     (nothing_left c.args.items.now c.loop-item.item-index c.loop-item-test.false) c.loop-item.invariant.left
+
+pub labelled-returns-clause-puts : goal.labelled-returns-clause-puts
+labelled-returns-clause-puts t c = put.labelled c.args.walk.now c.statement_part.new.walk c.args.name.now c.args.inner.now c.in_ok-inner.ensures.puts
+
+pub case-returns-clause-puts : goal.case-returns-clause-puts
+case-returns-clause-puts t c = put.cased c.args.walk.now c.statement_part.new.walk c.args.e.now c.args.inner.now c.in_ok-inner.ensures.goes_on c.in_ok-inner.ensures.puts
+
+pub default_case-returns-clause-puts : goal.default_case-returns-clause-puts
+default_case-returns-clause-puts t c = put.defaulted c.args.walk.now c.statement_part.new.walk c.args.inner.now c.in_ok-inner.ensures.puts
+
+pub block-returns-clause-puts : goal.block-returns-clause-puts
+block-returns-clause-puts t c = put.blocked c.args.walk.now c.block_items.new.walk c.args.items.now c.in_ok-items.ensures.puts
+
+pub while_loop-returns-clause-puts : goal.while_loop-returns-clause-puts
+while_loop-returns-clause-puts t c =
+    put.while_turned c.args.walk.now c.statement_part.new.walk c.statement_value.new.walk c.args.e.now c.args.inner.now c.in_ok-inner.ensures.goes_on c.in_ok-inner.ensures.puts c.in_ok-condition.ensures.grows
+
+pub until_loop-returns-clause-puts : goal.until_loop-returns-clause-puts
+until_loop-returns-clause-puts t c =
+    put.until_turned c.args.walk.now c.statement_part.new.walk c.statement_value.new.walk c.args.e.now c.args.inner.now c.in_ok-inner.ensures.goes_on c.in_ok-inner.ensures.puts c.in_ok-condition.ensures.grows
+
+pub switch_statement-returns-clause-puts : goal.switch_statement-returns-clause-puts
+switch_statement-returns-clause-puts t c =
+    put.switched c.args.walk.now c.statement_part.new.walk c.switch_value.new.walk c.args.e.now c.args.inner.now c.in_ok-inner.ensures.goes_on c.in_ok-inner.ensures.puts c.in_ok-value.ensures.grows
+
+pub for_loop-returns-clause-puts : goal.for_loop-returns-clause-puts
+for_loop-returns-clause-puts t c =
+    put.for_turned c.args.walk.now c.for_head.new.walk c.statement_part.new.walk c.args.first.now c.args.test.now c.args.step.now c.args.inner.now
+    c.in_ok-head.ensures.goes_on c.in_ok-head.ensures.puts c.in_ok-inner.ensures.goes_on c.in_ok-inner.ensures.puts
+
+pub statement_form-returns-in-Label-clause-puts : goal.statement_form-returns-in-Label-clause-puts
+statement_form-returns-in-Label-clause-puts t c =
+    subst (λ f. OnOk c.labelled.result (PutsForm c.args.walk.now c.labelled.new.walk f))
+    (sym (shape.a_label c.args.s.now.form c.in-Label.name c.get.result.now (c.in-Label.is ∙ ap (form.Label c.in-Label.name) (sym c.get.ensures)))) c.labelled.ensures.puts
+
+pub statement_form-returns-in-Case-clause-puts : goal.statement_form-returns-in-Case-clause-puts
+statement_form-returns-in-Case-clause-puts t c =
+    subst (λ f. OnOk c.case.result (PutsForm c.args.walk.now c.case.new.walk f))
+    (sym (shape.a_case c.args.s.now.form c.in-Case.e c.get-in-Case.result.now (c.in-Case.is ∙ ap (form.Case c.in-Case.e) (sym c.get-in-Case.ensures)))) c.case.ensures.puts
+
+pub statement_form-returns-in-Default-clause-puts : goal.statement_form-returns-in-Default-clause-puts
+statement_form-returns-in-Default-clause-puts t c =
+    subst (λ f. OnOk c.default_case.result (PutsForm c.args.walk.now c.default_case.new.walk f))
+    (sym (shape.a_default c.args.s.now.form c.get-in-Default.result.now (c.in-Default.is ∙ ap form.Default (sym c.get-in-Default.ensures)))) c.default_case.ensures.puts
+
+pub statement_form-returns-in-Block-clause-puts : goal.statement_form-returns-in-Block-clause-puts
+statement_form-returns-in-Block-clause-puts t c =
+    subst (λ f. OnOk c.block.result (PutsForm c.args.walk.now c.block.new.walk f))
+    (sym (shape.a_block c.args.s.now.form c.list.result.now (c.in-Block.is ∙ ap form.Block (sym c.list.ensures)))) c.block.ensures.puts
+
+pub statement_form-returns-in-Do-clause-puts : goal.statement_form-returns-in-Do-clause-puts
+statement_form-returns-in-Do-clause-puts t c =
+    subst (λ f. OnOk c.dropped.result (PutsForm c.args.walk.now c.dropped.new.walk f))
+    (sym (shape.a_do c.args.s.now.form c.in-Do.e c.in-Do.is)) c.dropped.ensures.puts
+
+pub statement_form-returns-in-Switch-clause-puts : goal.statement_form-returns-in-Switch-clause-puts
+statement_form-returns-in-Switch-clause-puts t c =
+    subst (λ f. OnOk c.switch_statement.result (PutsForm c.args.walk.now c.switch_statement.new.walk f))
+    (sym (shape.a_switch c.args.s.now.form c.in-Switch.e c.get-in-Switch.result.now (c.in-Switch.is ∙ ap (form.Switch c.in-Switch.e) (sym c.get-in-Switch.ensures)))) c.switch_statement.ensures.puts
+
+pub statement_form-returns-in-While-clause-puts : goal.statement_form-returns-in-While-clause-puts
+statement_form-returns-in-While-clause-puts t c =
+    subst (λ f. OnOk c.while_loop.result (PutsForm c.args.walk.now c.while_loop.new.walk f))
+    (sym (shape.a_while c.args.s.now.form c.in-While.e c.get-in-While.result.now (c.in-While.is ∙ ap (form.While c.in-While.e) (sym c.get-in-While.ensures)))) c.while_loop.ensures.puts
+
+pub statement_form-returns-in-Until-clause-puts : goal.statement_form-returns-in-Until-clause-puts
+statement_form-returns-in-Until-clause-puts t c =
+    subst (λ f. OnOk c.until_loop.result (PutsForm c.args.walk.now c.until_loop.new.walk f))
+    (sym (shape.an_until c.args.s.now.form c.get-in-Until.result.now c.in-Until.e (c.in-Until.is ∙ ap (λ i. form.Until i c.in-Until.e) (sym c.get-in-Until.ensures)))) c.until_loop.ensures.puts
+
+pub statement_form-returns-in-For-clause-puts : goal.statement_form-returns-in-For-clause-puts
+statement_form-returns-in-For-clause-puts t c =
+    subst (λ f. OnOk c.for_loop.result (PutsForm c.args.walk.now c.for_loop.new.walk f))
+    (sym (shape.a_for c.args.s.now.form c.in-For.first c.in-For.test c.in-For.step c.get-in-For.result.now (c.in-For.is ∙ ap (form.For c.in-For.first c.in-For.test c.in-For.step) (sym c.get-in-For.ensures)))) c.for_loop.ensures.puts
+
+pub statement_form-returns-in-Goto-clause-puts : goal.statement_form-returns-in-Goto-clause-puts
+statement_form-returns-in-Goto-clause-puts t c =
+    subst (λ f. OnOk c.going.result (PutsForm c.args.walk.now c.going.new.walk f))
+    (sym (shape.a_goto c.args.s.now.form c.in-Goto.name c.in-Goto.is)) c.going.ensures.puts
+
+pub statement_form-returns-in-Return-clause-puts : goal.statement_form-returns-in-Return-clause-puts
+statement_form-returns-in-Return-clause-puts t c =
+    subst (λ f. OnOk c.returning.result (PutsForm c.args.walk.now c.returning.new.walk f))
+    (sym (shape.a_return c.args.s.now.form c.in-Return.e c.in-Return.is)) c.returning.ensures.puts
+
+pub statement_form-returns-in_ok-form-in-If-clause-puts : goal.statement_form-returns-in_ok-form-in-If-clause-puts
+statement_form-returns-in_ok-form-in-If-clause-puts t c =
+    let taken = c.get-in-If.result.now in
+    subst (PutsForm c.args.walk.now c.if_form.new.walk)
+    (sym (shape.an_if c.args.s.now.form c.in-If.e taken c.in-If.other (c.in-If.is ∙ ap (λ s. form.If c.in-If.e s c.in-If.other) (sym c.get-in-If.ensures))))
+    (put.chosen c.args.walk.now c.statement_part.new.walk c.part_if_any.new.walk c.if_form.new.walk c.in-If.e taken c.in-If.other
+    c.in_ok-taken-in-If.ensures.goes_on c.in_ok-taken-in-If.ensures.puts c.in_ok-other-in-If.ensures.goes_on c.in_ok-other-in-If.ensures.puts c.in_ok-form-in-If.ensures.grows)
+
+pub statement_form-returns-in-Continue-clause-puts : goal.statement_form-returns-in-Continue-clause-puts
+statement_form-returns-in-Continue-clause-puts t c = subst (PutsForm c.args.walk.now c.args.walk.now) (sym (shape.a_continue c.args.s.now.form c.in-Continue.is)) (put.continued c.args.walk.now)
+
+pub statement_form-returns-in-Break-clause-puts : goal.statement_form-returns-in-Break-clause-puts
+statement_form-returns-in-Break-clause-puts t c = subst (PutsForm c.args.walk.now c.args.walk.now) (sym (shape.a_break c.args.s.now.form c.in-Break.is)) (put.broken c.args.walk.now)
+
+pub statement-returns-clause-puts : goal.statement-returns-clause-puts
+statement-returns-clause-puts t c = put.stated c.args.walk.now c.statement_form.new.walk c.args.s.now c.in_ok-form.ensures.puts
+
+pub part_if_any-returns-in_ok-made-in-Some-clause-puts : goal.part_if_any-returns-in_ok-made-in-Some-clause-puts
+part_if_any-returns-in_ok-made-in-Some-clause-puts t c =
+    subst (PutsElse c.args.walk.now c.statement_part.new.walk) (sym (c.in-Some.is ∙ ap Some (sym c.get.ensures)))
+    (put.some_else c.args.walk.now c.statement_part.new.walk c.get.result.now c.in_ok-made-in-Some.ensures.puts)
+
+pub part_if_any-returns-in-None-clause-puts : goal.part_if_any-returns-in-None-clause-puts
+part_if_any-returns-in-None-clause-puts t c = subst (PutsElse c.args.walk.now c.args.walk.now) (sym c.in-None.is) (put.no_else c.args.walk.now)
+
+pub block_item-returns-in_ok-inits-in-Declare-clause-puts : goal.block_item-returns-in_ok-inits-in-Declare-clause-puts
+block_item-returns-in_ok-inits-in-Declare-clause-puts t c =
+    put.declared_item c.args.walk.now c.block_declaration.new.walk c.args.item.now c.in-Declare.node (shape.a_declaration c.args.item.now c.in-Declare.node c.in-Declare.is)
+    c.in_ok-inits-in-Declare.ensures.puts
+
+pub block_item-returns-in_ok-made-in-Stmt-clause-puts : goal.block_item-returns-in_ok-made-in-Stmt-clause-puts
+block_item-returns-in_ok-made-in-Stmt-clause-puts t c =
+    put.statement_item c.args.walk.now c.statement.new.walk c.args.item.now c.in-Stmt.inner (shape.a_statement c.args.item.now c.in-Stmt.inner c.in-Stmt.is)
+    c.in_ok-made-in-Stmt.ensures.puts
+
+pub block_items-returns-clause-puts : goal.block_items-returns-clause-puts
+block_items-returns-clause-puts t c =
+    put.none_left c.args.walk.now c.loop-item.walk c.args.items.now (drop c.loop-item.item-index c.args.items.now)
+    (nothing_left c.args.items.now c.loop-item.item-index c.loop-item-test.false) c.loop-item.invariant.put

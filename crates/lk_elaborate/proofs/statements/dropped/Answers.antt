@@ -4,6 +4,7 @@ use Rattle.lk_elab_expr.proofs.Growing.{grows_on}
 use Rattle.lk_elaborate.proofs.Making.{done}
 use Rattle.lk_elaborate.proofs.Shaping.{a_do}
 use Rattle.lk_elaborate.specs.Making.{MakesForm}
+use Rattle.lk_elaborate.proofs.PuttingStatements as put
 use Rattle.lk_elaborate.proofs.statements.dropped.Goals as goal
 
 pub returns-clause-makes : goal.returns-clause-makes
@@ -13,3 +14,6 @@ returns-clause-makes c =
 
 pub returns-clause-goes_on : goal.returns-clause-goes_on
 returns-clause-goes_on c = grows_on c.args.walk.now c.value_if_any.new.walk c.in_ok-value.ensures.grows
+
+pub returns-clause-puts : goal.returns-clause-puts
+returns-clause-puts c = put.done c.args.walk.now c.value_if_any.new.walk c.args.e.now c.in_ok-value.ensures.grows

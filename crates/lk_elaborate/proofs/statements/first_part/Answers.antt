@@ -3,6 +3,8 @@ use Rattle.lk_typed.specs.declared.statement.TypedFirst.TheVariants as typed_fir
 use Rattle.lk_elab_expr.proofs.Growing.{grows_on}
 use Rattle.lk_elaborate.proofs.Making.{by_declaration, by_value}
 use Rattle.lk_elaborate.specs.Making.{MakesFirst}
+use Rattle.lk_elaborate.proofs.PuttingStatements as put
+use Rattle.lk_elaborate.specs.PuttingStatements.{PutsFirst}
 use Rattle.lk_elaborate.proofs.statements.first_part.Goals as goal
 
 pub returns-in_ok-value-in-Expr-clause-makes : goal.returns-in_ok-value-in-Expr-clause-makes
@@ -17,3 +19,12 @@ pub returns-in_ok-inits-in-Declare-clause-makes : goal.returns-in_ok-inits-in-De
 returns-in_ok-inits-in-Declare-clause-makes c =
     subst (λ first. MakesFirst c.args.walk.now c.block_declaration.new.walk first (typed_first.Declare c.in_ok-inits-in-Declare.inits)) (sym c.in-Declare.is)
     (by_declaration c.args.walk.now c.block_declaration.new.walk c.in-Declare.node c.in_ok-inits-in-Declare.inits c.in_ok-inits-in-Declare.ensures.makes)
+
+pub returns-in_ok-value-in-Expr-clause-puts : goal.returns-in_ok-value-in-Expr-clause-puts
+returns-in_ok-value-in-Expr-clause-puts c =
+    subst (PutsFirst c.args.walk.now c.value_if_any.new.walk) (sym c.in-Expr.is) (put.by_value c.args.walk.now c.value_if_any.new.walk c.in-Expr.e c.in_ok-value-in-Expr.ensures.grows)
+
+pub returns-in_ok-inits-in-Declare-clause-puts : goal.returns-in_ok-inits-in-Declare-clause-puts
+returns-in_ok-inits-in-Declare-clause-puts c =
+    subst (PutsFirst c.args.walk.now c.block_declaration.new.walk) (sym c.in-Declare.is)
+    (put.by_declaration c.args.walk.now c.block_declaration.new.walk c.in-Declare.node c.in_ok-inits-in-Declare.ensures.puts)

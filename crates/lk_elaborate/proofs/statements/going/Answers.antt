@@ -4,6 +4,7 @@ use Rattle.lk_elaborate.proofs.Carried.{goes_same}
 use Rattle.lk_elaborate.proofs.Making.{gone}
 use Rattle.lk_elaborate.proofs.Shaping.{a_goto}
 use Rattle.lk_elaborate.specs.Making.{LabelNamed, MakesForm}
+use Rattle.lk_elaborate.proofs.PuttingStatements as put
 use Rattle.lk_elaborate.proofs.statements.going.Goals as goal
 
 pub returns-clause-makes : goal.returns-clause-makes
@@ -13,3 +14,6 @@ returns-clause-makes c =
 
 pub returns-clause-goes_on : goal.returns-clause-goes_on
 returns-clause-goes_on c = goes_same c.args.walk.now
+
+pub returns-clause-puts : goal.returns-clause-puts
+returns-clause-puts c = put.gone c.args.walk.now c.args.name.now

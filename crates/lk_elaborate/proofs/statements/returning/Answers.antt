@@ -2,11 +2,12 @@ use Rattle.std.proofs.Common.{None, Some, sym, subst}
 use Rattle.lk_tree.specs.declared.statement.BlockItem.TheOpen.{StmtForm-F}
 use Rattle.lk_typed.specs.declared.statement.TypedStmtForm.{out-TypedStmtForm}
 use Rattle.lk_typed.specs.declared.statement.TypedStmtForm.TheVariants as typed
-use Rattle.lk_elab_expr.proofs.Growing.{grows_on}
+use Rattle.lk_elab_expr.proofs.Growing.{grows_on, grows_same}
 use Rattle.lk_elaborate.proofs.Carried.{goes_same}
 use Rattle.lk_elaborate.proofs.Making.{returned, returned_nothing}
 use Rattle.lk_elaborate.proofs.Shaping.{a_return}
 use Rattle.lk_elaborate.specs.Making.{MakesForm}
+use Rattle.lk_elaborate.proofs.PuttingStatements as put
 use Rattle.lk_elaborate.proofs.statements.returning.Goals as goal
 
 pub returns-in_ok-value-in-Some-clause-makes : goal.returns-in_ok-value-in-Some-clause-makes
@@ -25,3 +26,9 @@ returns-in_ok-value-in-Some-clause-goes_on c = grows_on c.args.walk.now c.return
 
 pub returns-in-None-clause-goes_on : goal.returns-in-None-clause-goes_on
 returns-in-None-clause-goes_on c = goes_same c.args.walk.now
+
+pub returns-in_ok-value-in-Some-clause-puts : goal.returns-in_ok-value-in-Some-clause-puts
+returns-in_ok-value-in-Some-clause-puts c = put.returned c.args.walk.now c.returned_value.new.walk c.args.e.now c.in_ok-value-in-Some.ensures.grows
+
+pub returns-in-None-clause-puts : goal.returns-in-None-clause-puts
+returns-in-None-clause-puts c = put.returned c.args.walk.now c.args.walk.now c.args.e.now (grows_same c.args.walk.now)
