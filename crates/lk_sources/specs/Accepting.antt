@@ -10,7 +10,7 @@ use Rattle.lk_typed.specs.Elements.{HasFewElements}
 use Rattle.lk_typed.specs.Env.{Name}
 use Rattle.lk_typed.specs.Meaning.{IsReady}
 use Rattle.lk_words.specs.Words.{Check}
-use Rattle.lk_check_unit.specs.Sources.{IsBehind, RecordsOf}
+use Rattle.lk_check_unit.specs.Sources.{IsBehind, RecordsOf, TellsFirst}
 use Rattle.lk_sources.specs.Externs.{externs_text, listed, Names, BadLine}
 use Rattle.lk_sources.specs.Faults.{AreFaultless, AreFaulty}
 use Rattle.lk_sources.specs.Numbers.{numbered, refusal_at}
@@ -49,8 +49,9 @@ pub data AreRefused (names : List (List ℕ)) (externs : List Name) (sources : L
 abbrev pub units_of : List AcceptedSource → List Unit
 units_of sources = map (λ s. s.parsed.unit) sources
 
--- a source is checked, where --externs lists these names: its types are as its typed tree asks for them, and what was found is true of it
+-- a source is checked, where --externs lists these names: it has no fault, its types are as its typed tree asks for them, and what was found is true of it
 pub record IsCheckedSource (externs : List Name) (source : AcceptedSource) : Type 0 where
+  pub faultless : TellsFirst externs source.parsed.unit None
   pub ready : IsReady source.checked.types
   pub few : HasFewElements source.checked.types
   pub records : RecordsOf externs source.parsed.unit source.checked.types source.checked.records

@@ -1,7 +1,8 @@
 -- What the parts of an answer say of the whole.
 use Rattle.std.proofs.Common.{inl, inr, ℕ, ◌≡◌, ◌∙◌, ◌<◌, ◌≤◌, Bool, true, false, if◌then◌else◌, List, [], ◌∷◌, Option, Some, None, length, refl, sym, ap, subst, arith}
+use Rattle.std.specs.List.{AllZip}
 use Rattle.std.specs.Prelude.{All, MatchOption, slice_index_or}
-use Rattle.std.proofs.lemmas.List.Elements.{All-weaker}
+use Rattle.std.proofs.lemmas.List.Elements.{All-cons, All-head, All-nil, All-tail, All-weaker}
 use Rattle.lk_base.specs.declared.refusal.Refusal as base
 use Rattle.lk_base.specs.declared.status.Status.{Status}
 use Rattle.lk_base.specs.declared.status.Status.TheVariants as status
@@ -10,15 +11,19 @@ use Rattle.lk_facts.specs.declared.verdict.Verdict.{Verdict}
 use Rattle.lk_form.specs.Form.{IsOfForm}
 use Rattle.lk_form.specs.declared.tree.Program.{Program}
 use Rattle.lk_io.specs.Shelf.{Held}
+use Rattle.lk_elaborate.specs.Checked.{IsCheckedOf}
 use Rattle.lk_join.specs.Program as linking
 use Rattle.lk_join.specs.Program.{IsLinked}
+use Rattle.lk_lex.specs.declared.token.Token.{Token}
 use Rattle.lk_lower_expr.specs.Programs.{IsMadeOf}
 use Rattle.lk_lower_unit.specs.PointNumbers.{HasMorePoints}
-use Rattle.lk_sources.specs.Accepting.{IsAccepted, IsCheckedSource, Refuses}
+use Rattle.lk_sources.specs.Accepting.{IsAccepted, IsCheckedSource, Refuses, units_of}
 use Rattle.lk_sources.specs.Numbers.{numbered}
 use Rattle.lk_sources.specs.Readable.{Reads, FailsToRead}
 use Rattle.lk_sources.specs.Reading.{IsRead}
 use Rattle.lk_sources.specs.Shelves.{Shelved}
+use Rattle.lk_sources.specs.Trees.{AreTrees}
+use Rattle.lk_sources.specs.Trees.AreTrees.{next}
 use Rattle.lk_sources.specs.declared.accepting.Accepted as code
 use Rattle.lk_sources.specs.declared.checking.AcceptedSource.{AcceptedSource}
 use Rattle.lk_sources.specs.declared.fault.SourcesFault.{SourcesFault}
@@ -26,11 +31,12 @@ use Rattle.lk_sources.specs.declared.fault.SourcesFault.TheVariants as told
 use Rattle.lk_sources.specs.declared.reading.Source.{Source}
 use Rattle.lk_sources.specs.declared.reading.Texts.{Texts}
 use Rattle.lk_typed.specs.Env.{Name}
+use Rattle.lk_typed.specs.TypedUnits.{IsTypedUnit}
 use Rattle.lk_typed.specs.declared.unit.TypedUnit.{TypedUnit}
 use Rattle.lk_typed.specs.declared.whole.Whole.{Whole}
 use Rattle.lk_words.specs.Words.{Check}
-use Rattle.lk_top.specs.Analysis.{IsWhole, unlinked, too_many_points, too_many_labels}
-use Rattle.lk_top.specs.Answer.{Reported, JudgesPoints, JudgesWhole, JudgesUnits, Analyses, ShowsFault, Judges, Answers, HasReadyTypes}
+use Rattle.lk_top.specs.Analysis.{AreTyped, IsWhole, unlinked, too_many_points, too_many_labels}
+use Rattle.lk_top.specs.Answer.{Reported, JudgesPoints, JudgesWhole, JudgesUnits, Analyses, ShowsFault, Judges, Answers, HasReadyTypes, IsNumbered, TypesSource}
 use Rattle.lk_top.specs.Outcome as outcome
 use Rattle.lk_top.specs.Outcome.{Refused, IsProgram, lone, HasNoProgram, Becomes, Follows}
 use Rattle.lk_top.specs.Report.{has_suspect}
@@ -86,13 +92,33 @@ found_in externs sources source found none some few is exact =
 pub all_ready : (externs : List Name) (sources : List AcceptedSource) → All (IsCheckedSource externs) sources → All HasReadyTypes sources
 all_ready externs sources = All-weaker (IsCheckedSource externs) HasReadyTypes (λ source checked. (checked.ready, checked.few)) sources
 
+-- the trees of sources are numbered
+pub all_numbered : (texts : List Source) (lists : List (List Token)) (sources : List AcceptedSource) → AreTrees texts lists (units_of sources) → All IsNumbered sources
+all_numbered texts lists [] are = All-nil IsNumbered
+all_numbered texts lists (source ∷ sources) (next {rest = rest} {lists = others} tree are) =
+    All-cons IsNumbered source sources (record { externals = tree.externals }, tree.ordinals) (all_numbered rest others sources are)
+
+-- sources that are checked and numbered come to typed trees
+pub all_typed : (externs : List Name) (sources : List AcceptedSource) (units : List TypedUnit) → All (IsCheckedSource externs) sources → All IsNumbered sources → AllZip TypesSource sources units →
+    AllZip (IsTypedUnit externs) (units_of sources) units
+all_typed externs [] [] checked numbered typed = typed
+all_typed externs [] (unit ∷ units) checked numbered typed = absurd typed
+all_typed externs (source ∷ sources) [] checked numbered typed = absurd typed
+all_typed externs (source ∷ sources) (unit ∷ units) checked numbered typed = (
+  typed.0 externs (checked_of externs source (All-head (IsCheckedSource externs) source sources checked) (All-head IsNumbered source sources numbered)),
+  all_typed externs sources units (All-tail (IsCheckedSource externs) source sources checked) (All-tail IsNumbered source sources numbered) typed.1,
+)
+  where
+    checked_of : (externs : List Name) (source : AcceptedSource) → IsCheckedSource externs source → IsNumbered source → IsCheckedOf externs source.parsed.unit source.checked
+    checked_of externs source checked (before, numbers) = record { before = before; numbers = numbers; faultless = checked.faultless; records = checked.records; behind = checked.behind }
+
 pub judged_points : (files : List (List ℕ)) (whole : Whole) (points : Points) (answer : Answer) → (HasMorePoints whole 65536 → ⊥) → IsMadeOf whole points → JudgesPoints files points answer → JudgesWhole files whole answer
 judged_points files whole points answer few made (inl (verdicts, has, shows)) = inl (few, (points, verdicts, made, has, shows))
 judged_points files whole points answer few made (inr tells) = inr (inr tells)
 
-module _ (sources : code.Accepted) (units : List TypedUnit) where
+module _ (sources : code.Accepted) (units : List TypedUnit) (typed : AreTyped sources units) where
   whole_of : (whole : Whole) → IsLinked units sources.externs.items whole → IsWhole sources whole
-  whole_of whole joined = record { units = units; linked = joined }
+  whole_of whole joined = record { units = units; typed = typed; linked = joined }
 
   pub analysed : (answer : Answer) → JudgesUnits sources.files sources.externs.items units answer → Analyses sources answer
   analysed (Report text ends) (inl (whole, joined, inl (few, (points, verdicts, made, has, (text_is, status_is))))) =
@@ -105,7 +131,7 @@ module _ (sources : code.Accepted) (units : List TypedUnit) where
       (file, refusal, record { why = too_many_points whole (whole_of whole joined) more code_is name_is; at = at }, line_is)
   analysed (Refusal line) (inl (whole, joined, inr (inr (refusal, code_is, name_is, (file, at, line_is))))) =
       (file, refusal, record { why = too_many_labels whole (whole_of whole joined) code_is name_is; at = at }, line_is)
-  analysed (Refusal line) (inr (refusal, is, (file, at, line_is))) = (file, refusal, record { why = unlinked units is; at = at }, line_is)
+  analysed (Refusal line) (inr (refusal, is, (file, at, line_is))) = (file, refusal, record { why = unlinked units typed is; at = at }, line_is)
   analysed (Unread line) (inl (whole, joined, inl (few, (points, verdicts, made, has, shows)))) = absurd shows
   analysed (Unread line) (inl (whole, joined, inr (inl (more, (refusal, code_is, name_is, tells))))) = absurd tells
   analysed (Unread line) (inl (whole, joined, inr (inr (refusal, code_is, name_is, tells)))) = absurd tells

@@ -1,22 +1,29 @@
--- What is reported of sources that are accepted, and why others of them make no program: by typed trees, the program into which these link, its points, and the verdicts of these. What the typed
--- trees of sources are is not said here.
+-- What is reported of sources that are accepted, and why others of them make no program: by their typed trees, the program into which these link, its points, and the verdicts of these.
 use Rattle.std.specs.Prelude.{ℕ, ◌≡◌, List, [], Some, slice_get}
 use Rattle.lk_base.specs.declared.code.Code.TheVariants.{TooManyPoints, TooManyLabels}
 use Rattle.lk_base.specs.declared.refusal.Refusal.{Refusal}
 use Rattle.lk_facts.specs.declared.program.Program.{Program}
 use Rattle.lk_facts.specs.declared.verdict.Verdict.{Verdict}
+use Rattle.std.specs.List.{AllZip}
 use Rattle.lk_join.specs.Program.{IsLinked, IsRefusal}
 use Rattle.lk_lower_expr.specs.Programs.{IsMadeOf}
 use Rattle.lk_lower_unit.specs.PointNumbers.{HasMorePoints}
 use Rattle.lk_report.specs.Report.{report_text}
 use Rattle.lk_solve.specs.Verdicts.{HasVerdicts}
 use Rattle.lk_sources.specs.declared.accepting.Accepted as code
+use Rattle.lk_sources.specs.Accepting.{units_of}
+use Rattle.lk_typed.specs.TypedUnits.{IsTypedUnit}
 use Rattle.lk_typed.specs.declared.unit.TypedUnit.{TypedUnit}
 use Rattle.lk_typed.specs.declared.whole.Whole.{Whole}
 
--- typed trees are put together
+-- the typed trees of sources
+abbrev pub AreTyped : code.Accepted → List TypedUnit → Type 0
+AreTyped sources units = AllZip (IsTypedUnit sources.externs.items) (units_of sources.sources.items) units
+
+-- they are put together
 pub record IsWhole (sources : code.Accepted) (whole : Whole) : Type 0 where
   pub units : List TypedUnit
+  pub typed : AreTyped sources units
   pub linked : IsLinked units sources.externs.items whole
 
 -- the text is the report of the verdicts that the points of the program have
@@ -31,7 +38,7 @@ pub record IsAnalysed (sources : code.Accepted) (text : List ℕ) (verdicts : Li
 
 -- Why they make no program: their typed trees speak against one another, or are over a bound; that is told without a name.
 pub data IsNoProgram (sources : code.Accepted) (refusal : Refusal) : Type 0 where
-  unlinked : (units : List TypedUnit) → IsRefusal units sources.externs.items refusal → IsNoProgram sources refusal
+  unlinked : (units : List TypedUnit) → AreTyped sources units → IsRefusal units sources.externs.items refusal → IsNoProgram sources refusal
   too_many_points : (whole : Whole) → IsWhole sources whole → HasMorePoints whole 65536 → refusal.code ≡ TooManyPoints → refusal.name ≡ [] → IsNoProgram sources refusal
   too_many_labels : (whole : Whole) → IsWhole sources whole → refusal.code ≡ TooManyLabels → refusal.name ≡ [] → IsNoProgram sources refusal
 

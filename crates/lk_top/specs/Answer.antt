@@ -8,6 +8,7 @@ use Rattle.lk_form.specs.declared.tree.Program.{Program}
 use Rattle.lk_base.specs.declared.code.Code.{Code}
 use Rattle.lk_base.specs.declared.code.Code.TheVariants.{TooManyPoints, TooManyLabels}
 use Rattle.lk_facts.specs.declared.program.Program.{Program as Points}
+use Rattle.lk_elaborate.specs.Checked.{IsCheckedOf}
 use Rattle.lk_join.specs.Program as linking
 use Rattle.lk_join.specs.Program.{IsLinked}
 use Rattle.lk_lower_expr.specs.Programs.{IsMadeOf}
@@ -15,8 +16,11 @@ use Rattle.lk_lower_unit.specs.PointNumbers.{HasMorePoints}
 use Rattle.lk_report.specs.Report.{report_text}
 use Rattle.lk_solve.specs.Verdicts.{HasVerdicts}
 use Rattle.lk_typed.specs.Env.{Name}
+use Rattle.lk_tree.specs.Numbers.{numbered}
+use Rattle.lk_tree.specs.declared.statement.Unit.{Unit}
 use Rattle.lk_typed.specs.Elements.{HasFewElements}
 use Rattle.lk_typed.specs.Meaning.{IsReady}
+use Rattle.lk_typed.specs.TypedUnits.{IsTypedUnit}
 use Rattle.lk_typed.specs.declared.unit.TypedUnit.{TypedUnit}
 use Rattle.lk_typed.specs.declared.whole.Whole.{Whole}
 use Rattle.lk_sources.specs.declared.accepting.Accepted as code
@@ -64,6 +68,14 @@ ShowsVerdicts files points verdicts (answer.Unread line) = ⊥
 -- a source's types are as its typed tree asks for them
 abbrev pub HasReadyTypes : AcceptedSource → Type 0
 HasReadyTypes source = IsReady source.checked.types × HasFewElements source.checked.types
+
+-- the nodes of a source have their numbers
+abbrev pub IsNumbered : AcceptedSource → Type 0
+IsNumbered source = (before : Unit) × (source.parsed.unit ≡ numbered before)
+
+-- a source comes to this typed tree, whatever names --externs lists
+abbrev pub TypesSource : AcceptedSource → TypedUnit → Type 0
+TypesSource source typed = (externs : List Name) → IsCheckedOf externs source.parsed.unit source.checked → IsTypedUnit externs source.parsed.unit typed
 
 -- what points, a program and typed trees come to
 abbrev pub JudgesPoints : List (List ℕ) → Points → Answer → Type 0

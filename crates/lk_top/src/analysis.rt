@@ -1,9 +1,10 @@
 //! What accepted sources come to: the program that they make, its points, and what is reported of these.
+ghost use Rattle.std.specs.List.{AllZip};
 ghost use Rattle.std.specs.Prelude.{◌≡◌, [], All, IfOk};
 ghost use Rattle.lk_graph.specs.Single.{ArePlaceNodes};
 ghost use Rattle.lk_sources.specs.Accepting.{IsCheckedSource};
-ghost use Rattle.lk_top.specs.Answer.{Analyses, HasReadyTypes, JudgesPoints, JudgesUnits, JudgesWhole};
-ghost use Rattle.lk_top.specs.Answer.{ShowsVerdicts, Tells, TellsCode};
+ghost use Rattle.lk_top.specs.Answer.{Analyses, JudgesPoints, JudgesUnits, JudgesWhole, ShowsVerdicts, Tells, TellsCode};
+ghost use Rattle.lk_top.specs.Answer.{HasReadyTypes, IsNumbered, TypesSource};
 
 use crate::answer::Answer;
 use crate::form::status_of;
@@ -24,6 +25,7 @@ use std::alloc::Global;
 /// The typed tree of a source.
 fn typed_unit(alloc: Global, source: AcceptedSource) -> Result<TypedUnit, NoMemory>
     requires { HasReadyTypes source }
+    ensures { IfOk result (TypesSource source) }
 {
     let AcceptedSource { parsed, checked } = source;
     let unit = elaborate(alloc, &parsed.unit, checked)?;
@@ -33,6 +35,7 @@ fn typed_unit(alloc: Global, source: AcceptedSource) -> Result<TypedUnit, NoMemo
 /// The typed tree of each source, in their order.
 fn typed_units(alloc: Global, sources: Vec<AcceptedSource>) -> Result<Vec<TypedUnit>, NoMemory>
     requires { All HasReadyTypes sources.items }
+    ensures { IfOk result (λ units. AllZip TypesSource sources.items units.items) }
 {
     let mut units = Vec::new(alloc);
     for source in sources {
@@ -170,7 +173,8 @@ fn judge_units(
 
 /// What accepted sources come to.
 pub(crate) fn analyse(alloc: Global, accepted: Accepted) -> Result<Answer, NoMemory>
-    requires { All (IsCheckedSource accepted.externs.items) accepted.sources.items }
+    requires checked { All (IsCheckedSource accepted.externs.items) accepted.sources.items }
+    requires numbered { All IsNumbered accepted.sources.items }
     ensures { IfOk result (Analyses accepted) }
 {
     let Accepted {

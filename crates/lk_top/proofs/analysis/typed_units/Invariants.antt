@@ -1,0 +1,8 @@
+use Rattle.std.proofs.Common.{All}
+use Rattle.std.specs.List.{AllZip}
+use Rattle.lk_top.specs.Answer.{HasReadyTypes, TypesSource}
+use Rattle.lk_top.proofs.analysis.typed_units.Given as goal
+
+-- the sources so far come to the typed trees
+abbrev pub invariant-loop-source : goal.invariant-loop-source
+invariant-loop-source l = AllZip TypesSource l.yielded l.units.items
