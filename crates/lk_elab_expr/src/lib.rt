@@ -35,6 +35,7 @@ pub use expressions::{expression, given_value};
 pub use found::{found_of, typing_at, typing_of, value_at};
 pub use locals::{Locals, put_local};
 pub use operands::promoted_type;
+pub use places::{number_behind, number_of};
 pub use source_types::SourceTypes;
 pub use type_numbers::{known, known_type};
 pub use unreached::nowhere;

@@ -66,7 +66,7 @@ fn number_in(walk: &Elaborator, ty: &ExprType, name: &Name) -> Result<u32, NoMem
 }
 
 /// The number of the member with a name of the struct to which a pointer points. What is on the left of `->` is one.
-fn number_behind(walk: &Elaborator, pointer: u32, name: &Name) -> Result<u32, NoMemory>
+pub fn number_behind(walk: &Elaborator, pointer: u32, name: &Name) -> Result<u32, NoMemory>
     ensures { IfOk result (λ k. OfEach walk.now pointer (λ p. IsNumberBehind walk.now p name.now k)) }
 {
     let v = value_at(walk, pointer)?;
@@ -77,7 +77,7 @@ fn number_behind(walk: &Elaborator, pointer: u32, name: &Name) -> Result<u32, No
 }
 
 /// The number of the member with a name of an object.
-fn number_of(walk: &Elaborator, object: u32, name: &Name) -> Result<u32, NoMemory>
+pub fn number_of(walk: &Elaborator, object: u32, name: &Name) -> Result<u32, NoMemory>
     ensures { IfOk result (λ k. OfEach walk.now object (λ p. IsNumberOf walk.now p name.now k)) }
 {
     let typing = typing_at(walk, object)?;

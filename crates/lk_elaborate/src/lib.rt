@@ -13,7 +13,6 @@ mod definitions;
 mod givens;
 mod labels;
 mod local_inits;
-mod member_numbers;
 mod named_cells;
 mod parameters;
 mod paths;

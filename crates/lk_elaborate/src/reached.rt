@@ -20,12 +20,11 @@ ghost use Rattle.lk_elaborate.specs.Reaching.{HasAddress, HasNullValue, HasValue
 ghost use Rattle.lk_elaborate.specs.Reaching.{IsMemberOf, IsMovedTo, IsNamed, IsReached, IsReachedAs, IsValueKept};
 ghost use Rattle.lk_elaborate.specs.Reaching.{IsValueReached, MovesFrom, OfTyping, address_in, is_reached};
 
-use crate::member_numbers::{number_behind, number_of};
 use crate::positions::{Anchor, Reached, whole};
 use crate::type_forms::count_of;
 use lk_base::{Name, NoMemory};
 use lk_check_walk::{Address, Found, Meant, Place, value_address};
-use lk_elab_expr::{Elaborator, found_of, nowhere, value_at};
+use lk_elab_expr::{Elaborator, found_of, nowhere, number_behind, number_of, value_at};
 use lk_tree::{Expr, ExprForm, PrefixOperator};
 use lk_typed::{Duration, ExprType, Meaning, Typed};
 use lk_types::TypeTable;
@@ -41,7 +40,8 @@ struct Kept {
 
 /// What was found of an expression. Each has a type where no fault holds.
 fn kept_of(found: &Found) -> Result<Kept, NoMemory>
-    ensures { IfOk result (λ kept. (found.now.typing ≡ Some kept.typing) × (found.now.address ≡ kept.address)) }
+    ensures { IfOk result (λ kept.
+        (found.now.typing ≡ Some kept.typing) × (found.now.address ≡ kept.address)) }
 {
     match found.typing {
         Some(typing) => Ok(Kept {
@@ -122,8 +122,8 @@ pub(crate) struct ValueKept {
 /// What the checker kept of the address of the value of an expression of which this was found.
 fn value_address_kept(walk: &Elaborator, kept: &Kept) -> Address
     requires { IsOperand walk.now.types kept.now.typing }
-    ensures { (x : Typing) → IsTyping walk.now.types kept.now.typing x → kept.now.address ≡ kept_of x.address →
-        result ≡ kept_of (spec_value x).address }
+    ensures { (x : Typing) → IsTyping walk.now.types kept.now.typing x →
+        kept.now.address ≡ kept_of x.address → result ≡ kept_of (spec_value x).address }
 {
     value_address(walk.types.table(), &kept.typing, kept.address)
 }
