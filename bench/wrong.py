@@ -1,5 +1,5 @@
 #!/usr/bin/env python3
-"""Tries the wrong bodies that the gate only keeps: those of crates whose proof is too dear to be made a second time there.
+"""Tries the wrong bodies that the gate only keeps: of crates that are dear to prove a second time, and of finished ones.
 
 usage: bench/wrong.py [--rt COMMAND] [CRATE ..]
 
