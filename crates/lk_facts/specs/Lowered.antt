@@ -23,7 +23,7 @@ use Rattle.lk_facts.specs.declared.root.RootKind.{RootKind}
 use Rattle.lk_facts.specs.declared.root.RootKind.TheVariants.{Global, Static, Local, Heap, Text, Argv, Args, Function as FunctionRoot}
 use Rattle.lk_types.specs.Equal.{IsAlike}
 use Rattle.lk_types.specs.Objects.{is_mutex, is_value}
-use Rattle.lk_types.specs.declared.c_type.CType.TheVariants.{Array, Cond, Int, Mutex, Pointer, Void}
+use Rattle.lk_types.specs.declared.c_type.CType.TheVariants.{Array, Cond, Int, Mutex, Pointer}
 
 -- who has a site: a live call or creation, or a function that is used as a value
 pub data Owner : Type 0 where
@@ -49,13 +49,13 @@ module _ (program : Program) where
   abbrev pub HasPart : ℕ → List CellStep → ℕ → Type 0
   HasPart r path u = (t : ℕ) × IsRootType program r t × HasPartAt program.types t path u
 
-  -- a cell of the type t may begin with the value; the object to which an address leads has that part
+  -- A cell of the type t may begin with the value. Of an address it isn't asked what it leads to: a pointer may have gone through `void *` to
+  -- another type (C99 6.3.2.3, 1), and the size of an array may come behind the initialiser (C99 6.2.2, 4).
   abbrev pub MayBegin : (t : ℕ) → InitialValue → Type 0
   MayBegin t (value.Number n) = IsNumberOf program n t
   MayBegin t value.Null = (u : ℕ) × IsForm program.types t (Pointer u)
   MayBegin t (value.Function f) = (u form : ℕ) × IsForm program.types t (Pointer u) × ((r : ℕ) × (root_of_function program f ≡ Some r) × IsRootType program r form) × IsAlike program.types.types u form
-  MayBegin t (value.Address r path past) =
-      (u v : ℕ) × IsForm program.types t (Pointer u) × HasPart r path v × (IsAlike program.types.types u v ⊎ IsForm program.types u Void)
+  MayBegin t (value.Address r path past) = (u : ℕ) × IsForm program.types t (Pointer u)
   MayBegin t value.Ready = IsForm program.types t Mutex ⊎ IsForm program.types t Cond
 
   -- the cell is a part of its object, and may begin with its value
@@ -189,7 +189,7 @@ module _ (program : Program) where
     pub ways : (p f : ℕ) (action : Action) → action_at program p ≡ Some action → function_at program p ≡ Some f → f < length program.functions → (IsExitOfOne p → ⊥) → length (next_of program p) ≡ ways_of action
     -- live is what is reached
     pub live : (p : ℕ) → (live_at program p ≡ true) ↔ IsReached program.points program.functions p
-    -- a text's bytes are there, and so is each cell that an initialiser of static storage names, with what it points to
+    -- A text's bytes are there, and so is each cell that an initialiser of static storage names. It may begin with its value, and a point writes each pointer.
     pub texts : (p r : ℕ) → action_at program p ≡ Some (OfText r) → IsText r
     pub initials : (i : ℕ) (initial : Initial) → slice_get program.initials i ≡ Some initial → IsInitial initial
     pub written : (i : ℕ) (initial : Initial) → slice_get program.initials i ≡ Some initial → IsWritten program initial initial.value

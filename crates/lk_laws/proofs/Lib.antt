@@ -5,10 +5,12 @@ pub mod MoreRaces
 pub mod OneAnalysis
 pub mod Sorted
 pub mod Walking
-mod AlikeTypes
-mod AlikeEdges
+pub mod AlikeTypes
+pub mod AlikeEdges
 mod OwnSite
-mod NodesThere
-mod OneContent
-mod VoidNodes
-mod RowEnds
+pub mod NodesThere
+pub mod OneContent
+pub mod VoidNodes
+pub mod RowEnds
+pub mod Inside
+pub mod OneCode

@@ -50,54 +50,54 @@ none_within : (entries : List LabelEntry) (a : ℕ) → slice_get entries a ≡ 
 none_within entries a e h = let past = none_past entries a e in omega (arith, past, h)
 
 module _ (program : Program) (is : IsTable program.types) (lowered : IsLowered program) (labels : LabelTable) (are : AreLabels program labels) (in_range : AreLabelsInRange labels) (es : List Edge) (edges : AreEdges program labels.names es) where
-  abbrev Edged : ℕ → ℕ → Mark → Type 0
+  abbrev pub Edged : ℕ → ℕ → Mark → Type 0
   Edged = HasEdge es
 
-  abbrev Named : ℕ → LabelName → Type 0
+  abbrev pub Named : ℕ → LabelName → Type 0
   Named a x = slice_get labels.names a ≡ Some x
 
-  abbrev ty : LabelName → ℕ
+  abbrev pub ty : LabelName → ℕ
   ty x = type_of program x
 
-  one_named : (a : ℕ) (x y : LabelName) → Named a x → Named a y → x ≡ y
+  pub one_named : (a : ℕ) (x y : LabelName) → Named a x → Named a y → x ≡ y
   one_named a x y h k = name_is x y (sym h ∙ k)
 
-  one_number : (a b : ℕ) (x y : LabelName) → Named a x → Named b y → x ≡ y → a ≡ b
+  pub one_number : (a b : ℕ) (x y : LabelName) → Named a x → Named b y → x ≡ y → a ≡ b
   one_number a b x y h k same = in_range.different a b y (h ∙ ap Some same) k
 
   -- a step leads to one label
-  one_part : {x y z : LabelName} {s : Sel} → IsPart program x s y → IsPart program x s z → y ≡ z
+  pub one_part : {x y z : LabelName} {s : Sel} → IsPart program x s y → IsPart program x s z → y ≡ z
   one_part {x} {y} {z} {s} h k =
       same_name y z (h.holder ∙ sym k.holder) (equal_nodes_have_equal_ids program.types y.node z.node h.steps.node k.steps.node (node_is _ _ (sym h.steps.leads ∙ k.steps.leads)))
 
-  numbered : (x : LabelName) → IsLabel program x → (a : ℕ) × Named a x
+  pub numbered : (x : LabelName) → IsLabel program x → (a : ℕ) × Named a x
   numbered x label =
       let found = (are.each x).1 label in
       (found.0, slice_get-get_or labels.names found.0 x found.1 ∙ ap Some found.2)
 
-  labelled : (a : ℕ) (x : LabelName) → Named a x → IsLabel program x
+  pub labelled : (a : ℕ) (x : LabelName) → Named a x → IsLabel program x
   labelled a x at = (are.each x).0 (a, slice_get_within labels.names a x at, get_or_from_slice_get labels.names a x x at)
 
-  edge_names : (a b : ℕ) (x y : LabelName) (m : Mark) → Named a x → Named b y → Edged a b m → IsEdge program x y m
+  pub edge_names : (a b : ℕ) (x y : LabelName) (m : Mark) → Named a x → Named b y → Edged a b m → IsEdge program x y m
   edge_names a b x y m h k e =
       let named = (edges.each a b m).0 e in
       subst (λ x. IsEdge program x y m) (one_named a named.0 x named.2 h) (subst (λ y. IsEdge program named.0 y m) (one_named b named.1 y named.3 k) named.4)
 
-  named_edge : (a b : ℕ) (x y : LabelName) (m : Mark) → Named a x → Named b y → IsEdge program x y m → Edged a b m
+  pub named_edge : (a b : ℕ) (x y : LabelName) (m : Mark) → Named a x → Named b y → IsEdge program x y m → Edged a b m
   named_edge a b x y m h k e = (edges.each a b m).1 (x, y, h, k, e)
 
-  alike : (x y : LabelName) (m : Mark) → IsEdge program x y m → IsAlike program.types.types (ty x) (ty y)
+  pub alike : (x y : LabelName) (m : Mark) → IsEdge program x y m → IsAlike program.types.types (ty x) (ty y)
   alike x y m e = join_alike program is lowered x y m e
 
   node_of_type : {t : ℕ} {n : NodeId} → IsNodeOf program.types t n → IsNode program.types n
   node_of_type (node_start n at) = at.node
   node_of_type (node_part m n s of steps) = steps.node
 
-  has_node : (x : LabelName) → IsLabel program x → IsNode program.types x.node
+  pub has_node : (x : LabelName) → IsLabel program x → IsNode program.types x.node
   has_node x label = node_of_type (label_there program x label).of
 
   -- the part of another label in its own holder
-  in_holder : (y : LabelName) (n : NodeId) (s : Sel) → Steps program.types y.node s n → IsPart program y s (name_with y.holder n)
+  pub in_holder : (y : LabelName) (n : NodeId) (s : Sel) → Steps program.types y.node s n → IsPart program y s (name_with y.holder n)
   in_holder y n s steps = record { holder = refl; steps = steps }
 
   -- where a pointer points, another of its type points too
@@ -140,7 +140,7 @@ module _ (program : Program) (is : IsTable program.types) (lowered : IsLowered p
           of None e = absurd (none_within labels.entries a e within)
           of (Some entry) e = (entry, e)
 
-  one_global : (a b : ℕ) (x y : LabelName) → Named a x → Named b y → y.holder ≡ x.holder → is_global_at labels b ≡ is_global_at labels a
+  pub one_global : (a b : ℕ) (x y : LabelName) → Named a x → Named b y → y.holder ≡ x.holder → is_global_at labels b ≡ is_global_at labels a
   one_global a b x y h k holder = global_is b y k ∙ ap (is_global_holder program) holder ∙ sym (global_is a x h)
 
   abbrev IsField : Sel → ℕ → ℕ → Type 0

@@ -1,3 +1,4 @@
+pub mod CodeLaws
 pub mod FlowLaws
 pub mod Laws
 pub mod PathLaws

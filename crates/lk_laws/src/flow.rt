@@ -1,5 +1,6 @@
 //! What edges join. Each function is a law, which its contract states.
 ghost use Rattle.lk_laws.specs.RowLaws.{RowsGiveEdges};
+ghost use Rattle.lk_laws.specs.CodeLaws.{WalksGoInside, FunctionsHaveOneCode};
 ghost use Rattle.lk_laws.specs.FlowLaws.{EdgesJoinLabels, EdgesJoinAlike, NoEdgeEndsAtAnOrigin, FunctionsHaveSites, Contents};
 
 /// An edge joins two labels of the program.
@@ -32,4 +33,15 @@ pub fn functions_have_sites()
 /// `void *` points to.
 pub fn contents()
     ensures { Contents }
+{}
+
+/// Where a walk leads from one label to another, one leads from a field or element of the one to that of the other.
+pub fn walks_go_inside()
+    ensures { WalksGoInside }
+{}
+
+/// Where a walk leads from one function to another, what flows through their results goes with it, and what flows through
+/// their parameters against it.
+pub fn functions_have_one_code()
+    ensures { FunctionsHaveOneCode }
 {}

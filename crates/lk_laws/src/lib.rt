@@ -7,8 +7,8 @@ mod laws;
 mod paths;
 
 pub use flow::{
-    contents, edges_join_alike, edges_join_labels, functions_have_sites, no_edge_ends_at_an_origin,
-    rows_give_edges,
+    contents, edges_join_alike, edges_join_labels, functions_have_one_code, functions_have_sites,
+    no_edge_ends_at_an_origin, rows_give_edges, walks_go_inside,
 };
 pub use laws::{
     callees_lock_is_not_kept, guard_is_in_lock_sets, held_is_never_not_held, lock_sets_are_exact,
