@@ -1,0 +1,5 @@
+pub mod Asking
+pub mod Backwards
+pub mod Leading
+pub mod PointStatics
+pub mod Writing

@@ -1,0 +1,4 @@
+pub mod Found
+pub mod GivenLemmas
+pub mod MemberLemmas
+pub mod WholeLemmas

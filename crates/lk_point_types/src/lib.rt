@@ -1,0 +1,17 @@
+//! The types of a program's points, tested.
+#![tactic(auto)]
+
+mod actions;
+mod calls;
+mod cells;
+mod conversions;
+mod fills;
+mod forms;
+mod functions;
+mod objects;
+mod operators;
+mod program;
+mod readers;
+mod roots;
+
+pub use program::have_types;

@@ -1,0 +1,10 @@
+//! How control goes through the points of a program, tested.
+#![tactic(auto)]
+
+mod actions;
+mod ends;
+mod going;
+mod keep;
+mod standing;
+
+pub use keep::keep_ways;
