@@ -1,9 +1,11 @@
 -- The program that checked sources become, whole: besides its points its functions, roots, slots, places and what its storage begins with.
-use Rattle.std.specs.Prelude.{◌≡◌, ◌<◌, ◌⊎◌, ◌-◌, ◌++◌, ℕ, zero, suc, Bool, true, false, List, [], ◌∷◌, Option, None, Some, length, map, take, slice_get, get_or, ⊤}
+use Rattle.std.specs.Prelude.{◌≡◌, ◌↔◌, ◌<◌, ◌⊎◌, ◌-◌, ◌++◌, ℕ, All, zero, suc, Bool, true, false, List, [], ◌∷◌, Option, None, Some, length, map, take, slice_get, get_or, ⊤}
 use Rattle.std.specs.List.{Contains}
 use Rattle.lk_base.specs.declared.cell.CellStep.{CellStep}
 use Rattle.lk_base.specs.declared.kind.Kind.TheVariants.{Char}
 use Rattle.lk_base.specs.declared.spot.Spot.{Spot}
+use Rattle.lk_facts.specs.Lowered.{IsPlaceOfValue, IsPlaceOfMutex}
+use Rattle.lk_facts.specs.Places.{AreDifferent}
 use Rattle.lk_facts.specs.Program.{site_at, value_site_of, root_at, place_at, IsLocation, IsLockPlace}
 use Rattle.lk_facts.specs.Typed.{IsForm}
 use Rattle.lk_facts.specs.declared.function.Function.{Function}
@@ -230,7 +232,10 @@ module _ (whole : Whole) (numbers : Numbers) (program : Program) where
     pub of_b : root_at program b.root ≡ Some rb
     pub before : IsSpotBefore ra.spot rb.spot ⊎ ((ra.spot ≡ rb.spot) × ((a.root < b.root) ⊎ ((a.root ≡ b.root) × (a.node.number < b.node.number))))
 
+  -- the locations are the places of cells with values, and the lock places those of mutexes; both stand in their order
   pub record ArePlaces : Type 0 where
+    pub values : (place : Place) → ((n : ℕ) × IsLocation program n × (place_at program n ≡ Some place)) ↔ IsPlaceOfValue program place
+    pub mutexes : (place : Place) → ((n : ℕ) × IsLockPlace program n × (place_at program n ≡ Some place)) ↔ IsPlaceOfMutex program place
     pub locations : (n m : ℕ) (a b : Place) → IsLocation program n → IsLocation program m → n < m → place_at program n ≡ Some a → place_at program m ≡ Some b → IsPlaceBefore a b
     pub locks : (n m : ℕ) (a b : Place) → IsLockPlace program n → IsLockPlace program m → n < m → place_at program n ≡ Some a → place_at program m ≡ Some b → IsPlaceBefore a b
 
@@ -269,3 +274,14 @@ module _ (whole : Whole) (numbers : Numbers) (program : Program) where
 -- a program made of the sources
 abbrev pub IsMadeOf : Whole → Program → Type 0
 IsMadeOf whole program = (numbers : Numbers) × IsMadeWith whole numbers program
+
+-- more than so many locations and lock places, by the roots and types of a program that is made of the sources
+pub record HasMorePlaces (whole : Whole) (most : ℕ) : Type 0 where
+  pub numbers : Numbers
+  pub program : Program
+  pub roots : AreRoots whole numbers program
+  pub types : AreProgramTypes whole numbers program
+  pub places : List Place
+  pub each : All (λ place. IsPlaceOfValue program place ⊎ IsPlaceOfMutex program place) places
+  pub different : AreDifferent places
+  pub many : most < length places

@@ -11,7 +11,7 @@ use Rattle.lk_lower_expr.specs.Programs.{HasRoot, HasSlot, IsBody, IsRoot, IsSlo
 use Rattle.lk_lower_parts.proofs.FunctionCounts.{at_index}
 use Rattle.lk_lower_parts.proofs.Gathered.{at_later, in_map, length_map, map_at}
 use Rattle.lk_lower_parts.proofs.RootsOf.{at_contained, contains_at, each_root, each_slot, only_roots, only_slots, owns_source}
-use Rattle.lk_lower_parts.specs.Gathers.{AreInOrder, AreNumbered, AreNumbersOf, AreRootsAndSlots, AreSlotsOf, AreTheirTypes, Gathered, IsNodeBefore, IsTested, Rise, argument_roots, count_arguments, slot_node, slot_nodes, source_in, type_of, types_of}
+use Rattle.lk_lower_parts.specs.Gathers.{AreInOrder, AreNumbered, AreNumbersOf, AreRootsAndSlots, AreSlotsOf, AreTheirTypes, Gathered, IsNodeBefore, IsFinished, Rise, argument_roots, count_arguments, slot_node, slot_nodes, source_in, type_of, types_of}
 use Rattle.lk_lower_parts.specs.Wanted.{AreAmong, slots_in}
 use Rattle.lk_lower_parts.specs.declared.counts.FunctionNumbers.{FunctionNumbers}
 use Rattle.lk_lower_parts.specs.declared.numbers.Gathering.{Gathering}
@@ -112,7 +112,7 @@ root_source whole numbers program s _ _ (of_text linked n bytes owner owns) = (l
 root_source whole numbers program s _ _ (of_allocation linked n t u single owner owns type) = (linked, owns_source whole numbers program s linked _ owner owns)
 
 module _ (whole : Whole) (functions : FunctionNumbers) (main : Main) (points : List (List ℕ)) (table : Table) (gathering : Gathering) (found : Numbered) (types : Option ArgumentTypes) (are_types : AreTheirTypes main.has_parameters table types)
-    (gathered : Gathered whole functions points (argument_roots main.spot types) (length whole.sources) table gathering) (tested : IsTested gathering (count_arguments main.has_parameters) (length table.types) found) where
+    (gathered : Gathered whole functions points (argument_roots main.spot types) (length whole.sources) table gathering) (tested : IsFinished gathering (count_arguments main.has_parameters) (length table.types) found) where
   abbrev front : ℕ
   front = count_arguments main.has_parameters
 

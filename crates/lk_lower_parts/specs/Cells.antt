@@ -1,6 +1,13 @@
 -- The cells of the roots, by their places.
-use Rattle.std.specs.Prelude.{◌≡◌, ◌⊎◌, ◌++◌, All, List, [], ◌∷◌}
+use Rattle.std.specs.Prelude.{◌≡◌, ◌<◌, ◌⊎◌, ℕ, All, List, length}
+use Rattle.lk_facts.specs.Lowered.{IsPlaceOfValue, IsPlaceOfMutex}
+use Rattle.lk_facts.specs.Places.{AreDifferent}
 use Rattle.lk_facts.specs.declared.place.Place.{Place}
+use Rattle.lk_facts.specs.declared.program.Program.{Program}
+use Rattle.lk_facts.specs.declared.root.Root.{Root}
+use Rattle.lk_lower_expr.specs.Lowering.{Numbers}
+use Rattle.lk_lower_expr.specs.Programs.{ArePlaces}
+use Rattle.lk_typed.specs.declared.whole.Whole.{Whole}
 use Rattle.lk_types.specs.Nodes.{IsNode}
 use Rattle.lk_types.specs.Table.{Table}
 
@@ -8,11 +15,14 @@ use Rattle.lk_types.specs.Table.{Table}
 abbrev pub IsPlaceIn : Table → Place → Type 0
 IsPlaceIn table place = IsNode table place.node
 
--- those with values, and the mutexes
-pub record AreCells (table : Table) (values locks : List Place) : Type 0 where
-  pub values_in : All (IsPlaceIn table) values
-  pub locks_in : All (IsPlaceIn table) locks
+-- each program with these types and roots, of which these are the places and so many of them locations, has the places that it should
+abbrev pub ArePlacesOf : Table → List Root → List Place → ℕ → Type 0
+ArePlacesOf types roots places locations =
+    (whole : Whole) (numbers : Numbers) (program : Program) → program.types ≡ types → program.roots ≡ roots → program.places ≡ places → program.locations ≡ locations → ArePlaces whole numbers program
 
--- the place is there already, or it is put at the end
-abbrev pub IsPutIn : Place → List Place → List Place → Type 0
-IsPutIn place before after = (after ≡ before) ⊎ (after ≡ before ++ (place ∷ []))
+-- each program with these types and roots should have more than so many places
+pub record HasMorePlacesOf (types : Table) (roots : List Root) (most : ℕ) : Type 0 where
+  pub places : List Place
+  pub each : (program : Program) → program.types ≡ types → program.roots ≡ roots → All (λ place. IsPlaceOfValue program place ⊎ IsPlaceOfMutex program place) places
+  pub different : AreDifferent places
+  pub many : most < length places

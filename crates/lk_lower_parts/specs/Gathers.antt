@@ -68,8 +68,8 @@ abbrev pub AreAllInOrder : List (List ℕ) → List (List NodeAt) → Type 0
 AreAllInOrder by_node rows = (k : ℕ) (nodes : List NodeAt) → slice_get rows k ≡ Some nodes → AreInOrder by_node 0 nodes
 
 -- there are more types than the number of that of any of these roots
-abbrev pub HaveTypes : ℕ → List Root → Type 0
-HaveTypes count roots = (k : ℕ) (root : Root) → slice_get roots k ≡ Some root → root.ty < count
+abbrev pub HaveKnownTypes : ℕ → List Root → Type 0
+HaveKnownTypes count roots = (k : ℕ) (root : Root) → slice_get roots k ≡ Some root → root.ty < count
 
 -- ---- main's arguments
 
@@ -99,12 +99,12 @@ pub record IsBegun (spot : Spot) (types : Option ArgumentTypes) (now : Gathering
   pub slot_nodes_ : now.slot_nodes.items ≡ []
 
 -- the same roots and slots, which have their numbers
-pub record IsTested (gathering : Gathering) (arguments types : ℕ) (found : Numbered) : Type 0 where
+pub record IsFinished (gathering : Gathering) (arguments types : ℕ) (found : Numbered) : Type 0 where
   pub roots : found.roots.items ≡ gathering.roots.items
   pub slots : found.slots.items ≡ gathering.slots.items
   pub in_order : AreInOrder found.by_node.items arguments gathering.nodes.items
   pub slots_in_order : AreAllInOrder found.by_node.items gathering.slot_nodes.items
-  pub typed : HaveTypes types found.roots.items
+  pub typed : HaveKnownTypes types found.roots.items
 
 -- ---- sources
 

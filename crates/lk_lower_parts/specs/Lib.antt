@@ -5,8 +5,10 @@ pub mod Gathers
 pub mod Givens
 pub mod MadeFunctions
 pub mod Mains
+pub mod Parts
 pub mod Sites
 pub mod Sources
 pub mod Tables
 pub mod TextOrder
 pub mod Wanted
+pub mod Within

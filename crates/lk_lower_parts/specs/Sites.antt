@@ -1,7 +1,10 @@
 -- The sites of calls, creations and functions that are used as values.
-use Rattle.std.specs.Prelude.{◌≡◌, ◌+◌, ◌&&◌, ℕ, Bool, true, false, List, [], ◌∷◌, Option, None, Some, length}
-use Rattle.std.specs.Option.{is_some}
+use Rattle.std.specs.Prelude.{◌≡◌, ◌↔◌, ◌<◌, ◌+◌, ◌&&◌, ℕ, Bool, true, false, List, [], ◌∷◌, Option, None, Some, length, slice_get}
+use Rattle.std.specs.Option.{is_some, option_map}
 use Rattle.lk_facts.specs.Effects.{effect_of, entered}
+use Rattle.lk_facts.specs.Lowered.{IsSiteOfOne, IsUsedAsValue}
+use Rattle.lk_facts.specs.Program.{value_site_of}
+use Rattle.lk_facts.specs.declared.action.Action.TheVariants.{Func}
 use Rattle.lk_facts.specs.declared.function.Function.{Function}
 use Rattle.lk_facts.specs.declared.point.Point.{Point}
 use Rattle.lk_facts.specs.declared.program.Program.{Program}
@@ -48,6 +51,14 @@ abbrev pub behind_values : (n : ℕ) → (used : List Bool) → ℕ
 behind_values n [] = n
 behind_values n (has ∷ used) = behind_values (behind_site has n) used
 
+-- a point before k gives a pointer to the function
+abbrev pub IsNamedBefore : List Point → (k f : ℕ) → Type 0
+IsNamedBefore points k f = (p : ℕ) × (p < k) × (option_map (λ point. point.action) (slice_get points p) ≡ Some (Func f))
+
+-- it is said of each of so many functions whether a point gives a pointer to it
+abbrev pub AreUsed : List Point → (count : ℕ) → (used : List Bool) → Type 0
+AreUsed points count used = (f : ℕ) → f < count → (slice_get used f ≡ Some true) ↔ IsNamedBefore points (length points) f
+
 -- these have their sites, which are so many
 pub record HaveSites (points sited_points : List Point) (functions sited_functions : List Function) (count : ℕ) : Type 0 where
   pub used : List Bool
@@ -57,3 +68,8 @@ pub record HaveSites (points sited_points : List Point) (functions sited_functio
   pub count_ : count ≡ behind_values (behind_sites 0 points) used
   -- in each program of them they are its sites
   pub are : (whole : Whole) (numbers : Numbers) (program : Program) → program.points ≡ sited_points → program.functions ≡ sited_functions → AreSites whole numbers program
+  -- each number below that of the sites is the site of exactly one of them
+  pub one : (program : Program) → program.points ≡ sited_points → program.functions ≡ sited_functions → program.sites ≡ count → (i : ℕ) → i < program.sites → IsSiteOfOne program i
+  -- those functions have sites that are used as values
+  pub values : (program : Program) → program.points ≡ sited_points → program.functions ≡ sited_functions → (f : ℕ) → f < length program.functions →
+      ((i : ℕ) × (value_site_of program f ≡ Some i)) ↔ IsUsedAsValue program f

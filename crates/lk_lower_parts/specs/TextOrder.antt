@@ -1,5 +1,5 @@
 -- The order of places by the text.
-use Rattle.std.specs.Prelude.{◌≡◌, ◌<◌, ◌≤◌, ◌⊎◌, ℕ, suc, List, Some, length, slice_get}
+use Rattle.std.specs.Prelude.{◌≡◌, ◌<◌, ◌≤◌, ◌⊎◌, ℕ, suc, List, Some, slice_get}
 use Rattle.lk_facts.specs.declared.place.Place.{Place}
 use Rattle.lk_facts.specs.declared.root.Root.{Root}
 use Rattle.lk_lower_expr.specs.Programs.{IsSpotBefore}
@@ -19,8 +19,3 @@ module _ (roots : List Root) where
   -- of these places from one on to another, each stands before the next
   abbrev pub Ascend : List Place → (from to : ℕ) → Type 0
   Ascend places from to = (n : ℕ) (a b : Place) → from ≤ n → suc n < to → slice_get places n ≡ Some a → slice_get places (suc n) ≡ Some b → IsBefore a b
-
-  -- so many of them are in their order, and those behind them in theirs
-  pub record AreOrdered (places : List Place) (count : ℕ) : Type 0 where
-    pub first : Ascend places 0 count
-    pub others : Ascend places count (length places)

@@ -1,6 +1,6 @@
 //! The order of the nodes that have roots and slots, by their numbers.
 ghost use Rattle.std.specs.Prelude.{◌≡◌, ◌<◌, true, IfOk};
-ghost use Rattle.lk_lower_parts.specs.Gathers.{AreAllInOrder, AreInOrder, HaveNumbers, HaveTypes, IsNodeBefore, IsTested, Rise};
+ghost use Rattle.lk_lower_parts.specs.Gathers.{AreAllInOrder, AreInOrder, HaveNumbers, HaveKnownTypes, IsNodeBefore, IsFinished, Rise};
 ghost use Rattle.lk_lower_parts.specs.Givens.{at_node};
 
 use crate::names::number_at;
@@ -70,7 +70,7 @@ fn are_all_in_order(by_node: &[Seq<u32>], rows: &[Seq<NodeAt>]) -> bool
 
 /// Whether there are more types than the number of that of any root.
 fn have_types(count: u32, roots: &[Root]) -> bool
-    ensures { result ≡ true → HaveTypes count roots.now }
+    ensures { result ≡ true → HaveKnownTypes count roots.now }
 {
     for root in roots {
         if root.ty.0 >= count {
@@ -84,7 +84,7 @@ impl Gathering {
     /// The roots and slots with their numbers. No node of a typed tree has two of them, and they were numbered in the
     /// order of the nodes, so each has its number; and each type of a root was put to the table.
     pub(crate) fn finished(self, arguments: usize, types: u32) -> Result<Numbered, NoMemory>
-        ensures { IfOk result (IsTested self arguments types) }
+        ensures { IfOk result (IsFinished self arguments types) }
     {
         let Gathering {
             roots,

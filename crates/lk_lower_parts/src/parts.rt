@@ -1,4 +1,8 @@
 //! The Parts of `void`.
+ghost use Rattle.std.specs.Prelude.{◌≡◌, IfOk, IfSome, OnOk, length};
+ghost use Rattle.lk_lower_parts.specs.Parts as spec;
+ghost use Rattle.lk_lower_parts.specs.Parts.{AreMarkedParts, AreVoidPartsOf, IsWith, by_conversion, given_of, is_void_type, target_of};
+ghost use Rattle.lk_types.specs.Table.{least_of};
 
 use lk_base::NoMemory;
 use lk_facts::{Action, Point};
@@ -6,7 +10,9 @@ use lk_types::{CType, TypeId, TypeTable};
 use std::alloc::Global;
 
 /// What a type points to, where it is a pointer.
-fn target(types: &TypeTable, t: TypeId) -> Option<TypeId> {
+fn target(types: &TypeTable, t: TypeId) -> Option<TypeId>
+    ensures { result ≡ target_of types.now t }
+{
     if t.0 >= types.count() {
         return None;
     }
@@ -25,12 +31,16 @@ fn target(types: &TypeTable, t: TypeId) -> Option<TypeId> {
 }
 
 /// Whether a type is `void`.
-fn is_void(types: &TypeTable, t: TypeId) -> bool {
+fn is_void(types: &TypeTable, t: TypeId) -> bool
+    ensures { result ≡ is_void_type types.now t }
+{
     t.0 < types.count() && matches!(types.get(t), CType::Void)
 }
 
 /// The type that a conversion from a pointer to a type to a pointer to another gives `void` as a Part.
-fn converted(types: &TypeTable, from: TypeId, to: TypeId) -> Option<TypeId> {
+fn converted(types: &TypeTable, from: TypeId, to: TypeId) -> Option<TypeId>
+    ensures { result ≡ spec.converted types.now from to }
+{
     match (is_void(types, from), is_void(types, to)) {
         (true, false) => Some(to),
         (false, true) => Some(from),
@@ -39,12 +49,16 @@ fn converted(types: &TypeTable, from: TypeId, to: TypeId) -> Option<TypeId> {
 }
 
 /// What the value of a point points to, where it is a pointer.
-fn pointed(types: &TypeTable, point: &Point) -> Option<TypeId> {
+fn pointed(types: &TypeTable, point: &Point) -> Option<TypeId>
+    ensures { result ≡ spec.pointed types.now point.now }
+{
     target(types, point.value?)
 }
 
 /// The type that a conversion of the value of the point `a` gives `void` as a Part.
-fn by_conversion(types: &TypeTable, points: &[Point], point: &Point, a: u32) -> Option<TypeId> {
+fn by_conversion(types: &TypeTable, points: &[Point], point: &Point, a: u32) -> Option<TypeId>
+    ensures { result ≡ spec.by_conversion types.now points.now point.now a }
+{
     let from = pointed(types, points.get(a as usize)?)?;
     let to = pointed(types, point)?;
     converted(types, from, to)
@@ -52,7 +66,9 @@ fn by_conversion(types: &TypeTable, points: &[Point], point: &Point, a: u32) -> 
 
 /// The type that a point gives `void` as a Part: that of which it allocates an object, or whose pointer it converts to or
 /// from `void *`.
-fn given(types: &TypeTable, points: &[Point], point: &Point) -> Option<TypeId> {
+fn given(types: &TypeTable, points: &[Point], point: &Point) -> Option<TypeId>
+    ensures { result ≡ given_of types.now points.now point.now }
+{
     match &point.action {
         Action::Allocate { ty, .. } => Some(*ty),
         Action::Convert { a, .. } => by_conversion(types, points, point, *a),
@@ -103,7 +119,11 @@ fn push_part(
     t: TypeId,
     seen: &mut Vec<bool>,
     parts: &mut Vec<TypeId>,
-) -> Result<(), NoMemory> {
+) -> Result<(), NoMemory>
+    requires { AreMarkedParts seen.old.items parts.old.items }
+    ensures marked { OnOk result (AreMarkedParts seen.new.items parts.new.items) }
+    ensures with { OnOk result (IsWith (least_of types.now t) parts.old.items parts.new.items) }
+{
     if t.0 >= types.count() {
         return Err(NoMemory);
     }
@@ -124,7 +144,9 @@ pub fn void_parts(
     alloc: Global,
     types: &TypeTable,
     points: &[Point],
-) -> Result<Vec<TypeId>, NoMemory> {
+) -> Result<Vec<TypeId>, NoMemory>
+    ensures { IfOk result (λ parts. AreVoidPartsOf types.now points.now parts.items) }
+{
     let mut seen = vec![in alloc; false; types.count() as usize]?;
     let mut parts = Vec::new(alloc);
     for point in points {

@@ -1,21 +1,26 @@
 //! The locations and lock places of the program.
-ghost use Rattle.std.specs.Prelude.{◌≡◌, ◌≢◌, ◌<◌, ◌++◌, ◌∷◌, [], All, Err, IfOk, OnOk};
+ghost use Rattle.std.specs.Prelude.{◌≡◌, ◌≢◌, ◌↔◌, ◌<◌, ◌≤◌, ◌++◌, ◌∷◌, [], All, Err, IfOk, IsTrue, OnOk, Some, length, slice_get};
+ghost use Rattle.lk_facts.specs.Places.{AreDifferent, IsMissing};
 ghost use Rattle.lk_facts.specs.Program.{place_of};
-ghost use Rattle.lk_lower_parts.specs.Cells.{AreCells, IsPlaceIn, IsPutIn};
-ghost use Rattle.lk_lower_parts.specs.TextOrder.{AreOrdered};
-ghost use Rattle.lk_lower_parts.specs.declared.fault.LowerFault.TheVariants.{TooManyPoints};
+ghost use Rattle.lk_lower_parts.specs.Cells.{ArePlacesOf, HasMorePlacesOf, IsPlaceIn};
+ghost use Rattle.lk_lower_parts.specs.Within.{AddsCells, AreCells, AreInOrder, HaveRoots, IsInInner, IsInMembers, IsInObject, IsInPart, IsInRoot, count_of_cells, has_cells};
+ghost use Rattle.lk_lower_parts.specs.declared.fault.LowerFault.TheVariants.{TooManyPlaces, TooManyPoints};
 ghost use Rattle.lk_types.specs.Nodes.{IsNode, IsSel};
+ghost use Rattle.lk_types.specs.Table.{fields_of};
+ghost use Rattle.lk_types.specs.declared.c_type.CType.TheVariants.{Struct};
 
 use crate::counts::{behind, count_of};
 use crate::fault::LowerFault;
-use crate::text::are_ordered;
+use crate::text::are_in_order;
 use lk_base::{MOST_LABELS, MOST_TYPE_STEPS, NoMemory, Spot};
 use lk_facts::{Place, Places, Root, RootKind};
 use lk_types::{CType, NodeId, Sel, TypeTable};
 use std::alloc::Global;
 
 /// Whether the parts of a root's object are cells that can be written.
-fn holds_cells(kind: RootKind) -> bool {
+fn has_cells(kind: RootKind) -> bool
+    ensures { result ≡ has_cells kind }
+{
     match kind {
         RootKind::Global
         | RootKind::Static
@@ -62,30 +67,30 @@ fn push_place(part: &PartOf, places: &mut Vec<Place>) -> Result<(), NoMemory>
 
 impl Cells {
     /// Whether they are more than there may be.
-    fn is_full(&self) -> bool {
+    fn is_full(&self) -> bool
+        ensures { IsTrue result ↔ (65536 < count_of_cells self.now) }
+    {
         self.values.len() > MOST_LABELS as usize
             || self.locks.len() > MOST_LABELS as usize
             || self.values.len() + self.locks.len() > MOST_LABELS as usize
     }
 
     /// Adds a cell with a value.
-    fn push_value(&mut self, types: &TypeTable, part: &PartOf) -> Result<(), NoMemory>
-        requires node { IsNode types.now part.now.node }
-        requires cells { AreCells types.now self.old.values.items self.old.locks.items }
-        ensures { OnOk result (AreCells types.now self.new.values.items self.new.locks.items) }
+    fn push_value(&mut self, part: &PartOf) -> Result<(), NoMemory>
+        ensures values { OnOk result
+            (self.new.values.items ≡ self.old.values.items ++ place_of part.now.root part.now.node ∷ []) }
+        ensures locks { OnOk result (self.new.locks.items ≡ self.old.locks.items) }
     {
-        push_place(part, &mut self.values)?;
-        Ok(())
+        push_place(part, &mut self.values)
     }
 
     /// Adds a mutex.
-    fn push_lock(&mut self, types: &TypeTable, part: &PartOf) -> Result<(), NoMemory>
-        requires node { IsNode types.now part.now.node }
-        requires cells { AreCells types.now self.old.values.items self.old.locks.items }
-        ensures { OnOk result (AreCells types.now self.new.values.items self.new.locks.items) }
+    fn push_lock(&mut self, part: &PartOf) -> Result<(), NoMemory>
+        ensures values { OnOk result (self.new.values.items ≡ self.old.values.items) }
+        ensures locks { OnOk result
+            (self.new.locks.items ≡ self.old.locks.items ++ place_of part.now.root part.now.node ∷ []) }
     {
-        push_place(part, &mut self.locks)?;
-        Ok(())
+        push_place(part, &mut self.locks)
     }
 
     /// Adds the cells of the part to which a step leads. No type has more parts inside one another than its steps.
@@ -93,8 +98,7 @@ impl Cells {
     fn push_inner(&mut self, types: &TypeTable, part: &PartOf, sel: Sel) -> Result<(), NoMemory>
         requires node { IsNode types.now part.now.node }
         requires sel { IsSel types.now sel }
-        requires cells { AreCells types.now self.old.values.items self.old.locks.items }
-        ensures { OnOk result (AreCells types.now self.new.values.items self.new.locks.items) }
+        ensures { OnOk result (AddsCells types.now (IsInInner types.now part.now sel) self.old self.new) }
     {
         if part.left == 0 {
             return Err(NoMemory);
@@ -116,8 +120,8 @@ impl Cells {
     #[cycle(adds)]
     fn push_members(&mut self, types: &TypeTable, part: &PartOf, count: u32) -> Result<(), NoMemory>
         requires node { IsNode types.now part.now.node }
-        requires cells { AreCells types.now self.old.values.items self.old.locks.items }
-        ensures { OnOk result (AreCells types.now self.new.values.items self.new.locks.items) }
+        ensures { OnOk result
+            (AddsCells types.now (IsInMembers types.now part.now count) self.old self.new) }
     {
         for k in 0..count {
             self.push_inner(types, part, Sel::Field(k))?;
@@ -125,19 +129,18 @@ impl Cells {
         Ok(())
     }
 
-    /// Adds the cells of a part.
+    /// Adds the cells of a part, unless they are too many already.
     #[cycle(adds)]
     fn push(&mut self, types: &TypeTable, part: &PartOf) -> Result<(), NoMemory>
         requires node { IsNode types.now part.now.node }
-        requires cells { AreCells types.now self.old.values.items self.old.locks.items }
-        ensures { OnOk result (AreCells types.now self.new.values.items self.new.locks.items) }
+        ensures { OnOk result (AddsCells types.now (IsInPart types.now part.now) self.old self.new) }
     {
         if self.is_full() {
             return Ok(());
         }
         match types.get(types.node_type(part.node)) {
-            CType::Int(_) | CType::ThreadId | CType::Pointer(_) => self.push_value(types, part),
-            CType::Mutex => self.push_lock(types, part),
+            CType::Int(_) | CType::ThreadId | CType::Pointer(_) => self.push_value(part),
+            CType::Mutex => self.push_lock(part),
             CType::Array(_, _) => self.push_inner(types, part, Sel::Element),
             CType::Struct(s) => self.push_members(types, part, count_members(types, *s)?),
             CType::Void | CType::Cond | CType::Function { .. } | CType::Opaque(_) => Ok(()),
@@ -146,7 +149,9 @@ impl Cells {
 }
 
 /// How many members a struct has. Each that is asked for is in the table.
-fn count_members(types: &TypeTable, s: u32) -> Result<u32, NoMemory> {
+fn count_members(types: &TypeTable, s: u32) -> Result<u32, NoMemory>
+    ensures { IfOk result (λ count. count ≡ length (fields_of types.now (Struct s))) }
+{
     if s >= types.structs() {
         return Err(NoMemory);
     }
@@ -156,8 +161,10 @@ fn count_members(types: &TypeTable, s: u32) -> Result<u32, NoMemory> {
 /// A root, by its place in the text and its number: what stands first has the least of these.
 type InText = (u32, u32, u32, u32);
 
-/// The roots in the order of their places in the text, those of one place in that of their numbers.
-fn in_order(alloc: Global, roots: &[Root]) -> Result<Vec<InText>, NoMemory> {
+/// The roots with their places in the text.
+fn in_text(alloc: Global, roots: &[Root]) -> Result<Vec<InText>, NoMemory>
+    ensures { IfOk result (λ order. HaveRoots order.items (length roots.now)) }
+{
     let mut order = Vec::new(alloc);
     let mut number = 0;
     for root in roots {
@@ -165,8 +172,23 @@ fn in_order(alloc: Global, roots: &[Root]) -> Result<Vec<InText>, NoMemory> {
         order.push((file, line, col, number))?;
         number = behind(number, 1)?;
     }
+    Ok(order)
+}
+
+/// The roots in the order of their places in the text, those of one place in that of their numbers.
+fn in_order(alloc: Global, roots: &[Root]) -> Result<Vec<InText>, NoMemory>
+    ensures { IfOk result (λ order. HaveRoots order.items (length roots.now)) }
+{
+    let mut order = in_text(alloc, roots)?;
     order.sort()?;
     Ok(order)
+}
+
+/// The root with a number.
+fn root_at(roots: &[Root], root: u32) -> Result<&Root, NoMemory>
+    ensures { IfOk result (λ object. slice_get roots.now root ≡ Some object.now) }
+{
+    roots.get(root as usize).ok_or(NoMemory)
 }
 
 /// Adds the cells of a root, where they can be written. Its type is in the table.
@@ -176,41 +198,54 @@ fn push_root(
     root: u32,
     cells: &mut Cells,
 ) -> Result<(), NoMemory>
-    requires cells { AreCells types.now cells.old.values.items cells.old.locks.items }
-    ensures { OnOk result (AreCells types.now cells.new.values.items cells.new.locks.items) }
+    ensures { OnOk result
+        (AddsCells types.now (IsInRoot types.now roots.now root) cells.old cells.new) }
 {
-    let is = roots.get(root as usize).ok_or(NoMemory)?;
-    if !holds_cells(is.kind) {
+    let object = root_at(roots, root)?;
+    if !has_cells(object.kind) {
         return Ok(());
     }
-    if is.ty.0 >= types.count() {
+    if object.ty.0 >= types.count() {
         return Err(NoMemory);
     }
     let whole = PartOf {
         root,
-        node: types.start_node(is.ty),
+        node: types.start_node(object.ty),
         left: MOST_TYPE_STEPS,
     };
     cells.push(types, &whole)
 }
 
-/// The cells of all roots.
-fn cells_of(alloc: Global, types: &TypeTable, roots: &[Root]) -> Result<Cells, NoMemory>
-    ensures { IfOk result (λ cells. AreCells types.now cells.values.items cells.locks.items) }
+/// The cells of all roots, root by root as these stand in the text.
+fn all_cells(alloc: Global, types: &TypeTable, roots: &[Root]) -> Result<Cells, NoMemory>
+    ensures { IfOk result (AreCells types.now (IsInObject types.now roots.now)) }
 {
+    let order = in_order(alloc, roots)?;
     let mut cells = Cells {
         values: Vec::new(alloc),
         locks: Vec::new(alloc),
     };
-    for (_, _, _, root) in &in_order(alloc, roots)? {
+    for (_, _, _, root) in &order {
         push_root(types, roots, *root, &mut cells)?;
     }
     Ok(cells)
 }
 
+/// The cells of all roots. They are found in the order of their places.
+fn cells_of(alloc: Global, types: &TypeTable, roots: &[Root]) -> Result<Cells, NoMemory>
+    ensures cells { IfOk result (AreCells types.now (IsInObject types.now roots.now)) }
+    ensures order { IfOk result (AreInOrder roots.now) }
+{
+    let cells = all_cells(alloc, types, roots)?;
+    are_in_order(roots, &cells.values)?;
+    are_in_order(roots, &cells.locks)?;
+    Ok(cells)
+}
+
 /// Puts a place behind others. They are never so many that there is no room.
 fn put(place: Place, places: &mut Places) -> Result<(), NoMemory>
-    ensures { OnOk result (IsPutIn place places.old places.new) }
+    requires { IsMissing places.old place }
+    ensures { OnOk result (places.new ≡ places.old ++ place ∷ []) }
 {
     if places.len() >= MOST_LABELS as usize {
         return Err(NoMemory);
@@ -220,15 +255,25 @@ fn put(place: Place, places: &mut Places) -> Result<(), NoMemory>
 }
 
 /// Puts places behind others.
-fn put_all(types: &TypeTable, list: &[Place], places: &mut Places) -> Result<(), NoMemory>
-    requires list { All (IsPlaceIn types.now) list.now }
-    requires places { All (IsPlaceIn types.now) places.old }
-    ensures { OnOk result (All (IsPlaceIn types.now) places.new) }
+fn put_all(list: &[Place], places: &mut Places) -> Result<(), NoMemory>
+    requires { AreDifferent (places.old ++ list.now) }
+    ensures { OnOk result (places.new ≡ places.old ++ list.now) }
 {
     for place in list {
         put(*place, places)?;
     }
     Ok(())
+}
+
+/// The places of cells: first of those with values, then of the mutexes.
+fn places_of(alloc: Global, cells: &Cells) -> Result<Places, NoMemory>
+    requires { AreDifferent (cells.now.values.items ++ cells.now.locks.items) }
+    ensures { IfOk result (λ places. places ≡ cells.now.values.items ++ cells.now.locks.items) }
+{
+    let mut places = Places::new(alloc);
+    put_all(&cells.values, &mut places)?;
+    put_all(&cells.locks, &mut places)?;
+    Ok(places)
 }
 
 /// The locations and behind them the lock places, and how many of them are locations.
@@ -244,17 +289,16 @@ pub struct AllPlaces {
 /// `TooManyPlaces` comes exactly where there are more than 65,536 of both together, unless memory ends first.
 pub fn all_places(alloc: Global, types: &TypeTable, roots: &[Root]) -> Result<AllPlaces, LowerFault>
     ensures nodes { IfOk result (λ found. All (IsPlaceIn types.now) found.places) }
-    ensures order { IfOk result (λ found. AreOrdered roots.now found.places found.locations) }
+    ensures places { IfOk result (λ found. ArePlacesOf types.now roots.now found.places found.locations) }
+    ensures few { IfOk result (λ found. length found.places ≤ 65536) }
+    ensures many { result ≡ Err TooManyPlaces → HasMorePlacesOf types.now roots.now 65536 }
     ensures points { result ≢ Err TooManyPoints }
 {
-    let found = cells_of(alloc, types, roots)?;
-    if found.is_full() {
+    let cells = cells_of(alloc, types, roots)?;
+    if cells.is_full() {
         return Err(LowerFault::TooManyPlaces);
     }
-    let mut places = Places::new(alloc);
-    put_all(types, &found.values, &mut places)?;
-    put_all(types, &found.locks, &mut places)?;
-    let locations = count_of(found.values.len())?;
-    are_ordered(roots, places.list(), locations)?;
+    let places = places_of(alloc, &cells)?;
+    let locations = count_of(cells.values.len())?;
     Ok(AllPlaces { places, locations })
 }

@@ -1,7 +1,7 @@
 //! The sites of calls, creations and functions that are used as values.
-ghost use Rattle.std.specs.Prelude.{◌≡◌, IfOk, OnOk, length};
+ghost use Rattle.std.specs.Prelude.{◌≡◌, true, IfOk, OnOk, length, slice_set};
 ghost use Rattle.lk_lower_parts.specs.Sites as spec;
-ghost use Rattle.lk_lower_parts.specs.Sites.{HaveSites, behind_sites, behind_values, has_site, site_by, sited, valued};
+ghost use Rattle.lk_lower_parts.specs.Sites.{AreUsed, HaveSites, behind_sites, behind_values, has_site, site_by, sited, valued};
 
 use crate::counts::behind;
 use lk_base::NoMemory;
@@ -45,7 +45,7 @@ fn give_points(points: &mut Vec<Point>) -> Result<u32, NoMemory>
 
 /// Notes that a point gives a pointer to a function.
 fn note(function: u32, used: &mut Vec<bool>)
-    ensures { length used.new.items ≡ length used.old.items }
+    ensures { used.new.items ≡ slice_set used.old.items function true }
 {
     let f = function as usize;
     if f < used.len() {
@@ -55,7 +55,8 @@ fn note(function: u32, used: &mut Vec<bool>)
 
 /// Of each function whether a point gives a pointer to it.
 fn used(alloc: Global, points: &[Point], functions: usize) -> Result<Vec<bool>, NoMemory>
-    ensures { IfOk result (λ used. length used.items ≡ functions) }
+    ensures long { IfOk result (λ used. length used.items ≡ functions) }
+    ensures each { IfOk result (λ used. AreUsed points.now functions used.items) }
 {
     let mut used = vec![in alloc; false; functions]?;
     for point in points {

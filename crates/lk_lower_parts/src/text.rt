@@ -1,7 +1,7 @@
 //! The order of places by the text.
-ghost use Rattle.std.specs.Prelude.{◌≡◌, ◌<◌, ◌≤◌, ◌⊎◌, true, OnOk, length};
+ghost use Rattle.std.specs.Prelude.{◌≡◌, ◌<◌, ◌⊎◌, true, OnOk, length};
 ghost use Rattle.lk_lower_expr.specs.Programs.{IsSpotBefore};
-ghost use Rattle.lk_lower_parts.specs.TextOrder.{AreOrdered, Ascend, IsBefore, IsBeforeOf};
+ghost use Rattle.lk_lower_parts.specs.TextOrder.{Ascend, IsBefore, IsBeforeOf};
 
 use lk_base::{NoMemory, Spot};
 use lk_facts::{Place, Root};
@@ -46,15 +46,11 @@ fn is_before(roots: &[Root], a: &Place, b: &Place) -> bool
     }
 }
 
-/// Whether of these places from one on to another each stands before the next.
-fn ascend(roots: &[Root], places: &[Place], from: usize, to: usize) -> bool
-    requires { to ≤ length places.now }
-    ensures { result ≡ true → Ascend roots.now places.now from to }
+/// Whether each of these places stands before the next.
+fn ascend(roots: &[Root], places: &[Place]) -> bool
+    ensures { result ≡ true → Ascend roots.now places.now 0 (length places.now) }
 {
-    if from >= to {
-        return true;
-    }
-    for k in from + 1..to {
+    for k in 1..places.len() {
         if !is_before(roots, &places[k - 1], &places[k]) {
             return false;
         }
@@ -62,15 +58,11 @@ fn ascend(roots: &[Root], places: &[Place], from: usize, to: usize) -> bool
     true
 }
 
-/// That so many places are in their order, and those behind them in theirs. They were found in it.
-pub(crate) fn are_ordered(roots: &[Root], places: &[Place], count: u32) -> Result<(), NoMemory>
-    ensures { OnOk result (AreOrdered roots.now places.now count) }
+/// That places are in their order. They were found in it.
+pub(crate) fn are_in_order(roots: &[Root], places: &[Place]) -> Result<(), NoMemory>
+    ensures { OnOk result (Ascend roots.now places.now 0 (length places.now)) }
 {
-    let count = count as usize;
-    if count <= places.len()
-        && ascend(roots, places, 0, count)
-        && ascend(roots, places, count, places.len())
-    {
+    if ascend(roots, places) {
         Ok(())
     } else {
         Err(NoMemory)

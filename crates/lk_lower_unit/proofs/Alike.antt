@@ -5,7 +5,7 @@ use Rattle.std.proofs.lemmas.List.{length_push}
 use Rattle.lk_facts.specs.declared.action.Action.{Action}
 use Rattle.lk_lower_expr.specs.Library.{Called, by_name, by_pointer}
 use Rattle.lk_lower_expr.specs.Names.{Names, Node}
-use Rattle.lk_lower_expr.specs.Parts.{Part, computes, first_of, followed, goes, in_turn, paren_of, place_of, slot_part, standing_at, stands_for, with_value}
+use Rattle.lk_lower_expr.specs.Parts.{Part, computes, followed, goes, in_turn, paren_of, place_of, slot_part, standing_at, stands_for, with_value}
 use Rattle.lk_lower_expr.specs.Walk.{Walk, nothing, own, ◌then◌}
 use Rattle.lk_lower_expr.specs.declared.step.Step.{Step}
 

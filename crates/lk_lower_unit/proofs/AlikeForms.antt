@@ -1,18 +1,17 @@
 -- Each form of expression has the same steps whatever the numbers are.
-use Rattle.std.proofs.Common.{ap, sym, subst, ◌∙◌, ◌≡◌, ◌+◌, ◌||◌, ℕ, ℤ, Bool, true, false, Option, None, Some, List, [], ◌∷◌, ◌++◌, length, map, nat_eq, refl}
-use Rattle.std.specs.Prelude.{if◌then◌else◌, suc, pos}
-use Rattle.std.specs.Bool.{⊤}
+use Rattle.std.proofs.Common.{ap, sym, subst, ◌∙◌, ◌≡◌, ◌||◌, ℕ, Bool, true, false, Option, None, Some, List, [], ◌∷◌, length, nat_eq, refl}
+use Rattle.std.specs.Prelude.{if◌then◌else◌, suc}
 use Rattle.lk_arith.specs.declared.operators.Op.{Op}
 use Rattle.lk_base.specs.declared.kind.Kind.TheVariants.{Int as IntKind}
 use Rattle.lk_facts.specs.declared.action.Action.{Action}
 use Rattle.lk_lower_expr.specs.Library as calls
 use Rattle.lk_lower_expr.specs.Library.{Called, by_name, by_pointer, is_text, scans, texts_of}
 use Rattle.lk_lower_expr.specs.Names.{Names, Node}
-use Rattle.lk_lower_expr.specs.Parts.{Part, computes, goes, place_of, then_one, with_value}
+use Rattle.lk_lower_expr.specs.Parts.{Part, computes, place_of, then_one, with_value}
 use Rattle.lk_lower_expr.specs.Values as rules
 use Rattle.lk_lower_expr.specs.Values.{choice_of, choice_part, compound_part, is_pointer, name_of, slot_named, step_part}
 use Rattle.lk_lower_expr.specs.declared.step.Step.{Step}
-use Rattle.lk_lower_unit.proofs.Alike.{AlikeCalled, AlikeNames, AlikeParts, AlikeSlots, AllAlike, append_alike, computes_alike, followed_alike, goes_alike, in_turn_alike, paren_alike, place_alike, slot_part_alike, stands_for_alike, with_value_alike}
+use Rattle.lk_lower_unit.proofs.Alike.{AlikeCalled, AlikeNames, AlikeParts, AlikeSlots, AllAlike, append_alike, computes_alike, goes_alike, in_turn_alike, place_alike, slot_part_alike, with_value_alike}
 use Rattle.lk_tree.specs.declared.operators.StepOperator.{StepOperator}
 use Rattle.lk_typed.specs.declared.expression.Change.{Change}
 use Rattle.lk_typed.specs.declared.expression.Storage.{Storage}

@@ -1,7 +1,6 @@
 -- Each statement and each initialiser has the same steps whatever the numbers are.
 use Rattle.std.proofs.Common.{ap, sym, subst, ◌∙◌, ◌≡◌, ◌+◌, ℕ, Option, None, Some, List, [], ◌∷◌, ◌++◌, length, length-append, map, refl}
 use Rattle.std.specs.Prelude.{suc, false}
-use Rattle.std.specs.Bool.{⊤}
 use Rattle.lk_base.specs.declared.cell.CellStep.{CellStep}
 use Rattle.lk_base.specs.declared.cell.CellStep.TheVariants.{Field, Index}
 use Rattle.lk_base.specs.declared.spot.Spot.{Spot}
@@ -34,7 +33,7 @@ use Rattle.lk_typed.specs.declared.statement.LocalInit.{LocalInit}
 use Rattle.lk_typed.specs.declared.statement.TypedFirst.{TypedFirst}
 use Rattle.lk_typed.specs.declared.statement.TypedFirst.TheVariants as for_first
 use Rattle.lk_typed.specs.declared.statement.TypedItem.{TypedItem, roll-TypedItem}
-use Rattle.lk_typed.specs.declared.statement.TypedItem.TheFolds.{fold-roll-TypedItem, fold-roll-TypedStmt, fold-roll-TypedStmtForm, ind-TypedStmt, map-TypedItem, map-TypedStmt, map-TypedStmtForm}
+use Rattle.lk_typed.specs.declared.statement.TypedItem.TheFolds.{fold-roll-TypedItem, fold-roll-TypedStmt, fold-roll-TypedStmtForm, ind-TypedStmt, map-TypedItem, map-TypedStmtForm}
 use Rattle.lk_typed.specs.declared.statement.TypedItem.TheOpen.{TypedItem-F, TypedStmtForm-F, TypedStmt-F}
 use Rattle.lk_typed.specs.declared.statement.TypedStmt.{TypedStmt, roll-TypedStmt}
 use Rattle.lk_typed.specs.declared.statement.TypedStmtForm.{TypedStmtForm, roll-TypedStmtForm}

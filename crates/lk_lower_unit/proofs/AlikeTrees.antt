@@ -1,5 +1,5 @@
 -- Each expression has the same steps whatever the numbers are, by induction over typed trees.
-use Rattle.std.proofs.Common.{ap, sym, subst, ◌∙◌, ◌≡◌, ℕ, Option, None, Some, List, [], ◌∷◌, length, map, refl}
+use Rattle.std.proofs.Common.{ap, sym, subst, ◌≡◌, ℕ, Option, None, Some, List, [], ◌∷◌, length, map, refl}
 use Rattle.lk_facts.specs.declared.action.Action.{Action}
 use Rattle.lk_lower_expr.specs.Expressions.{part, form_part, library_part, callee_part, of_callee, of_form, of_library, of_expr}
 use Rattle.lk_lower_expr.specs.Library.{Called}
@@ -9,7 +9,7 @@ use Rattle.lk_lower_expr.specs.declared.step.Step.{Step}
 use Rattle.lk_lower_unit.proofs.Alike.{AlikeCalled, AlikeNames, AlikeParts, AllAlike, computes_alike, followed_alike, paren_alike, standing_alike, stands_for_alike}
 use Rattle.lk_lower_unit.proofs.AlikeForms.{and_alike, assign_alike, call_alike, change_alike, choice_alike, comma_alike, compound_alike, name_alike, one_alike, or_alike, print_alike}
 use Rattle.lk_typed.specs.declared.expression.Callee.{Callee, roll-Callee}
-use Rattle.lk_typed.specs.declared.expression.Callee.TheFolds.{fold-roll-Callee, fold-roll-LibraryCall, fold-roll-TypedExpr, fold-roll-TypedForm, ind-TypedExpr, map-Callee, map-LibraryCall, map-TypedExpr, map-TypedForm}
+use Rattle.lk_typed.specs.declared.expression.Callee.TheFolds.{fold-roll-Callee, fold-roll-LibraryCall, fold-roll-TypedExpr, fold-roll-TypedForm, ind-TypedExpr, map-Callee, map-LibraryCall, map-TypedForm}
 use Rattle.lk_typed.specs.declared.expression.Callee.TheOpen.{Callee-F, TypedForm-F, LibraryCall-F, TypedExpr-F}
 use Rattle.lk_typed.specs.declared.expression.TypedExpr.{TypedExpr, roll-TypedExpr}
 use Rattle.lk_typed.specs.declared.expression.TypedForm.{TypedForm, roll-TypedForm}

@@ -10,6 +10,7 @@ use Rattle.lk_lower_expr.specs.declared.step.Step.{Step}
 use Rattle.lk_lower_parts.specs.MadeFunctions.{AreMade, IsMade, StandsGiven}
 use Rattle.lk_lower_parts.specs.Sites.{HaveSites, behind_site, has_site, site_by, sited, valued, with_site, with_value_site}
 use Rattle.lk_lower_parts.specs.declared.names.Given.{Given}
+use Rattle.lk_lower_unit.proofs.Living.{have_life}
 use Rattle.lk_lower_unit.specs.Made.{IsCode}
 use Rattle.lk_lower_unit.specs.Placed.{AreAlive, AreAllPlaced, lived, numbers_of, point_of, with_life}
 use Rattle.lk_lower_unit.specs.declared.programs.Code.{Code}
@@ -67,17 +68,17 @@ made_with_site whole s linked body n points by_node slots is site made = record 
   slots_ = made.slots_;
 }
 
-module _ (given : Given) (table : Table) (slots : List (List ℕ)) (count : ℕ) (all alive points : List Point) (functions sited_functions : List Function) (sites : ℕ) (code : Code) (placed : AreAllPlaced given table count all) (are_alive : AreAlive all alive)
-    (made : AreMade given slots functions) (have : HaveSites alive points functions sited_functions sites) (points_put : code.points.items ≡ points) (functions_put : code.functions.items ≡ sited_functions) where
+module _ (given : Given) (table : Table) (slots : List (List ℕ)) (count : ℕ) (all alive points : List Point) (functions sited_functions : List Function) (sites : ℕ) (code : Code) (placed : AreAllPlaced given table count all) (are_alive : AreAlive functions all alive)
+    (made : AreMade given slots functions) (have : HaveSites alive points functions sited_functions sites) (points_put : code.points.items ≡ points) (functions_put : code.functions.items ≡ sited_functions) (sites_put : code.sites ≡ sites) where
   many_points : length points ≡ count
-  many_points = ap length have.points_ ∙ (length_sited alive 0 ∙ (ap length are_alive.1 ∙ (length_lived are_alive.0 all ∙ placed.as_many)))
+  many_points = ap length have.points_ ∙ (length_sited alive 0 ∙ (ap length are_alive.said ∙ (length_lived are_alive.live all ∙ placed.as_many)))
 
   point_there : (program : Program) → program.points ≡ code.points.items → given.functions.now.count ≡ length program.functions → (s o k : ℕ) (is : Step) (function : ℕ) → StandsIn given.whole.now (numbers_of given table) program s o k is function →
       IsPointOf given.whole.now (numbers_of given table) program ((numbers_of given table).point s o k) is function
   point_there program points_are counted s o k is function stands =
       let at_first = placed.placed program s o k is function counted stands in
-      let at_alive = lived_at are_alive.0 all ((numbers_of given table).point s o k) (point_of is function) at_first in
-      let at_sited = sited_at alive 0 ((numbers_of given table).point s o k) (with_life at_alive.0 (point_of is function)) (subst (λ xs. slice_get xs ((numbers_of given table).point s o k) ≡ Some (with_life at_alive.0 (point_of is function))) (sym are_alive.1) at_alive.1) in
+      let at_alive = lived_at are_alive.live all ((numbers_of given table).point s o k) (point_of is function) at_first in
+      let at_sited = sited_at alive 0 ((numbers_of given table).point s o k) (with_life at_alive.0 (point_of is function)) (subst (λ xs. slice_get xs ((numbers_of given table).point s o k) ≡ Some (with_life at_alive.0 (point_of is function))) (sym are_alive.said) at_alive.1) in
       record {
         point = with_site at_sited.0 (with_life at_alive.0 (point_of is function));
         at = subst (λ xs. slice_get xs ((numbers_of given table).point s o k) ≡ Some (with_site at_sited.0 (with_life at_alive.0 (point_of is function)))) (sym (points_are ∙ (points_put ∙ have.points_))) at_sited.1;
@@ -106,4 +107,5 @@ module _ (given : Given) (table : Table) (slots : List (List ℕ)) (count : ℕ)
     many_functions = ap length functions_put ∙ (ap length have.functions_ ∙ (length_valued have.used functions _ ∙ made.count));
     functions_ = function_there;
     sites_ = λ whole numbers program ps fs. have.are whole numbers program (ps ∙ points_put) (fs ∙ functions_put);
+    life = λ program ps fs ss. have_life functions all alive points sited_functions sites are_alive have program (ps ∙ points_put) (fs ∙ functions_put) (ss ∙ sites_put);
   }

@@ -1,5 +1,5 @@
 -- How counts of steps are raised, step by step.
-use Rattle.std.proofs.Common.{arith, ap, sym, subst, ◌∙◌, ◌≡◌, ◌<◌, ◌≤◌, ◌+◌, ◌-◌, ◌⊎◌, inl, inr, ℕ, zero, suc, List, [], ◌∷◌, ◌++◌, length, get_or, take, refl}
+use Rattle.std.proofs.Common.{arith, sym, subst, ◌∙◌, ◌≡◌, ◌<◌, ◌+◌, inl, inr, ℕ, suc, List, [], ◌∷◌, ◌++◌, get_or, refl}
 use Rattle.lk_lower_unit.proofs.Steps.{Among, among, among_either, among_left, among_right, contained}
 use Rattle.lk_lower_unit.specs.StepCounts.{CountsSteps, Raises}
 use Rattle.lk_lower_unit.specs.declared.standing.StandingStep.{StandingStep}

@@ -1,5 +1,5 @@
 -- The steps of the initialiser of an object of static storage, as they are added.
-use Rattle.std.proofs.Common.{ap, sym, ◌∙◌, ◌≡◌, ℕ, List, [], ◌∷◌, ◌++◌, length, map, refl, Result, Ok, Err, OnOk}
+use Rattle.std.proofs.Common.{ap, sym, ◌∙◌, ◌≡◌, ℕ, List, [], ◌++◌, length, map, refl, Result, Ok, Err, OnOk}
 use Rattle.lk_lower_expr.specs.Initialisers.{numbered}
 use Rattle.lk_lower_expr.specs.Laid.{laid, laid_from}
 use Rattle.lk_lower_expr.specs.Names.{Names, Node}

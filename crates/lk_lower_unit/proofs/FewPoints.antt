@@ -1,5 +1,5 @@
 -- A program whose points have numbers has no more of them than there may be.
-use Rattle.std.proofs.Common.{◌≡◌, ◌<◌, ℕ, arith, refl}
+use Rattle.std.proofs.Common.{arith, refl}
 use Rattle.lk_facts.specs.declared.program.Program.{Program}
 use Rattle.lk_lower_expr.specs.Lowering.{Numbers}
 use Rattle.lk_lower_unit.specs.Counting.{number_by}

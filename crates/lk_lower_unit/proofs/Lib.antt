@@ -1,3 +1,4 @@
+pub mod AllLowered
 pub mod Adding
 pub mod Alike
 pub mod AlikeForms
@@ -8,7 +9,9 @@ pub mod Counted
 pub mod Ending
 pub mod FewPoints
 pub mod Laying
+pub mod Living
 pub mod MadeOf
+pub mod MadeRoots
 pub mod Numbering
 pub mod PlaceNodes
 pub mod Placing

@@ -1,33 +1,26 @@
 -- The program that is put together is made of the sources.
 use mathlib.Core.Path.{fun_ext}
-use Rattle.std.proofs.Common.{arith, ap, sym, subst, ◌∙◌, ◌≡◌, ◌<◌, ◌≤◌, ◌+◌, ◌-◌, ◌++◌, ℕ, zero, suc, Bool, true, false, List, [], length, get_or, map, take, slice_get, Option, None, Some, refl, append-nil}
-use Rattle.std.specs.Prelude.{nat_lt}
-use Rattle.std.proofs.lemmas.Bool.{false≢true, lt-ltb}
+use Rattle.std.proofs.Common.{ap, sym, subst, ◌∙◌, ◌≡◌, ◌<◌, ◌≤◌, ◌+◌, ℕ, Bool, true, false, List, [], length, get_or, map, take, slice_get, Some, refl}
 use Rattle.std.proofs.lemmas.Option.{get_or_from_slice_get, same_Some, slice_get_within}
 use Rattle.lk_base.specs.declared.cell.CellStep.{CellStep}
-use Rattle.lk_base.specs.declared.spot.Spot.{Spot}
-use Rattle.lk_facts.specs.Program.{place_at}
 use Rattle.lk_facts.specs.Typed.{IsForm}
 use Rattle.lk_facts.specs.declared.function.Function.{Function}
-use Rattle.lk_facts.specs.declared.place.Place.{Place}
 use Rattle.lk_facts.specs.declared.program.Program.{Program}
 use Rattle.lk_facts.specs.declared.root.Holder.{Holder}
 use Rattle.lk_lower_expr.specs.Cells.{cell_node}
 use Rattle.lk_lower_expr.specs.Lowering.{ArePoints, Counts, Numbers}
-use Rattle.lk_lower_expr.specs.Programs.{AreFunctions, ArePlaces, AreRoots, HasFunction, HasRoot, HaveArguments, IsBody, IsDefined, IsFunction, IsMadeOf, IsMadeWith, IsPlaceBefore, IsTypeHere, arguments, holder_by, holder_of}
-use Rattle.lk_lower_parts.proofs.Ordered.{in_order}
+use Rattle.lk_lower_expr.specs.Programs.{AreFunctions, AreRoots, HasFunction, IsBody, IsDefined, IsFunction, IsMadeOf, IsMadeWith, IsTypeHere, holder_by, holder_of}
 use Rattle.lk_lower_parts.proofs.Pointers.{kept}
-use Rattle.lk_lower_parts.specs.Gathers.{AreNumbered, AreNumbersOf, AreRootsAndSlots, AreSlotsOf, AreTheirTypes, argument_roots, count_arguments}
+use Rattle.lk_lower_parts.specs.Gathers.{AreNumbered, AreRootsAndSlots, AreSlotsOf, count_arguments}
 use Rattle.lk_lower_parts.specs.FunctionNumbers.{number_of}
 use Rattle.lk_lower_parts.specs.Givens.{at_node}
 use Rattle.lk_lower_parts.specs.MadeFunctions.{IsMade, holder_in, holder_with}
 use Rattle.lk_lower_parts.specs.Mains.{IsMainOf}
 use Rattle.lk_lower_parts.specs.Tables.{HasMore}
-use Rattle.lk_lower_parts.specs.TextOrder.{IsBefore}
-use Rattle.lk_lower_parts.specs.Wanted.{AreDifferent}
 use Rattle.lk_lower_parts.specs.declared.names.Given.{Given}
 use Rattle.lk_lower_parts.specs.declared.numbers.Numbered.{Numbered}
 use Rattle.lk_lower_parts.specs.declared.start.Main.{Main}
+use Rattle.lk_lower_unit.proofs.MadeRoots as made_roots
 use Rattle.lk_lower_unit.proofs.SameTypes.{same_node}
 use Rattle.lk_lower_unit.proofs.TablesOf.{are_given, function_there, pointer_there}
 use Rattle.lk_lower_unit.specs.Made.{IsProgramOf}
@@ -88,66 +81,11 @@ module _ (given : Given) (types : Table) (bases : Bases) (main : Main) (numbered
 
   -- ---- roots
 
-  plus_none : (n : ℕ) → n + 0 ≡ n
-  plus_none n = omega arith
-
-  numbers_are : AreNumbersOf whole given.functions.now given.points.now types numbered numbers program
-  numbers_are = record {
-    root = λ s o. ap (λ rows. at_node rows s o) by_node_are;
-    slot = λ s o. ap (λ rows. at_node rows s o) by_node_are;
-    function = function_there given types found;
-    point = λ s o. plus_none (at_node given.points.now s o);
-    roots = roots_are;
-    types = record {
-      more = [];
-      types = same_types ∙ sym (append-nil types.types);
-      different = subst AreDifferent (sym same_types) found.different;
-    };
-  }
-
   rows : AreRootsAndSlots whole numbers program (count_arguments main.has_parameters) numbered.slots.items
-  rows = are_numbered.are numbers program numbers_are
-
-  has_arguments : (parameters : ℕ) (has : Bool) → has ≡ nat_lt 0 parameters → count_arguments has ≡ arguments whole numbers program parameters
-  has_arguments zero true is = absurd (false≢true (sym is))
-  has_arguments zero false is = refl
-  has_arguments (suc parameters) true is = refl
-  has_arguments (suc parameters) false is = absurd (false≢true (is ∙ lt-ltb 0 (suc parameters) (omega arith)))
-
-  arguments_made : (parameters : ℕ) (has : Bool) (spot : Spot) (found_types : Option _) → has ≡ nat_lt 0 parameters → AreTheirTypes has types found_types → program.roots ≡ argument_roots spot found_types ++ are_numbered.more →
-      HaveArguments whole numbers program parameters spot
-  arguments_made zero has spot found_types is are front = tt
-  arguments_made (suc parameters) false spot found_types is are front = absurd (false≢true (is ∙ lt-ltb 0 (suc parameters) (omega arith)))
-  arguments_made (suc parameters) true spot None is are front = absurd are
-  arguments_made (suc parameters) true spot (Some at) is are front = record {
-    string = are.string;
-    strings = at.strings;
-    chars = at.chars;
-    string_form = form_there are.string _ are.string_form;
-    strings_form = form_there at.strings _ are.strings_form;
-    chars_form = form_there at.chars _ are.chars_form;
-    argv = ap (λ roots. slice_get roots 0) front;
-    args = ap (λ roots. slice_get roots 1) front;
-  }
-
-  abbrev plain_numbers : Numbers
-  plain_numbers = record numbers { function = λ s b. get_or given.functions.now.first s 0 + b }
-
-  main_inside : is_main.s < length whole.sources
-  main_inside = let is = is_main.is plain_numbers program refl made.main_ in slice_get_within whole.sources is_main.s is.linked is.of.source
+  rows = made_roots.rows given types main numbered found is_main are_numbered by_node_are program roots_are same_types made.main_
 
   roots_made : AreRoots whole numbers program
-  roots_made = record {
-    s = is_main.s;
-    b = is_main.b;
-    body = is_main.body;
-    by = is_main.by;
-    main = is_main.is numbers program (function_there given types found is_main.s is_main.b main_inside) made.main_;
-    arguments_ = subst (HaveArguments whole numbers program is_main.body.parameters) is_main.spot_
-        (arguments_made is_main.body.parameters main.has_parameters main.spot are_numbered.types is_main.parameters are_numbered.are_types (roots_are ∙ are_numbered.arguments));
-    order = subst (λ n. Counts (HasRoot whole numbers program) n (length program.roots - n) (λ s o k. numbers.root s o)) (has_arguments is_main.body.parameters main.has_parameters is_main.parameters) rows.order;
-    each = rows.each;
-  }
+  roots_made = made_roots.roots_made given types main numbered found is_main are_numbered by_node_are program roots_are same_types made.main_
 
   -- ---- functions
 
@@ -203,30 +141,6 @@ module _ (given : Given) (types : Table) (bases : Bases) (main : Main) (numbered
 
   -- ---- places, types and pointers
 
-  place_before : (a b : Place) → IsBefore numbered.roots.items a b → IsPlaceBefore whole numbers program a b
-  place_before a b is = record {
-    ra = is.ra;
-    rb = is.rb;
-    of_a = subst (λ roots. slice_get roots a.root ≡ Some is.ra) (sym roots_are) is.of_a;
-    of_b = subst (λ roots. slice_get roots b.root ≡ Some is.rb) (sym roots_are) is.of_b;
-    before = is.before;
-  }
-
-  abbrev places : List Place
-  places = made.rest.places.places
-
-  place_there : (n : ℕ) (a : Place) → place_at program n ≡ Some a → slice_get places n ≡ Some a
-  place_there n a at = subst (λ (all : List Place). slice_get all n ≡ Some a) made.places_ at
-
-  places_made : ArePlaces whole numbers program
-  places_made = record {
-    locations = λ n m a b is_n is_m order at_a at_b. place_before a b
-        (in_order numbered.roots.items places 0 made.rest.places.locations made.is_rest.order.first n m a b (omega arith) order (subst (λ k. m < k) made.locations_ is_m) (place_there n a at_a) (place_there m b at_b));
-    locks = λ n m a b is_n is_m order at_a at_b. place_before a b
-        (in_order numbered.roots.items places made.rest.places.locations (length places) made.is_rest.order.others n m a b (subst (λ k. k ≤ n) made.locations_ is_n.0) order (slice_get_within places m b (place_there m b at_b)) (place_there n a at_a)
-        (place_there m b at_b));
-  }
-
   pointers_made : (s t here : ℕ) → IsTypeHere whole.sources s t here → IsForm program.types (numbers.pointer here) (Pointer here)
   pointers_made s t here is = form_there (pointer_in types.types here) (Pointer here) (pointer_there types.types here _ at)
     where
@@ -242,7 +156,7 @@ module _ (given : Given) (types : Table) (bases : Bases) (main : Main) (numbered
     roots = roots_made;
     functions = functions_made;
     initials = made.initials_ ∙ made.is_rest.initials_ numbers (are_given given types found);
-    places = places_made;
+    places = made.is_rest.places_ whole numbers program made.types_ roots_are made.places_ made.locations_;
     sites = made.is_code.sites_ whole numbers program made.points_ made.functions_;
     types = record {
       more = more.more;

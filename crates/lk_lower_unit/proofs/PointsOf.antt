@@ -1,17 +1,15 @@
 -- Which steps a source has doesn't depend on the numbers, so each way to make them counts them.
-use Rattle.std.proofs.Common.{arith, ap, sym, subst, ◌∙◌, ◌≡◌, ◌<◌, ◌≤◌, ◌+◌, ◌-◌, ◌⊎◌, inl, inr, ℕ, zero, suc, Bool, true, false, List, [], ◌∷◌, ◌++◌, length, get_or, map, slice_get, Option, None, Some, Result, Ok, Err, IfOk, refl}
+use Rattle.std.proofs.Common.{arith, sym, subst, ◌∙◌, ◌≡◌, ◌<◌, ◌≤◌, inl, inr, ℕ, zero, suc, Bool, true, false, List, [], ◌∷◌, get_or, map, slice_get, Option, None, Some, Result, Ok, Err, IfOk, refl}
 use Rattle.std.specs.Option.{is_some}
 use Rattle.std.specs.Prelude.{if◌then◌else◌}
 use Rattle.std.proofs.lemmas.Bool.{cases_lt, false≢true}
-use Rattle.lk_lower_expr.specs.Naming.{local_of, names_of, no_local, node_of_local, slot_of_local}
-use Rattle.lk_lower_expr.specs.Walk.{Walk}
+use Rattle.lk_lower_expr.specs.Naming.{no_local, node_of_local, slot_of_local}
 use Rattle.lk_lower_expr.specs.Laid.{named}
-use Rattle.lk_lower_expr.specs.declared.names.LocalNames.{LocalNames}
 use Rattle.lk_lower_expr.specs.declared.names.SourceNames.{SourceNames}
 use Rattle.lk_lower_expr.specs.declared.step.Step.{Step}
-use Rattle.lk_lower_unit.proofs.Alike.{Alike, AlikeNames, AlikeSlots}
+use Rattle.lk_lower_unit.proofs.Alike.{AlikeNames, AlikeSlots}
 use Rattle.lk_lower_unit.proofs.AlikeStatements.{body_alike, static_alike}
-use Rattle.lk_lower_unit.proofs.Steps.{View, alike_view, earlier_view, step_of, view}
+use Rattle.lk_lower_unit.proofs.Steps.{alike_view, earlier_view, step_of, view}
 use Rattle.lk_lower_unit.specs.Bodies.{named_local, names_by_locals, walk_of_body, walk_of_static}
 use Rattle.lk_lower_unit.specs.PointNumbers.{CountsUnit, SayOf, ordinal_of, slot_of}
 use Rattle.lk_lower_unit.specs.Stands.{AreSteps, IsStepOf, NamesBy, PlacesBy, declared_node, of_body, of_static}
@@ -20,7 +18,6 @@ use Rattle.lk_lower_unit.specs.declared.standing.StandingStep.{StandingStep}
 use Rattle.lk_typed.specs.declared.expression.Storage.TheVariants as storage
 use Rattle.lk_typed.specs.declared.unit.Local.{Local}
 use Rattle.lk_typed.specs.declared.unit.TypedUnit.{TypedUnit}
-use Rattle.lk_types.specs.Table.{Table}
 
 -- ---- names that say the same
 

@@ -1,7 +1,6 @@
 -- The steps of a source, one by one.
-use Rattle.std.proofs.Common.{arith, ap, sym, subst, ◌∙◌, ◌≡◌, ◌+◌, ◌⊎◌, inl, inr, ℕ, zero, suc, List, [], ◌∷◌, ◌++◌, slice_get, Option, None, Some, refl}
+use Rattle.std.proofs.Common.{arith, ap, sym, subst, ◌∙◌, ◌≡◌, ◌+◌, inl, inr, ℕ, zero, suc, List, [], ◌∷◌, ◌++◌, slice_get, Option, None, Some, refl}
 use Rattle.std.proofs.lemmas.Option.{none-some, same_Some}
-use Rattle.std.specs.List.{Contains}
 use Rattle.lk_lower_expr.specs.Laid.{laid, named}
 use Rattle.lk_lower_expr.specs.Walk.{Walk}
 use Rattle.lk_lower_expr.specs.declared.step.NamedStep.{NamedStep}

@@ -1,9 +1,9 @@
 -- Running sums number what is counted, in its order.
-use Rattle.std.proofs.Common.{arith, sym, ap, subst, ◌∙◌, ◌≡◌, ◌<◌, ◌≤◌, ◌+◌, ◌-◌, ◌⊎◌, inl, inr, ℕ, zero, suc, List, [], ◌∷◌, ◌++◌, get_or, drop, length, refl}
+use Rattle.std.proofs.Common.{arith, sym, ap, subst, ◌∙◌, ◌≡◌, ◌<◌, ◌≤◌, ◌+◌, ◌-◌, inl, inr, ℕ, zero, suc, List, [], ◌∷◌, ◌++◌, get_or, drop, length, refl}
 use Rattle.std.proofs.lemmas.Bool.{cases_lt}
 use Rattle.std.proofs.lemmas.List.{append-nil, drop_all}
 use Rattle.std.proofs.lemmas.List.Sums.{sum_by-cons}
-use Rattle.std.specs.List.{sum, sum_by}
+use Rattle.std.specs.List.{sum}
 use Rattle.lk_lower_expr.specs.Lowering.{ComesBefore, Counts, source, node, step}
 use Rattle.lk_lower_parts.specs.Givens.{at_node}
 use Rattle.lk_lower_unit.specs.Counting.{AreBases, Has, number_by, total}

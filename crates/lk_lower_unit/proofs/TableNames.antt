@@ -1,17 +1,16 @@
 -- The tables of a source say what the numbers of the program stand for there.
 use mathlib.Core.Path.{fun_ext}
-use Rattle.std.proofs.Common.{ap, sym, subst, ◌∙◌, ◌≡◌, ◌+◌, ℕ, zero, suc, Bool, List, [], ◌∷◌, length, get_or, map, slice_get, Option, None, Some, refl}
-use Rattle.std.specs.Option.{option_and_then, option_map_or}
+use Rattle.std.proofs.Common.{ap, sym, subst, ◌∙◌, ◌≡◌, ◌+◌, ℕ, zero, suc, List, [], ◌∷◌, length, get_or, map, slice_get, None, Some, refl}
+use Rattle.std.specs.Option.{option_map_or}
 use Rattle.std.specs.Prelude.{if◌then◌else◌}
 use Rattle.std.proofs.lemmas.Option.{same_Some}
 use Rattle.lk_base.specs.declared.cell.CellStep.{CellStep}
-use Rattle.lk_base.specs.declared.spot.Spot.{Spot}
 use Rattle.lk_facts.specs.declared.place.Place.{Place}
 use Rattle.lk_facts.specs.declared.program.Program.{Program}
 use Rattle.lk_lower_expr.specs.Lowering as lowering
 use Rattle.lk_lower_expr.specs.Lowering.{Numbers, StandsIn, names_in, place_in_body}
-use Rattle.lk_lower_expr.specs.Names.{Names, Node}
-use Rattle.lk_lower_expr.specs.Naming.{local_number, names_of, no_local, node_of_local, slot_of_local}
+use Rattle.lk_lower_expr.specs.Names.{Names}
+use Rattle.lk_lower_expr.specs.Naming.{local_number, no_local, node_of_local, slot_of_local}
 use Rattle.lk_lower_expr.specs.declared.names.LocalNames.{LocalNames}
 use Rattle.lk_lower_expr.specs.declared.names.SourceNames.{SourceNames}
 use Rattle.lk_lower_expr.specs.declared.step.Step.{Step}

@@ -18,7 +18,6 @@ use Rattle.lk_typed.specs.declared.expression.Storage.TheVariants as storage
 use Rattle.lk_typed.specs.declared.initialiser.StaticObject.{StaticObject}
 use Rattle.lk_typed.specs.declared.unit.Body.{Body}
 use Rattle.lk_typed.specs.declared.unit.Local.{Local}
-use Rattle.lk_typed.specs.declared.unit.TypedUnit.{TypedUnit}
 use Rattle.lk_types.specs.Table.{Table}
 use Rattle.lk_types.specs.declared.node.NodeId.{NodeId}
 

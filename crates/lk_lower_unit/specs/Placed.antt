@@ -1,6 +1,8 @@
 -- Points that are put at their numbers. Only the private calls of this crate speak of them.
-use Rattle.std.specs.Prelude.{◌≡◌, ◌+◌, ℕ, nat_eq, nat_lt, Bool, false, List, [], ◌∷◌, Option, None, Some, length, slice_get, get_or, if◌then◌else◌}
+use Rattle.std.specs.Prelude.{◌≡◌, ◌↔◌, ◌+◌, ℕ, nat_eq, nat_lt, Bool, true, false, List, [], ◌∷◌, Option, None, Some, length, slice_get, get_or, if◌then◌else◌}
 use Rattle.std.specs.List.{Contains}
+use Rattle.lk_facts.specs.Live.{IsReached}
+use Rattle.lk_facts.specs.declared.function.Function.{Function}
 use Rattle.lk_facts.specs.declared.point.Point.{Point}
 use Rattle.lk_facts.specs.declared.program.Program.{Program}
 use Rattle.lk_lower_expr.specs.Cells.{cell_node}
@@ -20,7 +22,7 @@ use Rattle.lk_typed.specs.declared.whole.Linked.{Linked}
 use Rattle.lk_typed.specs.declared.whole.Whole.{Whole}
 use Rattle.lk_types.specs.Table.{Table}
 use Rattle.lk_types.specs.declared.c_type.CType.{CType}
-use Rattle.lk_types.specs.declared.c_type.CType.TheVariants.{Void, Int, ThreadId, Mutex, Cond, Pointer, Array, Struct, Function, Opaque}
+use Rattle.lk_types.specs.declared.c_type.CType.TheVariants.{Void, Int, ThreadId, Mutex, Cond, Pointer, Array, Struct, Function as FunctionType, Opaque}
 
 -- ---- the numbers of the program
 
@@ -34,7 +36,7 @@ is_pointer_to t Cond = false
 is_pointer_to t (Pointer u) = nat_eq u t
 is_pointer_to t (Array u n) = false
 is_pointer_to t (Struct s) = false
-is_pointer_to t (Function result params dots) = false
+is_pointer_to t (FunctionType result params dots) = false
 is_pointer_to t (Opaque n) = false
 
 -- where it stands among types; behind them all where it doesn't
@@ -124,6 +126,13 @@ lived [] points = points
 lived (live ∷ others) [] = []
 lived (live ∷ others) (point ∷ points) = with_life live point ∷ lived others points
 
+-- of each point it is said whether successors lead to it from the entry of a function
+abbrev pub AreLive : List Function → List Point → List Bool → Type 0
+AreLive functions points live = (p : ℕ) → (slice_get live p ≡ Some true) ↔ IsReached points functions p
+
 -- the same points, of which it is said which are live
-abbrev pub AreAlive : List Point → List Point → Type 0
-AreAlive old new = (live : List Bool) × (new ≡ lived live old)
+pub record AreAlive (functions : List Function) (old new : List Point) : Type 0 where
+  pub live : List Bool
+  pub long : length live ≡ length old
+  pub are : AreLive functions old live
+  pub said : new ≡ lived live old

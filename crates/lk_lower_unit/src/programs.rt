@@ -1,12 +1,14 @@
 //! The program that checked sources become.
-ghost use Rattle.std.specs.Prelude.{◌≡◌, ◌≢◌, ◌<◌, ◌↔◌, All, IfOk, IsTrue, OnOk, length, Err};
-ghost use Rattle.lk_lower_expr.specs.Programs.{IsMadeOf};
+ghost use Rattle.std.specs.Prelude.{◌≡◌, ◌≢◌, ◌<◌, ◌↔◌, true, All, IfOk, IsTrue, OnOk, length, Err};
+ghost use Rattle.lk_facts.specs.InRange.{IsInRange};
+ghost use Rattle.lk_facts.specs.Lowered.{IsLowered};
+ghost use Rattle.lk_lower_expr.specs.Programs.{HasMorePlaces, IsMadeOf};
 ghost use Rattle.lk_lower_parts.specs.Cells.{IsPlaceIn};
-ghost use Rattle.lk_lower_parts.specs.declared.fault.LowerFault.TheVariants.{TooManyPoints};
+ghost use Rattle.lk_lower_parts.specs.declared.fault.LowerFault.TheVariants.{TooManyPlaces, TooManyPoints};
 ghost use Rattle.lk_lower_parts.specs.FunctionNumbers.{AreFunctionNumbers};
-ghost use Rattle.lk_lower_unit.specs.Lowers.{ArePlaceNodes};
-ghost use Rattle.lk_lower_unit.specs.Made.{HasParts, IsCode, IsProgramOf, IsRest};
-ghost use Rattle.lk_lower_unit.specs.Placed.{AreAlive, AreFound};
+ghost use Rattle.lk_lower_unit.specs.Lowers.{ArePlaceNodes, IsTested};
+ghost use Rattle.lk_lower_unit.specs.Made.{HasMorePartedPlaces, HasVoidParts, IsCode, IsProgramOf, IsRest};
+ghost use Rattle.lk_lower_unit.specs.Placed.{AreAlive, AreFound, AreLive};
 ghost use Rattle.lk_lower_unit.specs.PointNumbers.{ArePointNumbers, HasMorePoints};
 
 use crate::bases::Bases;
@@ -19,6 +21,9 @@ use lk_lower_parts::{
     AllPlaces, FunctionNumbers, Given, LowerFault, Main, Numbered, all_places, give_sites, main_of,
     number_functions, number_roots_and_slots, pointer_rows, void_parts,
 };
+use lk_point_statics::are_statics;
+use lk_point_types::have_types;
+use lk_point_ways::keep_ways;
 use lk_typed::Whole;
 use lk_types::{TypeId, TypeTable};
 use std::alloc::Global;
@@ -27,6 +32,7 @@ use std::alloc::Global;
 fn points_of(alloc: Global, whole: &Whole) -> Result<Bases, LowerFault>
     ensures ok { IfOk result (ArePointNumbers whole.now) }
     ensures many { result ≡ Err TooManyPoints → HasMorePoints whole.now 65536 }
+    ensures places { result ≢ Err TooManyPlaces }
 {
     match number_points(alloc, whole) {
         Ok(bases) => Ok(bases),
@@ -62,7 +68,8 @@ fn begin_at_points(functions: &[Function], count: usize) -> bool
 
 /// Which points are live. Each point leads to points, and each function begins at one.
 fn live(alloc: Global, points: &[Point], functions: &[Function]) -> Result<Vec<bool>, NoMemory>
-    ensures { IfOk result (λ live. length live.items ≡ length points.now) }
+    ensures long { IfOk result (λ live. length live.items ≡ length points.now) }
+    ensures exact { IfOk result (λ live. AreLive functions.now points.now live.items) }
 {
     if !lead_to_points(points, points.len()) || !begin_at_points(functions, points.len()) {
         return Err(NoMemory);
@@ -72,7 +79,7 @@ fn live(alloc: Global, points: &[Point], functions: &[Function]) -> Result<Vec<b
 
 /// Says of each point whether it is live.
 fn give_life(alloc: Global, points: &mut Vec<Point>, functions: &[Function]) -> Result<(), NoMemory>
-    ensures { OnOk result (AreAlive points.old.items points.new.items) }
+    ensures { OnOk result (AreAlive functions.now points.old.items points.new.items) }
 {
     let live = live(alloc, points, functions)?;
     for p in 0..points.len() {
@@ -81,12 +88,27 @@ fn give_life(alloc: Global, points: &mut Vec<Point>, functions: &[Function]) -> 
     Ok(())
 }
 
-/// The points of these parts. All numbers in them are in range.
-fn made(program: Program) -> Result<Points, NoMemory>
-    ensures { IfOk result (λ points. points ≡ program) }
+/// Whether points keep what the analysis asks of them: types, the ways of control, and what static storage begins with. What
+/// is made of a program's typed trees keeps it.
+fn are_tested(alloc: Global, points: &Points) -> Result<bool, NoMemory>
+    ensures { IfOk result (λ are. are ≡ true → IsTested points.now) }
 {
-    if Points::fits(&program) {
-        Ok(Points::new(program))
+    let statics = are_statics(alloc, points)?;
+    Ok(statics && keep_ways(points) && have_types(points))
+}
+
+/// The points of these parts. All numbers in them are in range.
+fn made(alloc: Global, program: Program) -> Result<Points, NoMemory>
+    ensures is { IfOk result (λ points. points ≡ program) }
+    ensures in_range { IfOk result IsInRange }
+    ensures tested { IfOk result IsTested }
+{
+    if !Points::fits(&program) {
+        return Err(NoMemory);
+    }
+    let points = Points::new(program);
+    if are_tested(alloc, &points)? {
+        Ok(points)
     } else {
         Err(NoMemory)
     }
@@ -94,7 +116,7 @@ fn made(program: Program) -> Result<Points, NoMemory>
 
 /// The types of the program, with the Parts of `void`. Each type that is one is in the table, once.
 fn with_parts(alloc: Global, types: TypeTable, points: &[Point]) -> Result<TypeTable, NoMemory>
-    ensures { IfOk result (HasParts types) }
+    ensures { IfOk result (HasVoidParts types points.now) }
 {
     let parts = void_parts(alloc, &types, points)?;
     if types.are_parts(&parts) {
@@ -122,6 +144,8 @@ fn rest_of(
 ) -> Result<Rest, LowerFault>
     ensures nodes { IfOk result (λ rest. All (IsPlaceIn rest.types) rest.places.places) }
     ensures rest { IfOk result (IsRest given.now roots.items types) }
+    ensures parts { IfOk result (λ rest. HasVoidParts types points.now rest.types) }
+    ensures places { result ≡ Err TooManyPlaces → HasMorePartedPlaces types roots.items }
     ensures points { result ≢ Err TooManyPoints }
 {
     let types = with_parts(given.alloc, types, points)?;
@@ -174,6 +198,7 @@ fn put_together(code: Code, rest: Rest, main: Main) -> Program
     ensures locations { result.locations ≡ rest.places.locations }
     ensures initials { result.initials ≡ rest.initials }
     ensures main { result.main ≡ main.function }
+    ensures sites { result.sites ≡ code.sites }
 {
     let Code {
         points,
@@ -211,11 +236,13 @@ fn program_of(
     requires { AreFound given.now types }
     ensures nodes { IfOk result ArePlaceNodes }
     ensures made { IfOk result (IsProgramOf given.now types main count slots.items roots.items) }
+    ensures lowered { IfOk result IsLowered }
+    ensures places { result ≡ Err TooManyPlaces → HasMorePartedPlaces types roots.items }
     ensures points { result ≢ Err TooManyPoints }
 {
     let code = code_of(given, &types, slots, count)?;
     let rest = rest_of(given, &code.points, roots, types)?;
-    let points = made(put_together(code, rest, main))?;
+    let points = made(given.alloc, put_together(code, rest, main))?;
     Ok(points)
 }
 
@@ -230,6 +257,8 @@ fn assemble(
     requires functions { AreFunctionNumbers whole.now.sources functions.now }
     ensures nodes { IfOk result ArePlaceNodes }
     ensures made { IfOk result (IsMadeOf whole.now) }
+    ensures lowered { IfOk result IsLowered }
+    ensures places { result ≡ Err TooManyPlaces → HasMorePlaces whole.now 65536 }
     ensures points { result ≢ Err TooManyPoints }
 {
     let main = main_of(whole, functions)?;
@@ -255,13 +284,16 @@ fn assemble(
 
 /// The points of a program, with its functions, roots, places and types, and what its storage begins with.
 ///
-/// `TooManyPoints` comes exactly where it would have more than 65,536 points; `TooManyPlaces` exactly where that isn't
-/// so and its locations and lock places together are more than 65,536, unless memory ends first.
+/// `TooManyPoints` comes exactly where it would have more than 65,536 points, unless memory ends first; `TooManyPlaces`
+/// only where that isn't so and its locations and lock places together are more than 65,536.
 pub fn lower(alloc: Global, whole: &Whole) -> Result<Points, LowerFault>
     ensures nodes { IfOk result ArePlaceNodes }
     ensures made { IfOk result (IsMadeOf whole.now) }
+    ensures lowered { IfOk result IsLowered }
     ensures few { OnOk result (HasMorePoints whole.now 65536 → ⊥) }
     ensures many { result ≡ Err TooManyPoints → HasMorePoints whole.now 65536 }
+    ensures places { result ≡ Err TooManyPlaces
+        → (HasMorePoints whole.now 65536 → ⊥) × HasMorePlaces whole.now 65536 }
 {
     let bases = points_of(alloc, whole)?;
     let functions = number_functions(alloc, whole)?;

@@ -3,7 +3,7 @@ use Rattle.std.proofs.lemmas.Result.{IfOk-weaker}
 use Rattle.lk_lower_parts.proofs.Gathered.{gathered_more, gathered_none}
 use Rattle.lk_lower_parts.proofs.Numbering.{all_numbered}
 use Rattle.lk_lower_parts.proofs.Pointers.{kept_types, more_more}
-use Rattle.lk_lower_parts.specs.Gathers.{AreNumbered, Gathered, IsTested, argument_roots}
+use Rattle.lk_lower_parts.specs.Gathers.{AreNumbered, Gathered, IsFinished, argument_roots}
 use Rattle.lk_lower_parts.proofs.gather.number_roots_and_slots.Goals as goal
 
 pub loop-source-init : goal.loop-source-init
@@ -38,7 +38,7 @@ returns-clause-numbered c =
     let types = c.loop-source.invariant.gathered.0 in
     let end : c.loop-source.source ≡ length whole.sources = omega arith in
     let gathered = subst (λ n. Gathered whole c.args.functions.now c.args.points.now (argument_roots c.args.main.spot types) n table c.loop-source.gathering) end c.loop-source.invariant.gathered.2 in
-    IfOk-weaker c.finished.result (IsTested c.loop-source.gathering c.count_arguments.result c.count.result) (AreNumbered whole c.args.functions.now c.args.main c.args.points.now table)
+    IfOk-weaker c.finished.result (IsFinished c.loop-source.gathering c.count_arguments.result c.count.result) (AreNumbered whole c.args.functions.now c.args.main c.args.points.now table)
     (λ found tested.
     all_numbered whole c.args.functions.now c.args.main c.args.points.now table c.loop-source.gathering found types c.loop-source.invariant.gathered.1 gathered
-    (subst (λ n. IsTested c.loop-source.gathering n (length table.types) found) c.count_arguments.ensures (subst (λ n. IsTested c.loop-source.gathering c.count_arguments.result n found) c.count.ensures.value tested))) c.finished.ensures
+    (subst (λ n. IsFinished c.loop-source.gathering n (length table.types) found) c.count_arguments.ensures (subst (λ n. IsFinished c.loop-source.gathering c.count_arguments.result n found) c.count.ensures.value tested))) c.finished.ensures

@@ -1,6 +1,5 @@
-use Rattle.std.proofs.Common.{All}
-use Rattle.lk_lower_parts.specs.Cells.{IsPlaceIn}
+use Rattle.std.proofs.Common.{◌≡◌, ◌++◌, take}
 use Rattle.lk_lower_parts.proofs.places.put_all.Given as goal
 
 abbrev pub invariant-loop-place : goal.invariant-loop-place
-invariant-loop-place l = All (IsPlaceIn l.types) l.places
+invariant-loop-place l = l.places ≡ l.initial.places ++ take l.place-index l.list

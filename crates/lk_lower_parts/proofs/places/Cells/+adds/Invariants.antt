@@ -1,9 +1,9 @@
 use Rattle.std.proofs.Common.{◌+◌, ◌*◌}
-use Rattle.lk_lower_parts.specs.Cells.{AreCells}
+use Rattle.lk_lower_parts.specs.Within.{AddsCells, IsInMembers}
 use Rattle.lk_lower_parts.proofs.places.Cells.+adds.Given as goal
 
 abbrev pub invariant-push_members-loop-k : goal.invariant-push_members-loop-k
-invariant-push_members-loop-k l = AreCells l.types l.self.values.items l.self.locks.items
+invariant-push_members-loop-k l = AddsCells l.types (IsInMembers l.types l.part l.k) l.initial.self l.self
 
 abbrev pub decreases-push : goal.decreases-push
 decreases-push l = 3 * l.part.now.left + 2

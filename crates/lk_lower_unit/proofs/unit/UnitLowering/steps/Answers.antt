@@ -1,4 +1,4 @@
-use Rattle.std.proofs.Common.{◌∙◌, ◌+◌}
+use Rattle.std.proofs.Common.{◌∙◌}
 use Rattle.lk_lower_unit.proofs.Adding.{all_added}
 use Rattle.lk_lower_unit.proofs.Sources.{are_steps}
 use Rattle.lk_lower_unit.proofs.TableNames.{stand_in}
