@@ -331,6 +331,14 @@ module _ (program : Program) where
     few = (let short = no_longer found names different (λ x there. (all.only x there).0) in let few = are.few in omega (arith, short, few));
   }
 
+  -- where all labels are few, there is no longer list of them
+  pub labels_few : (names : List LabelName) → AreOrdered program names → HasMoreLabels program 65536 → ⊥
+  labels_few names are others =
+      let short = no_longer others.names names others.different (λ x there. (are.each x).1 (others.labels x there)) in
+      let few = are.few in
+      let more = others.more in
+      omega (arith, short, few, more)
+
   -- origins, root by root
   pub no_origins : AreOriginsTo program 0 []
   no_origins x = (λ there. absurd (Contains-none x there), λ is. absurd (omega (arith, is.2)))

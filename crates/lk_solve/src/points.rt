@@ -1,5 +1,5 @@
 //! The whole analysis of the points of a program.
-ghost use Rattle.std.specs.Prelude.{◌≡◌, ◌↔◌, Err, IfOk};
+ghost use Rattle.std.specs.Prelude.{◌≡◌, ◌↔◌, Err, IfOk, OnOk};
 ghost use Rattle.lk_facts.specs.Analysis.{AreVerdictsOf};
 ghost use Rattle.lk_facts.specs.EdgeRules.{AreEdges};
 ghost use Rattle.lk_facts.specs.Facts.{basis_of, facts_of};
@@ -51,11 +51,13 @@ fn verdicts_by(
 
 /// The verdict of each location of a program, in their order. Each location and lock place is a node of the program's types.
 ///
-/// `TooManyLabels` comes only where the program has more than 65,536 labels. `NoMemory` is its other fault.
+/// `TooManyLabels` comes exactly where the program has more than 65,536 labels, unless memory ends first: where verdicts
+/// are answered, it has no more. `NoMemory` is its other fault.
 pub fn verdicts_of(alloc: Global, points: &Points) -> Result<Vec<Verdict>, SolveFault>
     requires { ArePlaceNodes points.now }
     ensures ok { IfOk result (λ found. HasVerdicts points.now found.items) }
     ensures too_many { result ≡ Err TooManyLabels → HasMoreLabels points.now 65536 }
+    ensures few { OnOk result (HasMoreLabels points.now 65536 → ⊥) }
 {
     let labels = labels(alloc, points)?;
     let origins = flow(alloc, points, &labels)?;

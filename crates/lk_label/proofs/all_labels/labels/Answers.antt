@@ -4,6 +4,7 @@ use Rattle.lk_facts.specs.Labels.{AreLabelsInRange, labels_of}
 use Rattle.lk_facts.specs.Places.{AreDifferent}
 use Rattle.lk_label.proofs.EntryLists.{labels_in_range, are_labels}
 use Rattle.lk_label.proofs.HolderNumbers.{holders_different}
+use Rattle.lk_label.proofs.NameLists.{labels_few}
 use Rattle.lk_label.proofs.all_labels.labels.Goals as goal
 
 pub labels_by_holder-requires : goal.labels_by_holder-requires
@@ -28,3 +29,6 @@ returns-clause-ok c =
     let targets = c.in_ok-targets.targets.items in
     subst (AreLabels c.args.points.now) (sym c.new.ensures) (subst (λ names. AreLabels c.args.points.now (labels_of names entries targets)) (sym c.into_set.ensures)
     (are_labels c.args.points.now c.in_ok-names.names entries targets c.in_ok-names.ensures c.are_different.ensures c.in_ok-entries.ensures c.in_ok-targets.ensures))
+
+pub returns-clause-few : goal.returns-clause-few
+returns-clause-few c = labels_few c.args.points.now c.in_ok-names.names c.in_ok-names.ensures
