@@ -1,7 +1,7 @@
 -- A number of the table leads back to its code.
 use Rattle.std.proofs.Common.{ℕ, ◌≡◌, ◌∙◌, sym, ap, refl, if◌then◌else◌, nat_eq}
 use Rattle.lk_base.specs.declared.code.Code.{Code}
-use Rattle.lk_base.specs.declared.code.Code.TheVariants.{Byte, Token, UnsupportedWord, Syntax, TooDeep, TooLong, BadExterns, Form, Undeclared, Redeclared, Mismatch, NotAPlace, NotConstant, Incomplete, BadLabel, BadInitialiser, BitField, VariableArray, LargeType, IntPointerCast, PointerCast, TryLock, LongJmp, Atomic, OwnVararg, StructValue, SizeofStruct, UnknownExternal, Attribute, MutexValue, StartRoutine, AllocShape, CallsMain, JoinResult, NoMain, DefinedTwice, TypesDiffer, NotDefined, TooManyPoints, TooManyLabels}
+use Rattle.lk_base.specs.declared.code.Code.TheVariants.{Byte, Token, UnsupportedWord, Syntax, TooDeep, TooLong, BadExterns, Undeclared, Redeclared, Mismatch, NotAPlace, NotConstant, Incomplete, BadLabel, BadInitialiser, BitField, VariableArray, LargeType, IntPointerCast, PointerCast, TryLock, LongJmp, Atomic, OwnVararg, StructValue, SizeofStruct, UnknownExternal, Attribute, MutexValue, StartRoutine, AllocShape, CallsMain, JoinResult, NoMain, DefinedTwice, TypesDiffer, NotDefined, TooManyPoints, TooManyLabels}
 use Rattle.lk_base.specs.Code.{number_of, IsNumberOfOne}
 
 abbrev code_at : ℕ → Code
@@ -13,7 +13,6 @@ code_at n =
     if nat_eq n 14 then TooDeep else (
     if nat_eq n 15 then TooLong else (
     if nat_eq n 16 then BadExterns else (
-    if nat_eq n 19 then Form else (
     if nat_eq n 20 then Undeclared else (
     if nat_eq n 21 then Redeclared else (
     if nat_eq n 22 then Mismatch else (
@@ -45,7 +44,7 @@ code_at n =
     if nat_eq n 62 then TypesDiffer else (
     if nat_eq n 63 then NotDefined else (
     if nat_eq n 64 then TooManyPoints else (
-    TooManyLabels)))))))))))))))))))))))))))))))))))))))
+    TooManyLabels))))))))))))))))))))))))))))))))))))))
 
 code_at-number_of : (c : Code) → code_at (number_of c) ≡ c
 code_at-number_of Byte = refl
@@ -55,7 +54,6 @@ code_at-number_of Syntax = refl
 code_at-number_of TooDeep = refl
 code_at-number_of TooLong = refl
 code_at-number_of BadExterns = refl
-code_at-number_of Form = refl
 code_at-number_of Undeclared = refl
 code_at-number_of Redeclared = refl
 code_at-number_of Mismatch = refl

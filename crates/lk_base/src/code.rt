@@ -19,8 +19,6 @@ pub enum Code {
     TooLong,
     /// 16. A line of the externs file is neither empty nor one identifier.
     BadExterns,
-    /// 19. A form of program that is not built yet.
-    Form,
     /// 20. A name without a declaration in scope.
     Undeclared,
     /// 21. A name or tag declared in a way that its scope does not allow.
@@ -100,7 +98,6 @@ impl Code {
             Code::TooDeep => 14,
             Code::TooLong => 15,
             Code::BadExterns => 16,
-            Code::Form => 19,
             Code::Undeclared => 20,
             Code::Redeclared => 21,
             Code::Mismatch => 22,
@@ -148,7 +145,6 @@ impl Code {
             Code::TooDeep => "TooDeep",
             Code::TooLong => "TooLong",
             Code::BadExterns => "BadExterns",
-            Code::Form => "Form",
             Code::Undeclared => "Undeclared",
             Code::Redeclared => "Redeclared",
             Code::Mismatch => "Mismatch",

@@ -58,7 +58,7 @@ fn a_file_name_keeps_its_first_number(rt: HostRuntime) -> Result<(), Fail> {
 
 #[test]
 fn codes_and_statuses_have_their_numbers(rt: HostRuntime) -> Result<(), Fail> {
-    assert!(rt; Code::Form.number() == 19 && Status::NoMemory.number() == 6);
+    assert!(rt; Code::Undeclared.number() == 20 && Status::NoMemory.number() == 6);
     assert!(rt; Code::TooManyLabels.word() == "TooManyLabels");
     Ok(())
 }

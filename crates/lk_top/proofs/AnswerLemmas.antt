@@ -1,15 +1,17 @@
 -- What the parts of an answer say of the whole.
-use Rattle.std.proofs.Common.{inl, inr, ℕ, ◌≡◌, ◌∙◌, ◌<◌, ◌≤◌, Bool, true, false, if◌then◌else◌, List, [], ◌∷◌, Option, Some, None, length, refl, sym, ap, subst, arith}
+use Rattle.std.proofs.Common.{ℕ, ◌≡◌, ◌∙◌, Bool, true, false, if◌then◌else◌, List, [], ◌∷◌, refl, sym, ap, subst}
 use Rattle.std.specs.List.{AllZip}
-use Rattle.std.specs.Prelude.{All, MatchOption, slice_index_or}
+use Rattle.std.specs.Prelude.{All}
 use Rattle.std.proofs.lemmas.List.Elements.{All-cons, All-head, All-nil, All-tail, All-weaker}
+use Rattle.lk_base.specs.declared.code.Code.{Code}
+use Rattle.lk_base.specs.declared.code.Code.TheVariants.{TooManyPoints, TooManyLabels}
 use Rattle.lk_base.specs.declared.refusal.Refusal as base
 use Rattle.lk_base.specs.declared.status.Status.{Status}
 use Rattle.lk_base.specs.declared.status.Status.TheVariants as status
+use Rattle.lk_facts.specs.LabelRules.{HasMoreLabels}
+use Rattle.lk_facts.specs.Lowered.{IsLowered}
 use Rattle.lk_facts.specs.declared.program.Program.{Program as Points}
 use Rattle.lk_facts.specs.declared.verdict.Verdict.{Verdict}
-use Rattle.lk_form.specs.Form.{IsOfForm}
-use Rattle.lk_form.specs.declared.tree.Program.{Program}
 use Rattle.lk_io.specs.Shelf.{Held}
 use Rattle.lk_elaborate.specs.Checked.{IsCheckedOf}
 use Rattle.lk_join.specs.Program as linking
@@ -17,6 +19,7 @@ use Rattle.lk_join.specs.Program.{IsLinked}
 use Rattle.lk_lex.specs.declared.token.Token.{Token}
 use Rattle.lk_lower_expr.specs.Programs.{IsMadeOf}
 use Rattle.lk_lower_unit.specs.PointNumbers.{HasMorePoints}
+use Rattle.lk_solve.specs.Verdicts.{HasVerdicts}
 use Rattle.lk_sources.specs.Accepting.{IsAccepted, IsCheckedSource, Refuses, units_of}
 use Rattle.lk_sources.specs.Numbers.{numbered}
 use Rattle.lk_sources.specs.Readable.{Reads, FailsToRead}
@@ -35,56 +38,15 @@ use Rattle.lk_typed.specs.TypedUnits.{IsTypedUnit}
 use Rattle.lk_typed.specs.declared.unit.TypedUnit.{TypedUnit}
 use Rattle.lk_typed.specs.declared.whole.Whole.{Whole}
 use Rattle.lk_words.specs.Words.{Check}
-use Rattle.lk_top.specs.Analysis.{AreTyped, IsWhole, unlinked, too_many_points, too_many_labels}
-use Rattle.lk_top.specs.Answer.{Reported, JudgesPoints, JudgesWhole, JudgesUnits, Analyses, ShowsFault, Judges, Answers, HasReadyTypes, IsNumbered, TypesSource}
+use Rattle.lk_top.specs.Analysis.{AreTyped, IsAtMain, IsNoProgram, IsWhole, of_places, of_points, unlinked, too_many_points, too_many_labels}
+use Rattle.lk_top.specs.Answer as judged
+use Rattle.lk_top.specs.Answer.{JudgesWhole, JudgesUnits, ShowsVerdicts, Tells, TellsAtMain, Analyses, ShowsFault, Judges, Answers, HasReadyTypes, IsNumbered, TypesSource, has_points, too_many_places, links, is_unlinked}
 use Rattle.lk_top.specs.Outcome as outcome
-use Rattle.lk_top.specs.Outcome.{Refused, IsProgram, lone, HasNoProgram, Becomes, Follows}
-use Rattle.lk_top.specs.Report.{has_suspect}
+use Rattle.lk_top.specs.Outcome.{Refused, Becomes, Follows}
 use Rattle.lk_top.specs.Results as results
-use Rattle.lk_top.specs.Results.{IsReport, IsRefusal, status_of, is_report}
+use Rattle.lk_top.specs.Results.{IsReport, IsRefusal, has_suspect, status_of, is_report}
 use Rattle.lk_top.specs.declared.answer.Answer.{Answer}
 use Rattle.lk_top.specs.declared.answer.Answer.TheVariants.{Report, Refusal, Unread}
-use Rattle.lk_top.specs.declared.answer.Formed.{Formed}
-
--- ---- a lone source of the form
-
-form_of : {source : Source} {name : List ℕ} {program : Program} → IsProgram [] (source ∷ []) name program → IsOfForm 0 source.bytes program
-form_of (lone form) = form
-
--- a program of the form is a lone source, without a file of --externs
-stands_alone : {externs sources : List Source} {name : List ℕ} {program : Program} → IsProgram externs sources name program → (externs ≡ []) × (length sources ≡ 1)
-stands_alone (lone form) = (refl, refl)
-
-pub none_beside_externs : (externs sources : List Source) → 0 < length externs → HasNoProgram externs sources
-none_beside_externs [] sources some = absurd (omega arith)
-none_beside_externs (first ∷ others) sources some = λ name program is. let clash = (stands_alone is).0 in cc
-
-pub none_of_several : (externs sources : List Source) → (length sources ≡ 1 → ⊥) → HasNoProgram externs sources
-none_of_several externs sources several name program is = several (stands_alone is).1
-
-no_externs : (externs : List Source) → (0 < length externs → ⊥) → externs ≡ []
-no_externs [] none = refl
-no_externs (first ∷ others) none = absurd (none (omega arith))
-
-one_source : (sources : List Source) (source : Source) → 1 ≤ length sources → length sources < 2 → source ≡ slice_index_or sources 0 source → sources ≡ source ∷ []
-one_source [] source some few is = absurd (omega arith)
-one_source (first ∷ []) source some few is = ap (λ s. s ∷ []) (sym is)
-one_source (first ∷ second ∷ others) source some few is = absurd (omega arith)
-
-found_alone : (source : Source) (found : Option Formed) →
-    MatchOption found ((program : Program) → IsOfForm 0 source.bytes program → ⊥) (λ formed. (formed.name ≡ source.name) × IsOfForm 0 source.bytes formed.program) →
-    MatchOption found (HasNoProgram [] (source ∷ [])) (λ formed. IsProgram [] (source ∷ []) formed.name formed.program)
-found_alone source None none = λ name program is. none program (form_of is)
-found_alone source (Some formed) (named, form) = subst (λ name. IsProgram [] (source ∷ []) name formed.program) (sym named) (lone form)
-
--- what is found of the one source of a command
-pub found_in : (externs sources : List Source) (source : Source) (found : Option Formed) → (0 < length externs → ⊥) → 1 ≤ length sources → length sources < 2 →
-    source ≡ slice_index_or sources 0 source →
-    MatchOption found ((program : Program) → IsOfForm 0 source.bytes program → ⊥) (λ formed. (formed.name ≡ source.name) × IsOfForm 0 source.bytes formed.program) →
-    MatchOption found (HasNoProgram externs sources) (λ formed. IsProgram externs sources formed.name formed.program)
-found_in externs sources source found none some few is exact =
-    subst (λ e. MatchOption found (HasNoProgram e sources) (λ formed. IsProgram e sources formed.name formed.program)) (sym (no_externs externs none))
-    (subst (λ s. MatchOption found (HasNoProgram [] s) (λ formed. IsProgram [] s formed.name formed.program)) (sym (one_source sources source some few is)) (found_alone source found exact))
 
 -- ---- what accepted sources come to
 
@@ -112,30 +74,53 @@ all_typed externs (source ∷ sources) (unit ∷ units) checked numbered typed =
     checked_of : (externs : List Name) (source : AcceptedSource) → IsCheckedSource externs source → IsNumbered source → IsCheckedOf externs source.parsed.unit source.checked
     checked_of externs source checked (before, numbers) = record { before = before; numbers = numbers; faultless = checked.faultless; records = checked.records; behind = checked.behind }
 
-pub judged_points : (files : List (List ℕ)) (whole : Whole) (points : Points) (answer : Answer) → (HasMorePoints whole 65536 → ⊥) → IsMadeOf whole points → JudgesPoints files points answer → JudgesWhole files whole answer
-judged_points files whole points answer few made (inl (verdicts, has, shows)) = inl (few, (points, verdicts, made, has, shows))
-judged_points files whole points answer few made (inr tells) = inr (inr tells)
-
 module _ (sources : code.Accepted) (units : List TypedUnit) (typed : AreTyped sources units) where
   whole_of : (whole : Whole) → IsLinked units sources.externs.items whole → IsWhole sources whole
   whole_of whole joined = record { units = units; typed = typed; linked = joined }
 
+  -- a line that tells a bound at main is the refusal of the program
+  told_at_main : (whole : Whole) (code : Code) (answer : Answer) → TellsAtMain sources.files whole code answer → ((refusal : base.Refusal) → IsAtMain whole code refusal → IsNoProgram sources refusal) → Analyses sources answer
+  told_at_main whole code (Report text ends) (refusal, is, tells) why = absurd tells
+  told_at_main whole code (Refusal line) (refusal, is, (file, at_file, line_is)) why = (file, refusal, record { why = why refusal is; at = at_file }, line_is)
+  told_at_main whole code (Unread line) (refusal, is, tells) why = absurd tells
+
+  shown : (whole : Whole) → IsLinked units sources.externs.items whole → (points : Points) → (HasMorePoints whole 65536 → ⊥) → IsMadeOf whole points → IsLowered points → (verdicts : List Verdict) → HasVerdicts points verdicts →
+      (HasMoreLabels points 65536 → ⊥) → (answer : Answer) → ShowsVerdicts sources.files points verdicts answer → Analyses sources answer
+  shown whole joined points few made lowered verdicts has few_labels (Report text ends) (text_is, status_is) = (
+    verdicts,
+    record {
+      whole = whole;
+      is_whole = whole_of whole joined;
+      few_points = few;
+      points = points;
+      made = made;
+      lowered = lowered;
+      few_labels = few_labels;
+      verdicts_are = has;
+      text_is = text_is;
+    },
+    status_is,
+  )
+  shown whole joined points few made lowered verdicts has few_labels (Refusal line) shows = absurd shows
+  shown whole joined points few made lowered verdicts has few_labels (Unread line) shows = absurd shows
+
+  of_whole : (whole : Whole) → IsLinked units sources.externs.items whole → (answer : Answer) → JudgesWhole sources.files whole answer → Analyses sources answer
+  of_whole whole joined answer (has_points points few made lowered (judged.shows verdicts has few_labels shows)) = shown whole joined points few made lowered verdicts has few_labels answer shows
+  of_whole whole joined answer (has_points points few made lowered (judged.too_many more tells)) =
+      told_at_main whole TooManyLabels answer tells (λ refusal is. too_many_labels whole (whole_of whole joined) few (of_points points made lowered more) is)
+  of_whole whole joined answer (judged.too_many_points more tells) =
+      told_at_main whole TooManyPoints answer tells (λ refusal is. too_many_points whole (whole_of whole joined) more is)
+  of_whole whole joined answer (too_many_places few more tells) =
+      told_at_main whole TooManyLabels answer tells (λ refusal is. too_many_labels whole (whole_of whole joined) few (of_places more) is)
+
+  of_unlinked : (refusal : base.Refusal) → linking.IsRefusal units sources.externs.items refusal → (answer : Answer) → Tells sources.files refusal answer → Analyses sources answer
+  of_unlinked refusal is (Report text ends) tells = absurd tells
+  of_unlinked refusal is (Refusal line) (file, at_file, line_is) = (file, refusal, record { why = unlinked units typed is; at = at_file }, line_is)
+  of_unlinked refusal is (Unread line) tells = absurd tells
+
   pub analysed : (answer : Answer) → JudgesUnits sources.files sources.externs.items units answer → Analyses sources answer
-  analysed (Report text ends) (inl (whole, joined, inl (few, (points, verdicts, made, has, (text_is, status_is))))) =
-      (verdicts, record { whole = whole; is_whole = whole_of whole joined; few = few; points = points; made = made; verdicts_are = has; text_is = text_is }, status_is)
-  analysed (Report text ends) (inl (whole, joined, inr (inl (more, (refusal, code_is, name_is, tells))))) = absurd tells
-  analysed (Report text ends) (inl (whole, joined, inr (inr (refusal, code_is, name_is, tells)))) = absurd tells
-  analysed (Report text ends) (inr (refusal, is, tells)) = absurd tells
-  analysed (Refusal line) (inl (whole, joined, inl (few, (points, verdicts, made, has, shows)))) = absurd shows
-  analysed (Refusal line) (inl (whole, joined, inr (inl (more, (refusal, code_is, name_is, (file, at, line_is)))))) =
-      (file, refusal, record { why = too_many_points whole (whole_of whole joined) more code_is name_is; at = at }, line_is)
-  analysed (Refusal line) (inl (whole, joined, inr (inr (refusal, code_is, name_is, (file, at, line_is))))) =
-      (file, refusal, record { why = too_many_labels whole (whole_of whole joined) code_is name_is; at = at }, line_is)
-  analysed (Refusal line) (inr (refusal, is, (file, at, line_is))) = (file, refusal, record { why = unlinked units typed is; at = at }, line_is)
-  analysed (Unread line) (inl (whole, joined, inl (few, (points, verdicts, made, has, shows)))) = absurd shows
-  analysed (Unread line) (inl (whole, joined, inr (inl (more, (refusal, code_is, name_is, tells))))) = absurd tells
-  analysed (Unread line) (inl (whole, joined, inr (inr (refusal, code_is, name_is, tells)))) = absurd tells
-  analysed (Unread line) (inr (refusal, is, tells)) = absurd tells
+  analysed answer (links whole joined judges) = of_whole whole joined answer judges
+  analysed answer (is_unlinked refusal is tells) = of_unlinked refusal is answer tells
 
 -- ---- what files come to that are read
 
@@ -147,38 +132,32 @@ of_verdicts : (verdicts : List Verdict) → is_report (status_of verdicts) ≡ t
 of_verdicts verdicts = by_suspect (has_suspect verdicts)
 
 module _ (names : List (List ℕ)) (externs sources : List Source) where
-  pub judged_program : (name : List ℕ) (program : Program) (answer : Answer) → IsProgram externs sources name program → Reported name program answer → Judges names externs sources answer
-  judged_program name program (Report text ends) is (verdicts, are, text_is, status_is) = (
+  pub judged_accepted : (result : code.Accepted) (answer : Answer) → IsAccepted names externs sources result → Analyses result answer → Judges names externs sources answer
+  judged_accepted result (Report text ends) is (verdicts, are, status_is) = (
     ap is_report status_is ∙ of_verdicts verdicts,
-    subst (λ t. IsReport (Becomes names externs sources) t ends) (sym text_is)
-        (subst (λ s. IsReport (Becomes names externs sources) (outcome.report_of name program verdicts) s) (sym status_is)
-        (results.of_form name program verdicts (outcome.of_form name program verdicts is are))),
+    record { sources = result; gives = outcome.accepted result is; verdicts = verdicts; analysed = are; status = status_is },
   )
-  judged_program name program (Refusal line) is reported = absurd reported
-  judged_program name program (Unread line) is reported = absurd reported
+  judged_accepted result (Refusal line) is (file, refusal, why, line_is) = (file, refusal, line_is, results.of_program result (outcome.accepted result is) why)
+  judged_accepted result (Unread line) is analyses = absurd analyses
 
-  pub judged_accepted : (result : code.Accepted) (answer : Answer) → HasNoProgram externs sources → IsAccepted names externs sources result → Analyses result answer → Judges names externs sources answer
-  judged_accepted result (Report text ends) none is (verdicts, are, status_is) = (
-    ap is_report status_is ∙ of_verdicts verdicts,
-    subst (λ s. IsReport (Becomes names externs sources) text.items s) (sym status_is) (results.analysed result text.items verdicts (outcome.accepted result none is) are),
-  )
-  judged_accepted result (Refusal line) none is (file, refusal, why, line_is) = (file, refusal, line_is, results.of_program result (outcome.accepted result none is) why)
-  judged_accepted result (Unread line) none is analyses = absurd analyses
-
-pub judged_refused : (texts : Texts) (fault : SourcesFault) (answer : Answer) → HasNoProgram texts.externs texts.sources → Refuses texts fault → ShowsFault fault answer →
-    Judges texts.files texts.externs texts.sources answer
-judged_refused texts (told.Refused file refusal) (Report text ends) none refuses shows = absurd shows
-judged_refused texts (told.Refused file refusal) (Refusal line) none refuses line_is = (file, refusal, line_is, results.of_sources (outcome.refused file refusal none refuses))
-judged_refused texts (told.Refused file refusal) (Unread line) none refuses shows = absurd shows
-judged_refused texts (told.Unread name) answer none refuses shows = absurd refuses
-judged_refused texts told.NoMemory answer none refuses shows = absurd shows
+pub judged_refused : (texts : Texts) (fault : SourcesFault) (answer : Answer) → Refuses texts fault → ShowsFault fault answer → Judges texts.files texts.externs texts.sources answer
+judged_refused texts (told.Refused file refusal) (Report text ends) refuses shows = absurd shows
+judged_refused texts (told.Refused file refusal) (Refusal line) refuses line_is = (file, refusal, line_is, results.of_sources (outcome.refused file refusal refuses))
+judged_refused texts (told.Refused file refusal) (Unread line) refuses shows = absurd shows
+judged_refused texts (told.Unread name) answer refuses shows = absurd refuses
+judged_refused texts told.NoMemory answer refuses shows = absurd shows
 
 -- ---- what a command comes to
 
 module _ (check : Check) (held : Held) (externs sources : List Source) (read : IsRead check held externs sources) where
   follows_report : {text : List ℕ} {ends : Status} → IsReport (Becomes (numbered check) externs sources) text ends → IsReport (Follows check held) text ends
-  follows_report (results.of_form name program verdicts becomes) = results.of_form name program verdicts (outcome.read externs sources _ read becomes)
-  follows_report (results.analysed result text verdicts becomes are) = results.analysed result text verdicts (outcome.read externs sources _ read becomes) are
+  follows_report report = record {
+    sources = report.sources;
+    gives = outcome.read externs sources _ read report.gives;
+    verdicts = report.verdicts;
+    analysed = report.analysed;
+    status = report.status;
+  }
 
   follows_refusal : (file : List ℕ) (refusal : base.Refusal) → IsRefusal (Becomes (numbered check) externs sources) file refusal → IsRefusal (Follows check held) file refusal
   follows_refusal file refusal (results.of_sources becomes) = results.of_sources (outcome.read externs sources _ read becomes)

@@ -2,44 +2,28 @@
 use Rattle.std.specs.Bool.{⊤}
 use Rattle.std.proofs.Common.{ℕ, ◌≡◌, ◌∙◌, List, Some, sym, subst}
 use Rattle.lk_io.specs.Shelf.{Held}
-use Rattle.lk_facts.specs.declared.verdict.Verdict.{Verdict}
-use Rattle.lk_form.specs.declared.tree.Program.{Program}
-use Rattle.lk_form.specs.Form.{IsOfForm}
-use Rattle.lk_laws.specs.Laws.{VerdictsAreOne}
 use Rattle.lk_sources.specs.Laws.{HasOneReading, NeverRefused, NeverTooLong}
 use Rattle.lk_sources.specs.Numbers.{numbered}
 use Rattle.lk_sources.specs.declared.reading.Source.{Source}
 use Rattle.lk_words.specs.Words.{Check, command}
-use Rattle.lk_top.specs.Outcome.{AreVerdictsOf, Outcome, Usage, Missing, Refused, Verdicts, Accepted, IsProgram, lone, Becomes, of_form, refused, accepted, Follows, missing, too_long, read, ComesTo, no_command, checks}
-
-abbrev pub HasOneProgram : Type 0
-HasOneProgram = (own : ℕ) (source : List ℕ) (a b : Program) → IsOfForm own source a → IsOfForm own source b → a ≡ b
+use Rattle.lk_top.specs.Outcome.{Outcome, Usage, Missing, Refused, Accepted, Becomes, refused, accepted, Follows, missing, too_long, read, ComesTo, no_command, checks}
 
 -- the laws by which words come to one outcome
 pub record AreLaws : Type 0 where
-  pub program : HasOneProgram
-  pub analysis : VerdictsAreOne
   pub reading : HasOneReading
   pub never_long : NeverTooLong
   pub never_refused : NeverRefused
 
--- what one says of the other: verdicts are one list, and verdicts, a refusal and accepted sources exclude one another
+-- what one says of the other: a refusal and accepted sources exclude one another
 abbrev pub IsAlike : Outcome → Outcome → Type 0
 IsAlike Usage other = ⊤
 IsAlike (Missing name) other = ⊤
-IsAlike (Verdicts name program verdicts) Usage = ⊤
-IsAlike (Verdicts name program verdicts) (Missing other) = ⊤
-IsAlike (Verdicts name program verdicts) (Verdicts other second found) = verdicts ≡ found
-IsAlike (Verdicts name program verdicts) (Refused file refusal) = ⊥
-IsAlike (Verdicts name program verdicts) (Accepted sources) = ⊥
 IsAlike (Refused file refusal) Usage = ⊤
 IsAlike (Refused file refusal) (Missing name) = ⊤
-IsAlike (Refused file refusal) (Verdicts name program verdicts) = ⊥
 IsAlike (Refused file refusal) (Refused other second) = ⊤
 IsAlike (Refused file refusal) (Accepted sources) = ⊥
 IsAlike (Accepted sources) Usage = ⊤
 IsAlike (Accepted sources) (Missing name) = ⊤
-IsAlike (Accepted sources) (Verdicts name program verdicts) = ⊥
 IsAlike (Accepted sources) (Refused file refusal) = ⊥
 IsAlike (Accepted sources) (Accepted other) = ⊤
 
@@ -47,26 +31,14 @@ beside_missing : (outcome : Outcome) (name : List ℕ) → IsAlike outcome (Miss
 beside_missing Usage name = tt
 beside_missing (Missing other) name = tt
 beside_missing (Refused file refusal) name = tt
-beside_missing (Verdicts other program verdicts) name = tt
 beside_missing (Accepted sources) name = tt
 
 module _ (laws : AreLaws) where
-  same_verdicts : {p q : Program} {vs ws : List Verdict} → p ≡ q → AreVerdictsOf p vs → AreVerdictsOf q ws → vs ≡ ws
-  same_verdicts {vs = vs} {ws = ws} e a b = laws.analysis _ vs ws a (subst (λ r. AreVerdictsOf r ws) (sym e) b)
-
-  one_formed : {externs sources : List Source} {n m : List ℕ} {p q : Program} → IsProgram externs sources n p → IsProgram externs sources m q → p ≡ q
-  one_formed (lone {source = s} {program = p} form) (lone {program = q} other) = laws.program 0 s.bytes p q form other
-
   one_becoming : {names : List (List ℕ)} {externs sources : List Source} {a b : Outcome} → Becomes names externs sources a → Becomes names externs sources b → IsAlike a b
-  one_becoming (of_form n p vs form are) (of_form m q ws other found) = same_verdicts (one_formed form other) are found
-  one_becoming (of_form n p vs form are) (refused file refusal none why) = none n p form
-  one_becoming (of_form n p vs form are) (accepted result none is) = none n p form
-  one_becoming (refused file refusal none why) (of_form n p vs form are) = none n p form
-  one_becoming (refused file refusal none why) (refused other second none2 why2) = tt
-  one_becoming (refused file refusal none why) (accepted result none2 is) = laws.never_refused _ _ _ result file refusal is why
-  one_becoming (accepted result none is) (of_form n p vs form are) = none n p form
-  one_becoming (accepted result none is) (refused file refusal none2 why) = laws.never_refused _ _ _ result file refusal is why
-  one_becoming (accepted result none is) (accepted other none2 is2) = tt
+  one_becoming (refused file refusal why) (refused other second why2) = tt
+  one_becoming (refused file refusal why) (accepted result is) = laws.never_refused _ _ _ result file refusal is why
+  one_becoming (accepted result is) (refused file refusal why) = laws.never_refused _ _ _ result file refusal is why
+  one_becoming (accepted result is) (accepted other is2) = tt
 
   one_following : {check : Check} {held : Held} {a b : Outcome} → Follows check held a → Follows check held b → IsAlike a b
   one_following (missing name reached none) other = tt

@@ -7,15 +7,13 @@ use Rattle.lk_base.specs.declared.status.Status.{Status}
 use Rattle.lk_base.specs.declared.status.Status.TheVariants as status
 use Rattle.lk_io.specs.Shelf.{Held}
 use Rattle.lk_io.specs.Sink.{Takes}
-use Rattle.lk_facts.specs.declared.verdict.Verdict.{Verdict}
-use Rattle.lk_form.specs.declared.tree.Program.{Program}
 use Rattle.lk_sources.specs.Shelves.{Shelved, HasRisen}
 use Rattle.lk_words.specs.Words.{Check, command}
 use Rattle.lk_top.specs.Texts.{unwritten_line, refused_line, unread_line}
 use Rattle.lk_top.specs.declared.answer.Answer.TheVariants.{Report, Refusal, Unread}
 use Rattle.lk_top.specs.Answer.{Answers}
-use Rattle.lk_top.specs.Outcome.{Outcome, Accepted, Refused, Verdicts, ComesTo, Follows, checks}
-use Rattle.lk_top.specs.Results.{IsReport, of_form, analysed, IsRefusal, of_sources, of_program, is_report, status_of}
+use Rattle.lk_top.specs.Outcome.{Accepted, Refused, ComesTo, Follows, checks}
+use Rattle.lk_top.specs.Results.{IsReport, IsRefusal, of_sources, of_program, is_report}
 use Rattle.lk_top.specs.Run.{Sunk, Got, GotFront, GotNothing, NoneHasRisen, Reports, Refuses, Misses, AlwaysAnswers, AlwaysReports, AlwaysRefuses, Line, refused, unread, Fails, Told, Published}
 use Rattle.lk_top.proofs.OneOutcome.{AreLaws, one_outcome}
 
@@ -62,29 +60,22 @@ is_no_fault wanted report e = let clash : false ≡ true = sym (ap is_report e) 
 -- what a command comes to, its words come to
 report_of_words : {words : List (List ℕ)} {check : Check} {held : Held} {text : List ℕ} {ends : Status} → command words ≡ Some check → IsReport (Follows check held) text ends →
     IsReport (ComesTo words held) text ends
-report_of_words {check = check} is (of_form name program verdicts follows) = of_form name program verdicts (checks check _ is follows)
-report_of_words {check = check} is (analysed sources text verdicts follows are) = analysed sources text verdicts (checks check _ is follows) are
+report_of_words {check = check} is report = record {
+  sources = report.sources;
+  gives = checks check _ is report.gives;
+  verdicts = report.verdicts;
+  analysed = report.analysed;
+  status = report.status;
+}
 
 refusal_of_words : {words : List (List ℕ)} {check : Check} {held : Held} {file : List ℕ} {refusal : base.Refusal} → command words ≡ Some check → IsRefusal (Follows check held) file refusal →
     IsRefusal (ComesTo words held) file refusal
 refusal_of_words {check = check} is (of_sources follows) = of_sources (checks check _ is follows)
 refusal_of_words {check = check} is (of_program sources follows none) = of_program sources (checks check _ is follows) none
 
--- the status of a report is that of the verdicts to which words come, where they come to some of the form
-one_status : AreLaws → {words : List (List ℕ)} {held : Held} {text : List ℕ} {ends : Status} (name : List ℕ) (program : Program) (verdicts : List Verdict) →
-    IsReport (ComesTo words held) text ends → ComesTo words held (Verdicts name program verdicts) → ends ≡ status_of verdicts
-one_status one name program verdicts (of_form n p vs comes) other = let same = one_outcome one comes other in ap status_of same
-one_status one name program verdicts (analysed sources text vs comes are) other = absurd (one_outcome one comes other)
-
 no_refusal : AreLaws → {words : List (List ℕ)} {held : Held} {text : List ℕ} {ends : Status} (file : List ℕ) (refusal : base.Refusal) →
     IsReport (ComesTo words held) text ends → ComesTo words held (Refused file refusal) → ⊥
-no_refusal one file refusal (of_form n p vs comes) other = one_outcome one comes other
-no_refusal one file refusal (analysed sources text vs comes are) other = one_outcome one comes other
-
-no_verdicts : AreLaws → {words : List (List ℕ)} {held : Held} {file : List ℕ} {refusal : base.Refusal} (name : List ℕ) (program : Program) (verdicts : List Verdict) →
-    IsRefusal (ComesTo words held) file refusal → ComesTo words held (Verdicts name program verdicts) → ⊥
-no_verdicts one name program verdicts (of_sources comes) other = one_outcome one comes other
-no_verdicts one name program verdicts (of_program sources comes none) other = one_outcome one comes other
+no_refusal one file refusal report other = one_outcome one report.gives other
 
 module _ (words : List (List ℕ)) (check : Check) (is_command : command words ≡ Some check) (shelf : Shelved) (out err : Sunk) (ends : Status) where
   module _ (text : Vec ℕ Global) (wanted : Status) (answers : Answers check shelf (Report text wanted)) (published : Published wanted text.items out err ends) where
@@ -109,15 +100,14 @@ module _ (words : List (List ℕ)) (check : Check) (is_command : command words �
       | inr (e, rose, front, line) ↦ absurd (none.out_faults rose)
     ]
 
-    module _ (laws : AreLaws) where
-      pub report_always : ForSome shelf.files (λ held. NoneHasRisen shelf out err → AlwaysReports words held ends)
-      report_always held told none name program verdicts comes = elim published [
-        | inl (e, got, calm, quiet) ↦ inl (e ∙ one_status laws name program verdicts (report_of_words is_command (answers.2 held told)) comes)
-        | inr (e, rose, front, line) ↦ absurd (none.out_faults rose)
-      ]
+    pub report_always : ForSome shelf.files (λ held. NoneHasRisen shelf out err → AlwaysReports words held ends)
+    report_always held told none sources comes quiet = elim published [
+      | inl (e, got, calm, silent) ↦ inl (ap is_report e ∙ answers.1)
+      | inr (e, rose, front, line) ↦ absurd (none.out_faults rose)
+    ]
 
-      pub report_never_refuses : ForSome shelf.files (λ held. NoneHasRisen shelf out err → AlwaysRefuses words held ends)
-      report_never_refuses held told none file refusal comes = absurd (no_refusal laws file refusal (report_of_words is_command (answers.2 held told)) comes)
+    pub report_never_refuses : AreLaws → ForSome shelf.files (λ held. NoneHasRisen shelf out err → AlwaysRefuses words held ends)
+    report_never_refuses laws held told none file refusal comes = absurd (no_refusal laws file refusal (report_of_words is_command (answers.2 held told)) comes)
 
   module _ (line : Vec ℕ Global) (answers : Answers check shelf (Refusal line)) (told : Told status.Refused line.items err ends) where
     pub refuses : ends ≡ status.Refused → ForSome shelf.files (λ held. Refuses words held err)
@@ -140,10 +130,10 @@ module _ (words : List (List ℕ)) (check : Check) (is_command : command words �
         let told_line = subst (λ l. Told status.Refused l err ends) line_is told in
         told_fails words shelf out err status.Refused ends (refused_line file refusal) quiet row told_line (λ e. cc) failed
 
-    pub refusal_never_reports : AreLaws → ForSome shelf.files (λ held. NoneHasRisen shelf out err → AlwaysReports words held ends)
-    refusal_never_reports laws held is none name program verdicts comes =
+    pub refusal_always_reports : ForSome shelf.files (λ held. NoneHasRisen shelf out err → AlwaysReports words held ends)
+    refusal_always_reports held is none sources comes quiet =
         let (file, refusal, line_is, refused_so) = answers.1 in
-        absurd (no_verdicts laws name program verdicts (refusal_of_words is_command (refused_so held is)) comes)
+        absurd (quiet file refusal (refusal_of_words is_command (refused_so held is)))
 
   module _ (line : Vec ℕ Global) (answers : Answers check shelf (Unread line)) (told : Told status.ReadFault line.items err ends) where
     pub misses : ends ≡ status.ReadFault → Misses words shelf err

@@ -1,12 +1,16 @@
 -- What is reported of sources that are accepted, and why others of them make no program: by their typed trees, the program into which these link, its points, and the verdicts of these.
 use Rattle.std.specs.Prelude.{ℕ, ◌≡◌, List, [], Some, slice_get}
+use Rattle.lk_base.specs.declared.code.Code.{Code}
 use Rattle.lk_base.specs.declared.code.Code.TheVariants.{TooManyPoints, TooManyLabels}
 use Rattle.lk_base.specs.declared.refusal.Refusal.{Refusal}
+use Rattle.lk_facts.specs.LabelRules.{HasMoreLabels}
+use Rattle.lk_facts.specs.Lowered.{IsLowered}
 use Rattle.lk_facts.specs.declared.program.Program.{Program}
 use Rattle.lk_facts.specs.declared.verdict.Verdict.{Verdict}
 use Rattle.std.specs.List.{AllZip}
 use Rattle.lk_join.specs.Program.{IsLinked, IsRefusal}
-use Rattle.lk_lower_expr.specs.Programs.{IsMadeOf}
+use Rattle.lk_lower_expr.specs.Programs.{IsMadeOf, HasMorePlaces}
+use Rattle.lk_lower_parts.specs.Mains.{spot_of_main}
 use Rattle.lk_lower_unit.specs.PointNumbers.{HasMorePoints}
 use Rattle.lk_report.specs.Report.{report_text}
 use Rattle.lk_solve.specs.Verdicts.{HasVerdicts}
@@ -26,21 +30,34 @@ pub record IsWhole (sources : code.Accepted) (whole : Whole) : Type 0 where
   pub typed : AreTyped sources units
   pub linked : IsLinked units sources.externs.items whole
 
+-- more labels than are analysed: its locations and lock places alone are more, or those of its points
+pub data HasTooManyLabels (whole : Whole) : Type 0 where
+  of_places : HasMorePlaces whole 65536 → HasTooManyLabels whole
+  of_points : (points : Program) → IsMadeOf whole points → IsLowered points → HasMoreLabels points 65536 → HasTooManyLabels whole
+
 -- the text is the report of the verdicts that the points of the program have
 pub record IsAnalysed (sources : code.Accepted) (text : List ℕ) (verdicts : List Verdict) : Type 0 where
   pub whole : Whole
   pub is_whole : IsWhole sources whole
-  pub few : HasMorePoints whole 65536 → ⊥
+  pub few_points : HasMorePoints whole 65536 → ⊥
   pub points : Program
   pub made : IsMadeOf whole points
+  pub lowered : IsLowered points
+  pub few_labels : HasMoreLabels points 65536 → ⊥
   pub verdicts_are : HasVerdicts points verdicts
   pub text_is : text ≡ report_text sources.files points verdicts
 
--- Why they make no program: their typed trees speak against one another, or are over a bound; that is told without a name.
+-- a refusal with this code at the name of main in its definition, which tells no name
+pub record IsAtMain (whole : Whole) (code : Code) (refusal : Refusal) : Type 0 where
+  pub is_code : refusal.code ≡ code
+  pub place : spot_of_main whole ≡ Some refusal.spot
+  pub no_name : refusal.name ≡ []
+
+-- Why they make no program: their typed trees speak against one another, or are over a bound; that is told at main.
 pub data IsNoProgram (sources : code.Accepted) (refusal : Refusal) : Type 0 where
   unlinked : (units : List TypedUnit) → AreTyped sources units → IsRefusal units sources.externs.items refusal → IsNoProgram sources refusal
-  too_many_points : (whole : Whole) → IsWhole sources whole → HasMorePoints whole 65536 → refusal.code ≡ TooManyPoints → refusal.name ≡ [] → IsNoProgram sources refusal
-  too_many_labels : (whole : Whole) → IsWhole sources whole → refusal.code ≡ TooManyLabels → refusal.name ≡ [] → IsNoProgram sources refusal
+  too_many_points : (whole : Whole) → IsWhole sources whole → HasMorePoints whole 65536 → IsAtMain whole TooManyPoints refusal → IsNoProgram sources refusal
+  too_many_labels : (whole : Whole) → IsWhole sources whole → (HasMorePoints whole 65536 → ⊥) → HasTooManyLabels whole → IsAtMain whole TooManyLabels refusal → IsNoProgram sources refusal
 
 -- with the name of the file in which its place stands
 pub record IsNoProgramIn (sources : code.Accepted) (file : List ℕ) (refusal : Refusal) : Type 0 where

@@ -4,14 +4,15 @@ use Rattle.std.specs.Option.{ForSome}
 use Rattle.lk_base.specs.declared.refusal.Refusal.{Refusal}
 use Rattle.lk_base.specs.declared.status.Status.{Status}
 use Rattle.lk_facts.specs.declared.verdict.Verdict.{Verdict}
-use Rattle.lk_form.specs.declared.tree.Program.{Program}
 use Rattle.lk_base.specs.declared.code.Code.{Code}
 use Rattle.lk_base.specs.declared.code.Code.TheVariants.{TooManyPoints, TooManyLabels}
+use Rattle.lk_facts.specs.LabelRules.{HasMoreLabels}
+use Rattle.lk_facts.specs.Lowered.{IsLowered}
 use Rattle.lk_facts.specs.declared.program.Program.{Program as Points}
 use Rattle.lk_elaborate.specs.Checked.{IsCheckedOf}
 use Rattle.lk_join.specs.Program as linking
 use Rattle.lk_join.specs.Program.{IsLinked}
-use Rattle.lk_lower_expr.specs.Programs.{IsMadeOf}
+use Rattle.lk_lower_expr.specs.Programs.{IsMadeOf, HasMorePlaces}
 use Rattle.lk_lower_unit.specs.PointNumbers.{HasMorePoints}
 use Rattle.lk_report.specs.Report.{report_text}
 use Rattle.lk_solve.specs.Verdicts.{HasVerdicts}
@@ -31,8 +32,8 @@ use Rattle.lk_sources.specs.declared.fault.SourcesFault.{SourcesFault}
 use Rattle.lk_sources.specs.declared.fault.SourcesFault.TheVariants as fault
 use Rattle.lk_sources.specs.declared.reading.Source.{Source}
 use Rattle.lk_words.specs.Words.{Check}
-use Rattle.lk_top.specs.Analysis.{IsAnalysed, IsNoProgramIn}
-use Rattle.lk_top.specs.Outcome.{Becomes, Follows, AreVerdictsOf, report_of}
+use Rattle.lk_top.specs.Analysis.{IsAnalysed, IsAtMain, IsNoProgramIn}
+use Rattle.lk_top.specs.Outcome.{Becomes, Follows}
 use Rattle.lk_top.specs.Results.{IsReport, IsRefusal, status_of, is_report}
 use Rattle.lk_top.specs.Texts.{refused_line, unread_line}
 use Rattle.lk_top.specs.declared.answer.Answer.{Answer}
@@ -40,22 +41,15 @@ use Rattle.lk_top.specs.declared.answer.Answer.TheVariants as answer
 
 -- ---- a report, or the line of a refusal
 
--- the report of a program of the form
-abbrev pub Reported : List ℕ → Program → Answer → Type 0
-Reported name program (answer.Report text status) =
-    (verdicts : List Verdict) × AreVerdictsOf program verdicts × (text.items ≡ report_of name program verdicts) × (status ≡ status_of verdicts)
-Reported name program (answer.Refusal line) = ⊥
-Reported name program (answer.Unread line) = ⊥
-
 -- the line of a refusal, for the file of its place
 abbrev pub Tells : List (List ℕ) → Refusal → Answer → Type 0
 Tells files refusal (answer.Report text status) = ⊥
 Tells files refusal (answer.Refusal line) = (file : List ℕ) × (slice_get files refusal.spot.file ≡ Some file) × (line.items ≡ refused_line file refusal)
 Tells files refusal (answer.Unread line) = ⊥
 
--- of one with this code that tells no name
-abbrev pub TellsCode : List (List ℕ) → Code → Answer → Type 0
-TellsCode files code shown = (refusal : Refusal) × (refusal.code ≡ code) × (refusal.name ≡ []) × Tells files refusal shown
+-- of one with this code at main
+abbrev pub TellsAtMain : List (List ℕ) → Whole → Code → Answer → Type 0
+TellsAtMain files whole code shown = (refusal : Refusal) × IsAtMain whole code refusal × Tells files refusal shown
 
 -- the report of verdicts
 abbrev pub ShowsVerdicts : List (List ℕ) → Points → List Verdict → Answer → Type 0
@@ -77,18 +71,21 @@ IsNumbered source = (before : Unit) × (source.parsed.unit ≡ numbered before)
 abbrev pub TypesSource : AcceptedSource → TypedUnit → Type 0
 TypesSource source typed = (externs : List Name) → IsCheckedOf externs source.parsed.unit source.checked → IsTypedUnit externs source.parsed.unit typed
 
--- what points, a program and typed trees come to
-abbrev pub JudgesPoints : List (List ℕ) → Points → Answer → Type 0
-JudgesPoints files points shown = ((verdicts : List Verdict) × HasVerdicts points verdicts × ShowsVerdicts files points verdicts shown) ⊎ TellsCode files TooManyLabels shown
+-- what points come to: they have their verdicts, or too many labels
+pub data JudgesPoints (files : List (List ℕ)) (whole : Whole) (points : Points) (shown : Answer) : Type 0 where
+  shows : (verdicts : List Verdict) → HasVerdicts points verdicts → (HasMoreLabels points 65536 → ⊥) → ShowsVerdicts files points verdicts shown → JudgesPoints files whole points shown
+  too_many : HasMoreLabels points 65536 → TellsAtMain files whole TooManyLabels shown → JudgesPoints files whole points shown
 
-abbrev pub JudgesWhole : List (List ℕ) → Whole → Answer → Type 0
-JudgesWhole files whole shown =
-    ((HasMorePoints whole 65536 → ⊥) × ((points : Points) × (verdicts : List Verdict) × IsMadeOf whole points × HasVerdicts points verdicts × ShowsVerdicts files points verdicts shown))
-    ⊎ (HasMorePoints whole 65536 × TellsCode files TooManyPoints shown) ⊎ TellsCode files TooManyLabels shown
+-- what a program comes to: it has points, or too many of them, or of their places
+pub data JudgesWhole (files : List (List ℕ)) (whole : Whole) (shown : Answer) : Type 0 where
+  has_points : (points : Points) → (HasMorePoints whole 65536 → ⊥) → IsMadeOf whole points → IsLowered points → JudgesPoints files whole points shown → JudgesWhole files whole shown
+  too_many_points : HasMorePoints whole 65536 → TellsAtMain files whole TooManyPoints shown → JudgesWhole files whole shown
+  too_many_places : (HasMorePoints whole 65536 → ⊥) → HasMorePlaces whole 65536 → TellsAtMain files whole TooManyLabels shown → JudgesWhole files whole shown
 
-abbrev pub JudgesUnits : List (List ℕ) → List Name → List TypedUnit → Answer → Type 0
-JudgesUnits files externs units shown =
-    ((whole : Whole) × IsLinked units externs whole × JudgesWhole files whole shown) ⊎ ((refusal : Refusal) × linking.IsRefusal units externs refusal × Tells files refusal shown)
+-- what typed trees come to: they link into a program, or speak against one another
+pub data JudgesUnits (files : List (List ℕ)) (externs : List Name) (units : List TypedUnit) (shown : Answer) : Type 0 where
+  links : (whole : Whole) → IsLinked units externs whole → JudgesWhole files whole shown → JudgesUnits files externs units shown
+  is_unlinked : (refusal : Refusal) → linking.IsRefusal units externs refusal → Tells files refusal shown → JudgesUnits files externs units shown
 
 -- the report of sources that are accepted, or the line of why they make no program
 abbrev pub Analyses : code.Accepted → Answer → Type 0

@@ -6,15 +6,13 @@ use Rattle.lk_base.specs.declared.status.Status.{Status}
 use Rattle.lk_base.specs.declared.status.Status.TheVariants as status
 use Rattle.lk_io.specs.Shelf.{Held}
 use Rattle.lk_io.specs.Sink.{Takes}
-use Rattle.lk_form.specs.declared.tree.Program.{Program}
-use Rattle.lk_facts.specs.declared.verdict.Verdict.{Verdict}
 use Rattle.lk_words.specs.Words.{Check, command}
 use Rattle.lk_sources.specs.declared.accepting.Accepted as code
 use Rattle.lk_sources.specs.Reading as reading
 use Rattle.lk_sources.specs.Shelves.{Count, Shelved, HasRisen, IsAsBefore}
 use Rattle.lk_top.specs.Texts.{refused_line, usage_line, unread_line, unwritten_line, no_memory_line}
-use Rattle.lk_top.specs.Results.{IsReport, IsRefusal, status_of, is_report}
-use Rattle.lk_top.specs.Outcome.{Accepted, Refused, Verdicts, ComesTo}
+use Rattle.lk_top.specs.Results.{IsReport, IsRefusal, is_report}
+use Rattle.lk_top.specs.Outcome.{Accepted, Refused, ComesTo}
 
 -- what a sink tells: what it has taken before a call and after it, and its count of faults
 pub record Sunk : Type 0 where
@@ -98,14 +96,15 @@ pub record Fails (words : List (List ℕ)) (shelf : Shelved) (out err : Sunk) : 
 abbrev pub IsOrNoMemory : Status → Status → Type 0
 IsOrNoMemory ends wanted = (ends ≡ wanted) ⊎ (ends ≡ status.NoMemory)
 
--- verdicts of a source of the form are reported, but for want of memory
-abbrev pub AlwaysReports : List (List ℕ) → Held → Status → Type 0
-AlwaysReports words held ends =
-    (name : List ℕ) (program : Program) (verdicts : List Verdict) → ComesTo words held (Verdicts name program verdicts) → IsOrNoMemory ends (status_of verdicts)
-
 -- a refusal of the sources is told, but for want of memory
 abbrev pub AlwaysRefuses : List (List ℕ) → Held → Status → Type 0
 AlwaysRefuses words held ends = (file : List ℕ) (refusal : Refusal) → ComesTo words held (Refused file refusal) → IsOrNoMemory ends status.Refused
+
+-- Sources of the subset are reported, but for want of memory: they are accepted, and nothing refuses the program that they make.
+abbrev pub AlwaysReports : List (List ℕ) → Held → Status → Type 0
+AlwaysReports words held ends =
+    (sources : code.Accepted) → ComesTo words held (Accepted sources) → ((file : List ℕ) (refusal : Refusal) → IsRefusal (ComesTo words held) file refusal → ⊥) →
+    (is_report ends ≡ true) ⊎ (ends ≡ status.NoMemory)
 
 -- sources that are accepted are reported or refused, but for want of memory
 abbrev pub AlwaysAnswers : List (List ℕ) → Held → Status → Type 0

@@ -5,10 +5,6 @@ use Rattle.lk_base.specs.declared.spot.Spot.{Spot}
 use Rattle.lk_base.specs.declared.refusal.Refusal.{Refusal}
 use Rattle.lk_base.specs.Code.{number_of, word_of}
 
--- the place of a file's first byte
-abbrev pub first_byte : Spot
-first_byte = record { file = 0; line = 1; col = 1 }
-
 -- FILE:LINE:COL
 abbrev pub place : List ℕ → Spot → List ℕ
 place file spot = file ++ (codes ":" ++ (decimal spot.line ++ (codes ":" ++ decimal spot.col)))

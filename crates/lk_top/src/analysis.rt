@@ -3,11 +3,11 @@ ghost use Rattle.std.specs.List.{AllZip};
 ghost use Rattle.std.specs.Prelude.{◌≡◌, [], All, IfOk};
 ghost use Rattle.lk_graph.specs.Single.{ArePlaceNodes};
 ghost use Rattle.lk_sources.specs.Accepting.{IsCheckedSource};
-ghost use Rattle.lk_top.specs.Answer.{Analyses, JudgesPoints, JudgesUnits, JudgesWhole, ShowsVerdicts, Tells, TellsCode};
+ghost use Rattle.lk_top.specs.Answer.{Analyses, JudgesPoints, JudgesUnits, JudgesWhole, ShowsVerdicts, Tells, TellsAtMain};
 ghost use Rattle.lk_top.specs.Answer.{HasReadyTypes, IsNumbered, TypesSource};
 
 use crate::answer::Answer;
-use crate::form::status_of;
+use crate::status::status_of;
 use crate::texts::refused_line;
 use lk_base::{Code, Fault, Files, Name, NameFault, NoMemory, Refusal};
 use lk_elaborate::elaborate;
@@ -74,7 +74,7 @@ fn refuse_at_main(
     whole: &Whole,
     code: Code,
 ) -> Result<Answer, NoMemory>
-    ensures { IfOk result (TellsCode files.now code) }
+    ensures { IfOk result (TellsAtMain files.now whole.now code) }
 {
     let Some(spot) = main_spot(whole) else {
         return Err(NoMemory);
@@ -110,7 +110,7 @@ fn judge_points(
     points: &Points,
 ) -> Result<Answer, NoMemory>
     requires { ArePlaceNodes points.now }
-    ensures { IfOk result (JudgesPoints files.now points.now) }
+    ensures { IfOk result (JudgesPoints files.now whole.now points.now) }
 {
     match verdicts_of(alloc, points) {
         Ok(verdicts) => {

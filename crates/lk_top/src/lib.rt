@@ -3,8 +3,7 @@
 
 mod analysis;
 mod answer;
-mod form;
-mod report;
+mod status;
 mod texts;
 mod top;
 

@@ -5,20 +5,8 @@ ghost use Rattle.lk_top.specs.Texts.{place, named, refused_line, unread_line};
 use lk_base::{NoMemory, Refusal, Spot};
 use std::alloc::Global;
 
-/// The place of a file's first byte.
-pub(crate) const FIRST_BYTE: Spot = Spot {
-    file: 0,
-    line: 1,
-    col: 1,
-};
-
 /// Appends FILE:LINE:COL.
-pub(crate) fn push_place(
-    alloc: Global,
-    out: &mut Vec<u8>,
-    file: &[u8],
-    spot: Spot,
-) -> Result<(), NoMemory>
+fn push_place(alloc: Global, out: &mut Vec<u8>, file: &[u8], spot: Spot) -> Result<(), NoMemory>
     ensures { OnOk result (out.new.items ≡ out.old.items ++ place file.now spot) }
 {
     let Spot { file: _, line, col } = spot;

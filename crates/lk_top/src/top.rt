@@ -9,9 +9,7 @@ ghost use Rattle.lk_top.specs.Run.{sunk, Got, NoneHasRisen, Reports, Refuses, Mi
 
 use crate::answer::{Answer, examine};
 use lk_base::{NoMemory, Status};
-use lk_form::one_program;
 use lk_io::{Failed, Shelf, Sink, write_whole};
-use lk_laws::verdicts_are_one;
 use lk_sources::{commands_are_in_bounds, one_reading, one_result};
 use lk_words::{WordsFault, command};
 use std::alloc::Global;
@@ -56,7 +54,8 @@ pub fn run<F: Shelf, S: Sink, E: Sink>(
     out: &mut S,
     err: &mut E,
 ) -> Status
-    // Verdicts: the output has the whole report. It comes only if no count of faults rises.
+    // Verdicts: the output has the whole report. It comes only if no count of faults rises. Sources of the subset are
+    // reported, but for want of memory.
     ensures reports { IsTrue (is_report result) → ForSome (F.held shelf.old) (λ held.
         Reports (map string_bytes words.now) held (sunk S.gone S.faults out.old out.new) result) }
     ensures reports_quietly { IsTrue (is_report result) → (F.faults shelf.new ≡ F.faults shelf.old)
@@ -111,8 +110,6 @@ pub fn run<F: Shelf, S: Sink, E: Sink>(
     commands_are_in_bounds();
     one_reading();
     one_result();
-    one_program();
-    verdicts_are_one();
     match examine(alloc, &check, shelf) {
         Ok(Answer::Report { text, status }) => publish(out, err, &text, status),
         Ok(Answer::Refusal { line }) => tell(err, &line, Status::Refused),

@@ -3,7 +3,6 @@ pub mod Addresses
 pub mod Assignments
 pub mod Bounds
 pub mod Calls
-pub mod Checking
 pub mod Codes
 pub mod Constants
 pub mod Conversions

@@ -1,5 +1,5 @@
-use Rattle.std.proofs.Common.{inl, inr, subst}
-use Rattle.lk_top.specs.Answer.{ShowsVerdicts}
+use Rattle.std.proofs.Common.{Err, ap, subst}
+use Rattle.lk_top.specs.Answer.{ShowsVerdicts, shows, too_many}
 use Rattle.lk_top.proofs.analysis.judge_points.Goals as goal
 
 pub returns-in_ok-answer-in-Ok : goal.returns-in_ok-answer-in-Ok
@@ -7,7 +7,8 @@ returns-in_ok-answer-in-Ok c =
     let files = c.args.files.now in
     let points = c.args.points.now in
     let answer = c.in_ok-answer-in-Ok.answer in
-    inl (c.in-Ok.verdicts.items, c.in-Ok.ensures.ok, subst (λ vs. ShowsVerdicts files points vs answer) c.deref.ensures.value c.in_ok-answer-in-Ok.ensures)
+    shows c.in-Ok.verdicts.items c.in-Ok.ensures.ok c.in-Ok.ensures.few (subst (λ vs. ShowsVerdicts files points vs answer) c.deref.ensures.value c.in_ok-answer-in-Ok.ensures)
 
 pub returns-in_ok-answer-in-Err-TooManyLabels : goal.returns-in_ok-answer-in-Err-TooManyLabels
-returns-in_ok-answer-in-Err-TooManyLabels c = inr c.in_ok-answer-in-Err-TooManyLabels.ensures
+returns-in_ok-answer-in-Err-TooManyLabels c =
+    too_many (c.in-Err-TooManyLabels.ensures.too_many (ap Err c.in-Err-TooManyLabels.field-0-is)) c.in_ok-answer-in-Err-TooManyLabels.ensures

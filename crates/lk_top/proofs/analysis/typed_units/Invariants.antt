@@ -1,6 +1,5 @@
-use Rattle.std.proofs.Common.{All}
 use Rattle.std.specs.List.{AllZip}
-use Rattle.lk_top.specs.Answer.{HasReadyTypes, TypesSource}
+use Rattle.lk_top.specs.Answer.{TypesSource}
 use Rattle.lk_top.proofs.analysis.typed_units.Given as goal
 
 -- the sources so far come to the typed trees

@@ -1,12 +1,14 @@
-use Rattle.std.proofs.Common.{subst, rules}
-use Rattle.lk_top.specs.Answer.{Reported}
-use Rattle.lk_top.proofs.AnswerLemmas.{judged_program}
+use Rattle.lk_top.proofs.AnswerLemmas.{all_numbered, judged_accepted, judged_refused}
 use Rattle.lk_top.proofs.answer.judge.Goals as goal
 
-pub returns-in_ok-answer-in-Some : goal.returns-in_ok-answer-in-Some
-returns-in_ok-answer-in-Some c =
-    let texts = c.args.texts in
-    let formed = c.in-Some.field-0 in
-    let answer = c.in_ok-answer-in-Some.answer in
-    judged_program texts.files texts.externs texts.sources formed.name formed.program answer (search rules)
-    (subst (λ name. Reported name formed.program answer) (search rules) c.in_ok-answer-in-Some.ensures)
+pub analyse-requires-clause-numbered : goal.analyse-requires-clause-numbered
+analyse-requires-clause-numbered c =
+    let are = c.in-Ok.ensures.ok.are in
+    all_numbered c.args.texts.sources are.lists c.in-Ok.accepted.sources.items are.trees
+
+pub returns-in_ok-answer-in-Ok : goal.returns-in_ok-answer-in-Ok
+returns-in_ok-answer-in-Ok c =
+    judged_accepted c.args.texts.files c.args.texts.externs c.args.texts.sources c.in-Ok.accepted _ c.in-Ok.ensures.ok c.in_ok-answer-in-Ok.ensures
+
+pub returns-in_ok-answer-in-Err : goal.returns-in_ok-answer-in-Err
+returns-in_ok-answer-in-Err c = judged_refused c.args.texts c.in-Err.fault _ c.in-Err.ensures.err c.in_ok-answer-in-Err.ensures

@@ -1,7 +1,7 @@
 use Rattle.std.proofs.Common.{refl, rules}
 use Rattle.lk_sources.specs.Shelves.{shelved}
 use Rattle.lk_top.specs.Run.{sunk, usage, no_memory}
-use Rattle.lk_top.proofs.RunLemmas.{told_fails, reports, report_fails, report_always, report_always_answers, report_never_refuses, refuses, refusal_fails, refusal_never_reports, misses, unread_fails}
+use Rattle.lk_top.proofs.RunLemmas.{told_fails, reports, report_fails, report_always, report_always_answers, report_never_refuses, refuses, refusal_fails, refusal_always_reports, misses, unread_fails}
 use Rattle.lk_top.proofs.top.run.Goals as goal
 
 pub returns-in-Err-Usage-clause-fails : goal.returns-in-Err-Usage-clause-fails
@@ -23,20 +23,11 @@ returns-in-Ok-Report-clause-fails g c =
 pub returns-in-Ok-Report-clause-always_reports : goal.returns-in-Ok-Report-clause-always_reports
 returns-in-Ok-Report-clause-always_reports g c =
     report_always _ _ (search rules) _ _ _ _ c.in-Ok-Report.text _ (rw c.in-Ok-Report.field-0-is at c.in-Ok-Report.ensures.answer) (rw c.deref.ensures.value at c.publish.ensures.published)
-    (record {
-      program = c.one_program.ensures;
-      analysis = c.verdicts_are_one.ensures;
-      reading = c.one_reading.ensures.reading;
-      never_long = c.one_reading.ensures.never;
-      never_refused = c.one_result.ensures.never;
-    })
 
 pub returns-in-Ok-Report-clause-always_refuses : goal.returns-in-Ok-Report-clause-always_refuses
 returns-in-Ok-Report-clause-always_refuses g c =
     report_never_refuses _ _ (search rules) _ _ _ _ c.in-Ok-Report.text _ (rw c.in-Ok-Report.field-0-is at c.in-Ok-Report.ensures.answer) (rw c.deref.ensures.value at c.publish.ensures.published)
     (record {
-      program = c.one_program.ensures;
-      analysis = c.verdicts_are_one.ensures;
       reading = c.one_reading.ensures.reading;
       never_long = c.one_reading.ensures.never;
       never_refused = c.one_result.ensures.never;
@@ -56,14 +47,7 @@ returns-in-Ok-Refusal-clause-fails g c =
 
 pub returns-in-Ok-Refusal-clause-always_reports : goal.returns-in-Ok-Refusal-clause-always_reports
 returns-in-Ok-Refusal-clause-always_reports g c =
-    refusal_never_reports _ _ (search rules) _ _ _ _ c.in-Ok-Refusal.line (rw c.in-Ok-Refusal.field-0-is at c.in-Ok-Refusal.ensures.answer) (rw c.deref-in-Ok-Refusal.ensures.value at c.tell-in-Ok-Refusal.ensures)
-    (record {
-      program = c.one_program.ensures;
-      analysis = c.verdicts_are_one.ensures;
-      reading = c.one_reading.ensures.reading;
-      never_long = c.one_reading.ensures.never;
-      never_refused = c.one_result.ensures.never;
-    })
+    refusal_always_reports _ _ (search rules) _ _ _ _ c.in-Ok-Refusal.line (rw c.in-Ok-Refusal.field-0-is at c.in-Ok-Refusal.ensures.answer) (rw c.deref-in-Ok-Refusal.ensures.value at c.tell-in-Ok-Refusal.ensures)
 
 pub returns-in-Ok-Unread-clause-misses : goal.returns-in-Ok-Unread-clause-misses
 returns-in-Ok-Unread-clause-misses g c =

@@ -1,5 +1,0 @@
-pub mod Words
-pub mod Tokens
-pub mod Grammar
-pub mod Form
-pub mod Reading

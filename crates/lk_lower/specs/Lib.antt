@@ -1,5 +1,0 @@
-pub mod Labels
-pub mod Layout
-pub mod Points
-pub mod Sizes
-pub mod Tables
