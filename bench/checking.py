@@ -8,10 +8,10 @@ declarations; functions; locals; labels, each with a `goto`; cases of one `switc
 structs; members of one struct, and uses of them; expressions nested 150 deep; redeclarations of an object, of a function, of one
 whose type is large, and of one by two large types that differ in the sizes of arrays.
 
-None of them is of the form that lsrace analyses, so it reads their tokens and their tree, checks them, and refuses them with 19
-at their first byte; another answer ends the run. Each is also run with one more token, by which it is no tree: refused with 13, it
-takes the time of the tokens and the tree alone, and what is left of the other time is that of the check. Seconds are those of
-the processor, the least of three runs.
+None of them has a fault, and each is run with one behind it, an enumerator that is declared twice: lsrace reads its tokens and its
+tree, checks it to the end, and refuses it with 21, before it makes anything of it; another answer ends the run. Each is also run with
+one more token instead, by which it is no tree: refused with 13, it takes the time of the tokens and the tree alone, and what is left
+of the other time is that of the check. Seconds are those of the processor, the least of three runs.
 
 For each source it prints the bytes and about how many tokens there are, the seconds of tokens and tree, of the check, and of both,
 the most memory in MB, the microseconds of the check for a token, and of the larger one how these grew: near 1.0 the check is
@@ -23,10 +23,13 @@ import subprocess
 import sys
 import tempfile
 
-from parsing import MOST, name_of, tokens_in
+from parsing import MOST, ONE_MORE, name_of, tokens_in
 
 CHECK_SECONDS, ALL_SECONDS, MEGABYTES = 0.6, 1.5, 500
 MOST_GROWTH, LEAST_SECONDS = 1.5, 0.02
+
+# A declaration with a fault of its own; none of the sources declares its name.
+FAULTY = "enum{_,_};"
 
 HEAD = """typedef unsigned long size;
 typedef int (*weight)(int);
@@ -217,22 +220,22 @@ def seconds(lsrace, path, answer):
 
 def measured(lsrace, folder, text):
     """The seconds of tokens and tree, those of tokens, tree and check, and the most memory in MB."""
-    if len(text) + 2 > MOST:
+    if len(text) + len(FAULTY) > MOST:
         sys.exit(f"{folder}: {len(text)} bytes")
     path = os.path.join(folder, "source.c")
     with open(path, "w") as file:
-        file.write(text + "}")
+        file.write(text + ONE_MORE)
     tree, _ = seconds(lsrace, path, "refused 13 ")
     with open(path, "w") as file:
-        file.write(text)
-    whole, memory = seconds(lsrace, path, "source.c:1:1: refused 19 ")
+        file.write(text + FAULTY)
+    whole, memory = seconds(lsrace, path, "refused 21 ")
     return tree, whole, memory
 
 
 def size_of(kind, twice):
     """The size of the smaller or the larger source of a kind."""
     if kind is by_hand:
-        return (MOST - 2) // (1 if twice else 2)
+        return (MOST - len(FAULTY)) // (1 if twice else 2)
     return KINDS[kind] * (2 if twice else 1)
 
 

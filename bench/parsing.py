@@ -3,13 +3,13 @@
 
 usage: bench/parsing.py FOLDER PATH-OF-LSRACE
 
-In the new folder it writes one source a kind: functions as they are written by hand, a call of 100,000 arguments, a list of
+In the new folder it writes two sources a kind, of which the second has one token more: functions as they are written by hand, a call of 100,000 arguments, a list of
 200,000 entries, 100,000 declarations, and 40,000 statements that use names behind as many declarations. For each it prints
 the bytes, about how many tokens there are, and the seconds of `gcc -fsyntax-only` (the least of three runs).
 
-None of them is of the form that lsrace analyses, so it reads their tokens and their tree and refuses them with 19. Its seconds are those
-of the processor, the least of three runs, with the most memory that it held. They are to grow with the tokens: none of the long
-sources should take much more a token than the first. It proves nothing.
+lsrace is run on each with one more token, by which it is no tree: it reads the tokens and the tree and refuses them with 13, before it
+checks anything. Its seconds are those of the processor, the least of three runs, with the most memory that it held. They are to grow with
+the tokens: none of the long sources should take much more a token than the first. It proves nothing.
 """
 import os
 import re
@@ -18,6 +18,9 @@ import sys
 import time
 
 MOST = 1_048_576
+
+# A token that no tree goes on with behind a whole source.
+ONE_MORE = "}"
 
 
 def by_hand():
@@ -55,7 +58,7 @@ static int sum_{0}(struct node *node, int (*weight)(int), size limit)
     parts, bytes_ = [head], len(head)
     for number in range(MOST):
         part = function.format(number)
-        if bytes_ + len(part) > MOST:
+        if bytes_ + len(part) + len(ONE_MORE) > MOST:
             break
         parts.append(part)
         bytes_ += len(part)
@@ -125,7 +128,7 @@ def of_lsrace(lsrace, path):
         run = subprocess.Popen([lsrace, "check", os.path.basename(path)], cwd=os.path.dirname(path), stderr=subprocess.PIPE)
         told = run.stderr.read().decode()
         _, status, used = os.wait4(run.pid, 0)
-        if os.waitstatus_to_exitcode(status) != 2 or "refused 19 " not in told:
+        if os.waitstatus_to_exitcode(status) != 2 or "refused 13 " not in told:
             sys.exit(f"lsrace: {told}")
         took = used.ru_utime + used.ru_stime
         best = took if best is None else min(best, took)
@@ -141,12 +144,13 @@ def main():
     print("source             bytes  tokens  gcc s  lsrace s    MB")
     for name, make in SOURCES.items():
         text = make()
-        if len(text) > MOST:
+        if len(text) + len(ONE_MORE) > MOST:
             sys.exit(f"{name} has {len(text)} bytes")
-        path = os.path.join(folder, f"{name}.c")
-        with open(path, "w") as file:
-            file.write(text)
-        seconds, memory = of_lsrace(lsrace, path)
+        path, refused = os.path.join(folder, f"{name}.c"), os.path.join(folder, f"{name}_and_more.c")
+        for file_name, written in ((path, text), (refused, text + ONE_MORE)):
+            with open(file_name, "w") as file:
+                file.write(written)
+        seconds, memory = of_lsrace(lsrace, refused)
         print(f"{name:14} {len(text):9} {tokens_in(text):7} {seconds_of_gcc(path):6.2f} {seconds:9.2f} {memory:5.0f}", flush=True)
 
 

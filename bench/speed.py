@@ -1,5 +1,5 @@
 #!/usr/bin/env python3
-"""Times a built lsrace against gcc's syntax check, on sources of growing size up to the limits.
+"""Times a built lsrace against gcc's syntax check, on whole programs of growing size.
 
 usage: bench/speed.py PATH-OF-LSRACE
 

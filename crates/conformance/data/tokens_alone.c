@@ -1,2 +1,2 @@
-/* not of the form */ static int n = 1;
+/* an initialiser  */ static int n = 1;
 int main(void) { return n; }
