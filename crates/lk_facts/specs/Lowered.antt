@@ -5,6 +5,7 @@ use Rattle.lk_facts.specs.InRange.{AllOperands}
 use Rattle.lk_facts.specs.Initials.{IsWritten}
 use Rattle.lk_facts.specs.LabelRules.{AreVoidParts, IsWithin, form_of}
 use Rattle.lk_facts.specs.Live.{IsReached}
+use Rattle.lk_facts.specs.Places.{AreDifferent}
 use Rattle.lk_facts.specs.Program.{action_at, next_of, live_at, function_at, site_at, entry_of, exit_of, value_site_of, root_at, place_at, parameter_of, root_of_function, function_of_root, IsLocation, IsLockPlace}
 use Rattle.lk_facts.specs.Reach.{IsNext}
 use Rattle.lk_facts.specs.Typed.{IsForm, HasPartAt, IsRootType, IsHolderType, IsNumberOf, IsTyped, IsFunctionTyped}
@@ -133,6 +134,10 @@ module _ (program : Program) where
   abbrev pub IsString : ℕ → Type 0
   IsString t = (char : ℕ) × IsForm program.types t (Pointer char) × IsForm program.types char (Int Char)
 
+  -- the strings of main's arguments have a root
+  abbrev pub HasStrings : Type 0
+  HasStrings = (r : ℕ) × (root : Root) × (root_at program r ≡ Some root) × (root.kind ≡ Args)
+
   -- the objects of main's arguments (C99 5.1.2.2.1): the pointers to the strings, and the chars of the strings
   abbrev pub IsArgument : RootKind → ℕ → Type 0
   IsArgument Global t = ⊤
@@ -140,7 +145,7 @@ module _ (program : Program) where
   IsArgument Local t = ⊤
   IsArgument (Heap one) t = ⊤
   IsArgument Text t = ⊤
-  IsArgument Argv t = (string n : ℕ) × IsForm program.types t (Array string n) × IsString string
+  IsArgument Argv t = (string n : ℕ) × IsForm program.types t (Array string n) × IsString string × HasStrings
   IsArgument Args t = (char n : ℕ) × IsForm program.types t (Array char n) × IsForm program.types char (Int Char)
   IsArgument FunctionRoot t = ⊤
 
@@ -201,3 +206,5 @@ module _ (program : Program) where
     -- the locations are the places of cells with values, and the lock places those of mutexes
     pub locations : (place : Place) → ((n : ℕ) × IsLocation program n × (place_at program n ≡ Some place)) ↔ IsPlaceOfValue place
     pub locks : (place : Place) → ((n : ℕ) × IsLockPlace program n × (place_at program n ≡ Some place)) ↔ IsPlaceOfMutex place
+    -- no place has two numbers
+    pub places_differ : AreDifferent program.places

@@ -20,7 +20,8 @@ use Rattle.lk_facts.specs.declared.root.RootKind.{RootKind}
 use Rattle.lk_facts.specs.declared.root.RootKind.TheVariants.{Global, Static, Local, Heap, Text, Argv, Args, Function as FunctionRoot}
 use Rattle.lk_types.specs.Equal.{IsAlike}
 use Rattle.lk_types.specs.Nodes.{node_of}
-use Rattle.lk_types.specs.Table.{Table, members_of}
+use Rattle.lk_types.specs.Objects.{is_scalar}
+use Rattle.lk_types.specs.Table.{Table, members_of, type_at}
 use Rattle.lk_types.specs.declared.c_type.CType.{CType}
 use Rattle.lk_types.specs.declared.c_type.CType.TheVariants.{Void, Int, ThreadId, Mutex, Cond, Pointer, Array, Struct, Function, Opaque}
 use Rattle.lk_types.specs.declared.member.StructMember.{StructMember}
@@ -235,6 +236,10 @@ module _ (program : Program) where
   IsReturn f None = ⊤
   IsReturn f (Some a) = (t : ℕ) × (result_of program f ≡ Some t) × Gives a t
 
+  -- an object of the type is one cell: it holds a value, or is a mutex or a condition variable
+  abbrev pub HoldsCell : ℕ → Type 0
+  HoldsCell t = is_scalar (type_at program.types t) ≡ true
+
   -- what the action of the point p of the function f takes and gives
   abbrev pub IsTyped : (p f : ℕ) → Action → Type 0
   IsTyped p f (action.Value number ty) = (value_type_at program p ≡ Some ty) × IsNumberOf number ty
@@ -275,7 +280,7 @@ module _ (program : Program) where
   IsTyped p f (action.Allocate ty count zero root) = IsCount count × IsAllocated p root ty count × PointsToForm p Void
   IsTyped p f (action.Free a) = PointsToForm a Void × GivesNone p
   IsTyped p f (action.Scan a) = PointsToForm a (Int kind.Char) × (GivesInt p ⊎ GivesNone p)
-  IsTyped p f (action.Fill a place named) = PointsTo a (node_of program.types place.node).type × GivesNone p
+  IsTyped p f (action.Fill a place named) = PointsTo a (node_of program.types place.node).type × HoldsCell (node_of program.types place.node).type × GivesNone p
 
   -- the function's parameters and its result have the types of its root, which is its own
   pub record IsFunctionTyped (f : ℕ) : Type 0 where

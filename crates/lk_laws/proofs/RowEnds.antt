@@ -6,17 +6,17 @@ use Rattle.std.proofs.lemmas.Option.{none-some, same_Some, slice_get-get_or, sli
 use Rattle.std.specs.List.{slice_get, list_any, Contains}
 use Rattle.std.specs.Prelude.{unwrap_or, not, nat_eq, ◌==◌, ◌||◌, ◌&&◌, if◌then◌else◌}
 use Rattle.lk_facts.proofs.Sets.{All-got}
-use Rattle.lk_facts.specs.EdgeRules.{Of, In, value, target, place, slot, result, parameter, code, allocated}
+use Rattle.lk_facts.specs.EdgeRules.{Of, In, IsRootOf, value, target, place, slot, result, parameter, code, allocated}
 use Rattle.lk_facts.specs.LabelRules.{IsPart, IsWhole, Steps, GivesPart, form_of, leads_inside, is_function}
 use Rattle.lk_facts.specs.InRange.{IsInRange, IsRootInRange, sizes_of}
 use Rattle.lk_facts.specs.Labels.{name_with}
-use Rattle.lk_facts.specs.Lowered.{IsLowered}
+use Rattle.lk_facts.specs.Lowered.{IsLowered, IsArgument}
 use Rattle.lk_arith.specs.declared.operators.Op.{Op}
 use Rattle.lk_arith.specs.declared.operators.Op.TheVariants as op
 use Rattle.lk_base.specs.declared.kind.Kind.{Kind}
 use Rattle.lk_base.specs.declared.kind.Kind.TheVariants as kind
-use Rattle.lk_facts.specs.Program.{action_at, root_of_function, result_of, parameter_of}
-use Rattle.lk_facts.specs.Typed.{IsForm, IsHolderType, IsRootType, GivesForm, GivesNone, Gives, PointsTo, PointsToForm, AreAlike, Moves, Compares, IsShift, IsComparison, IsBinary, IsSlot, IsFunctionType, AreGiven, IsAllocated, IsReturn, IsTyped}
+use Rattle.lk_facts.specs.Program.{action_at, root_at, root_of_function, result_of, parameter_of}
+use Rattle.lk_facts.specs.Typed.{IsForm, IsHolderType, IsRootType, GivesForm, GivesNone, Gives, PointsTo, PointsToForm, AreAlike, Moves, Compares, IsShift, IsComparison, IsBinary, IsSlot, IsFunctionType, AreGiven, IsAllocated, IsReturn, IsTyped, IsFunctionTyped}
 use Rattle.lk_facts.specs.declared.action.Action.{Action}
 use Rattle.lk_facts.specs.declared.action.Action.TheVariants as action
 use Rattle.lk_facts.specs.declared.function.Function.{Function as FunctionOf}
@@ -24,7 +24,10 @@ use Rattle.lk_facts.specs.declared.label_entry.LabelName.{LabelName}
 use Rattle.lk_facts.specs.declared.program.Program.{Program}
 use Rattle.lk_facts.specs.declared.root.Holder.{Holder}
 use Rattle.lk_facts.specs.declared.root.Holder.TheVariants.{Root, Slot, Result, Point}
-use Rattle.lk_laws.proofs.AlikeEdges.{Have, whole, value_type, target_type, pointed_form, code_has, of_function, given, function_known, members_of_form, field_of_form, start_gives, root_is_one, one_type, one_form, of_field, element_known}
+use Rattle.lk_facts.specs.declared.root.Root.{Root as RootOf}
+use Rattle.lk_facts.specs.declared.root.RootKind.{RootKind}
+use Rattle.lk_facts.specs.declared.root.RootKind.TheVariants.{Argv, Args}
+use Rattle.lk_laws.proofs.AlikeEdges.{Have, whole, value_type, target_type, pointed_form, code_has, of_function, given, function_known, members_of_form, field_of_form, start_gives, root_is_one, one_type, one_form, of_field, element_known, parameter_type, into_element}
 use Rattle.lk_laws.proofs.AlikeTypes.{back, known_form, fields_alike, field_step, target_known}
 use Rattle.lk_laws.proofs.NodesThere.{target_there, element_there, field_there, pointer_too, array_too, field_too, fielded_known, function_too}
 use Rattle.lk_laws.proofs.VoidNodes.{points_to_tag, void_too}
@@ -304,11 +307,15 @@ module _ (program : Program) (is : IsTable program.types) (in_range : IsInRange 
   returned f (Some a) typed =
       passed (value program a) (result program f) typed.0 (value_type program is lowered a typed.0 typed.2) (whole program is lowered (Result f) typed.0 typed.1) (given_value a typed.0 typed.2) (λ s form. holder_stands program is lowered (Result f) typed.0 typed.0 s typed.1 (same refl) form)
 
+  -- the elements of an array that is a root
+  elements_stand : (r t n : ℕ) (root : RootOf) → root_at program r ≡ Some root → IsForm program.types root.ty (Array t n) → Stands (In program (place program r) Element)
+  elements_stand r t n root at form =
+      let has : IsRootType program r root.ty = (root, at, refl) in
+      element_stands program is lowered root.ty t n (place_stands r root.ty has) (whole program is lowered (Root r) root.ty has) form
+
   allocated_stands : (p r t : ℕ) (count : Option ℕ) → IsAllocated program p r t count → Stands (allocated program r count)
   allocated_stands p r t None typed = place_stands r t (typed.0, typed.1, typed.4)
-  allocated_stands p r t (Some n) typed =
-      let has : IsRootType program r typed.0.ty = (typed.0, typed.1, refl) in
-      element_stands program is lowered typed.0.ty t 0 (place_stands r typed.0.ty has) (whole program is lowered (Root r) typed.0.ty has) typed.4
+  allocated_stands p r t (Some n) typed = elements_stand r t 0 typed.0 typed.1 typed.4
 
   allocated_known : (p r t : ℕ) (count : Option ℕ) → IsAllocated program p r t count → IsKnown program.types t
   allocated_known p r t None typed = root_known r t (typed.0, typed.1, typed.4)
@@ -446,8 +453,49 @@ module _ (program : Program) (is : IsTable program.types) (in_range : IsInRange 
             | inr holder ↦ absurd (no_more g k holder.1.0 function.params function.takes_no_more past holder.1.1)
           ]
 
+  -- a function with a parameter is there
+  holder_known : (g k : ℕ) (h : Holder) → parameter_of program g (suc k) ≡ Some h → g < length program.functions
+  holder_known g k h at = of (slice_get program.functions g) refl
+    where
+      of : (o : Option FunctionOf) → slice_get program.functions g ≡ o → g < length program.functions
+      of None e = absurd (none-some h (sym (ap (option_and_then (λ f. slice_get f.parameters k)) e) ∙ at))
+      of (Some f) e = slice_get_within program.functions g f e
+
+  -- what holds a parameter has a type
+  holder_typed : (g k : ℕ) (h : Holder) → parameter_of program g (suc k) ≡ Some h → (t : ℕ) × IsHolderType program h t
+  holder_typed g k h at = of (lowered.functions g (holder_known g k h at)) refl
+    where
+      of : (function : IsFunctionTyped program g) {o : Option ℕ} → slice_get function.params k ≡ o → (t : ℕ) × IsHolderType program h t
+      of function {o = Some t} found =
+          let takes = function.takes k t found in
+          (takes.1, subst (λ holder. IsHolderType program holder takes.1) (same_Some takes.0 h (sym takes.2 ∙ at)) takes.4)
+      of function {o = None} past = absurd (no_more g k h function.params function.takes_no_more past at)
+
+  argument_type : (kind : RootKind) (r : ℕ) (own : IsRootOf program kind r) → IsArgument program kind own.0.ty
+  argument_type kind r own = subst (λ k. IsArgument program k own.0.ty) own.2 (lowered.arguments r own.0 own.1)
+
+  -- the pointers to the strings of main's arguments
+  strings_joined : (r : ℕ) (h : Holder) → IsRootOf program Argv r → parameter_of program program.main 2 ≡ Some h → Joins program (In program (place program r) Element) (Of program (parameter program program.main 2) Target)
+  strings_joined r h own at =
+      let array = argument_type Argv r own in
+      let has = holder_typed program.main 1 h at in
+      let points = lowered.argv h has.0 at has.1 in
+      let holder = holder_stands program is lowered h has.0 has.0 points.0 has.1 (same refl) points.1 in
+      two (elements_stand r array.0 array.1 own.0 own.1 array.2)
+      (target_stands program is lowered has.0 points.0 (record { name = holder.name; of = (h, at, holder.of); node = holder.node }) (parameter_type program is lowered program.main 2 h has.0 at has.1) points.1)
+
+  -- the chars of these strings
+  chars_joined : (r q : ℕ) → IsRootOf program Args r → IsRootOf program Argv q → Joins program (In program (place program r) Element) (Of program (In program (place program q) Element) Target)
+  chars_joined r q own strings =
+      let chars = argument_type Args r own in
+      let array = argument_type Argv q strings in
+      let has : IsRootType program q strings.0.ty = (strings.0, strings.1, refl) in
+      two (elements_stand r chars.0 chars.1 own.0 own.1 chars.2)
+      (target_stands program is lowered array.0 array.3.0 (elements_stand q array.0 array.1 strings.0 strings.1 array.2) (into_element program is lowered (place program q) strings.0.ty array.0 array.1 (whole program is lowered (Root q) strings.0.ty has) array.2) array.3.1)
+
 pub rows_give : (program : Program) → IsTable program.types → IsInRange program → IsLowered program → GivesEdges program
 rows_give program is in_range lowered = record {
   rows = λ p f act here at. row_joins program is in_range lowered p f act here (lowered.typed p f act here at);
   values = as_value program is in_range lowered;
+  arguments = record { argv = strings_joined program is in_range lowered; args = chars_joined program is in_range lowered };
 }

@@ -1,15 +1,17 @@
 -- No edge of a row is lost: where points are typed, what the row of an action joins is there. Sub is nothing only where neither side is a
 -- pointer. Each action has the ends that its row of the edges joins (LOCKSMITH: label flow).
 use Rattle.std.specs.Prelude.{◌≡◌, ◌<◌, ◌⊎◌, ℕ, suc, length, true, false, Option, Some, None, List, slice_get, ⊤}
-use Rattle.lk_facts.specs.EdgeRules.{Of, In, value, target, place, slot, result, parameter, code, allocated}
+use Rattle.lk_facts.specs.EdgeRules.{Of, In, IsRootOf, value, target, place, slot, result, parameter, code, allocated}
 use Rattle.lk_facts.specs.InRange.{IsInRange}
 use Rattle.lk_facts.specs.Lowered.{IsLowered}
-use Rattle.lk_facts.specs.Program.{action_at, function_at, site_at, value_type_at}
+use Rattle.lk_facts.specs.Program.{action_at, function_at, parameter_of, site_at, value_type_at}
 use Rattle.lk_facts.specs.Typed.{IsForm, GivesForm, PointsToForm}
 use Rattle.lk_facts.specs.declared.action.Action.{Action}
 use Rattle.lk_facts.specs.declared.action.Action.TheVariants as action
 use Rattle.lk_facts.specs.declared.label_entry.LabelName.{LabelName}
 use Rattle.lk_facts.specs.declared.program.Program.{Program}
+use Rattle.lk_facts.specs.declared.root.Holder.{Holder}
+use Rattle.lk_facts.specs.declared.root.RootKind.TheVariants.{Argv, Args}
 use Rattle.lk_laws.specs.FlowLaws.{type_of}
 use Rattle.lk_types.specs.Building.{IsTable}
 use Rattle.lk_types.specs.Equal.{IsAlike}
@@ -101,10 +103,17 @@ module _ (program : Program) where
     pub parameters : (k : ℕ) → JoinsTargets (Of program (code program g) (Field (suc k))) (parameter program g (suc k))
     pub result : JoinsTargets (result program g) (Of program (code program g) (Field 0))
 
-  -- each row gives its edges, and so does each function
+  -- what main's arguments join (C99 5.1.2.2.1): the pointers to the strings with what its second parameter points to, where it has one, and
+  -- the chars of the strings with what these pointers point to
+  pub record JoinsMain : Type 0 where
+    pub argv : (r : ℕ) (h : Holder) → IsRootOf program Argv r → parameter_of program program.main 2 ≡ Some h → Joins (In program (place program r) Element) (Of program (parameter program program.main 2) Target)
+    pub args : (r q : ℕ) → IsRootOf program Args r → IsRootOf program Argv q → Joins (In program (place program r) Element) (Of program (In program (place program q) Element) Target)
+
+  -- each row gives its edges, and so does each function, and so do main's arguments
   pub record GivesEdges : Type 0 where
     pub rows : (p f : ℕ) (act : Action) → action_at program p ≡ Some act → function_at program p ≡ Some f → RowJoins p f act
     pub values : (g : ℕ) → g < length program.functions → JoinsAsValue g
+    pub arguments : JoinsMain
 
 abbrev pub RowsGiveEdges : Type 0
 RowsGiveEdges = (program : Program) → IsTable program.types → IsInRange program → IsLowered program → GivesEdges program

@@ -4,6 +4,7 @@ use Rattle.lk_facts.specs.declared.program.Program.{Program}
 use Rattle.lk_lower_expr.specs.Lowering.{Numbers}
 use Rattle.lk_lower_expr.specs.Programs.{ArePlaces}
 use Rattle.lk_lower_unit.proofs.Living.{IsKept}
+use Rattle.lk_lower_unit.proofs.PlacesDiffer.{places_differ}
 use Rattle.lk_lower_unit.specs.Lowers.{IsTested}
 use Rattle.lk_typed.specs.declared.whole.Whole.{Whole}
 
@@ -29,4 +30,5 @@ lowered_by whole numbers program kept tested places = record {
   argv = tested.types.argv;
   locations = places.values;
   locks = places.mutexes;
+  places_differ = places_differ whole numbers program places;
 }

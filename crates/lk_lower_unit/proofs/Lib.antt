@@ -14,6 +14,7 @@ pub mod MadeOf
 pub mod MadeRoots
 pub mod Numbering
 pub mod PlaceNodes
+pub mod PlacesDiffer
 pub mod Placing
 pub mod PointsOf
 pub mod SameTypes

@@ -1,7 +1,7 @@
 //! The objects of texts and of main's arguments (C99 5.1.2.2.1, 6.4.5).
 ghost use Rattle.std.specs.Prelude.{◌≡◌, ◌<◌, IsTrue, IfSome, length, Some, ℕ};
 ghost use Rattle.lk_base.specs.declared.kind.Kind.TheVariants.{Char};
-ghost use Rattle.lk_facts.specs.Lowered.{IsArgument, IsString, IsText};
+ghost use Rattle.lk_facts.specs.Lowered.{HasStrings, IsArgument, IsString, IsText};
 ghost use Rattle.lk_facts.specs.Program.{parameter_of};
 ghost use Rattle.lk_facts.specs.Typed.{IsForm, IsHolderType};
 ghost use Rattle.lk_facts.specs.declared.root.Holder.{Holder as HolderIs};
@@ -70,14 +70,27 @@ fn is_string(points: &Points, t: TypeId) -> bool
     }
 }
 
-/// Whether a root, where it is one of main's arguments, is the array of the pointers to the strings, or their chars.
+/// Whether the strings of main's arguments have a root.
+fn has_strings(points: &Points) -> bool
+    ensures { IsTrue result → HasStrings points.now }
+{
+    for r in 0..points.roots() {
+        if matches!(points.root(r).kind, RootKind::Args) {
+            return true;
+        }
+    }
+    false
+}
+
+/// Whether a root, where it is one of main's arguments, is the array of the pointers to the strings, which have a root, or
+/// their chars.
 pub(crate) fn is_argument(points: &Points, root: &Root) -> bool
     requires { IsKnown points.now.types root.now.ty }
     ensures { IsTrue result → IsArgument points.now root.now.kind root.now.ty }
 {
     match root.kind {
         RootKind::Argv => match array_of(points.types(), root.ty) {
-            Some((string, _)) => is_string(points, string),
+            Some((string, _)) => is_string(points, string) && has_strings(points),
             None => false,
         },
         RootKind::Args => match array_of(points.types(), root.ty) {
