@@ -1,2 +1,3 @@
 pub mod Births
 pub mod Starts
+pub mod Begins

@@ -6,6 +6,9 @@ use Rattle.lk_types.specs.declared.c_type.CType.TheVariants.{Void, Int, ThreadId
 use Rattle.lk_cells.specs.declared.parts.Elements.{Elements}
 use Rattle.lk_base.specs.declared.cell.CellStep.{CellStep}
 use Rattle.lk_base.specs.declared.cell.CellStep.TheVariants.{Field, Index}
+use Rattle.lk_types.specs.Nodes.{Node, step}
+use Rattle.lk_types.specs.declared.node.Sel.{Sel}
+use Rattle.lk_types.specs.declared.node.Sel.TheVariants as sel
 
 -- the elements of an array by its form; one without a size has as many as its object says (C99 6.7.5.2)
 abbrev pub elements_of : ℕ → CType → Option Elements
@@ -54,3 +57,13 @@ part_at table own t step = option_and_then (λ form. part_type table own form st
 abbrev pub type_along : Table → ℕ → List CellStep → ℕ → Option ℕ
 type_along table own [] t = Some t
 type_along table own (step ∷ path) t = option_and_then (λ u. type_along table own path u) (part_at table own t step)
+
+-- a step to a part, its index forgotten
+abbrev pub sel_of : CellStep → Sel
+sel_of (Field k) = sel.Field k
+sel_of (Index i) = sel.Element
+
+-- the node to which a path leads, its indices forgotten
+abbrev pub node_along : Table → Node → List CellStep → Option Node
+node_along table n [] = Some n
+node_along table n (next ∷ path) = option_and_then (λ m. node_along table m path) (step table n (sel_of next))

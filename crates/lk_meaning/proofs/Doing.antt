@@ -53,28 +53,7 @@ use Rattle.lk_decide.specs.Waiting.{waits}
 use Rattle.lk_meaning.specs.Runs.{touched_by, through}
 use Rattle.lk_meaning.specs.Laws.{mutex_in}
 use Rattle.lk_meaning.proofs.Reading.{effect_of}
-
--- ---- options
-
--- what is there and was made by a function
-pub mapped : {X Y : Type 0} → (f : X → Y) (o : Option X) (y : Y) → option_map f o ≡ Some y → (x : X) × (o ≡ Some x) × (f x ≡ y)
-mapped f None y h = absurd (none-some y h)
-mapped f (Some x) y h = (x, refl, same_Some (f x) y h)
-
-pub chained : {X Y : Type 0} → (f : X → Option Y) (o : Option X) (y : Y) → option_and_then f o ≡ Some y → (x : X) × (o ≡ Some x) × (f x ≡ Some y)
-chained f None y h = absurd (none-some y h)
-chained f (Some x) y h = (x, refl, h)
-
--- ---- causes
-
-pub neither_cause : (a b : Option Why) → (a or b) ≡ None → (a ≡ None) × (b ≡ None)
-neither_cause None b h = (refl, h)
-neither_cause (Some x) None h = absurd (none-some x (sym h))
-neither_cause (Some x) (Some y) h = absurd (none-some (if nat_le (rank x) (rank y) then x else y) (sym h))
-
-pub not_when : (reason : Why) (test : Bool) → (reason when test) ≡ None → test ≡ false
-not_when reason true h = absurd (none-some reason (sym h))
-not_when reason false h = refl
+use Rattle.lk_values.proofs.Reasons.{mapped, chained, neither_cause, not_when}
 
 -- ---- mutexes
 

@@ -198,10 +198,10 @@ leads_on Leads.stays step = Leads.goes step Leads.stays
 leads_on (Leads.goes first rest) step = Leads.goes first (leads_on rest step)
 
 pub first_reached : FirstStatesAreReached
-first_reached program args = record { args = args; choices = []; run = Leads.stays }
+first_reached program args right = record { begins = right; args = args; choices = []; run = Leads.stays }
 
 pub steps_reach : StepsReach
-steps_reach program s s2 t w reached step = record { args = reached.args; choices = reached.choices ++ record { thread = t; word = w } ∷ []; run = leads_on reached.run step }
+steps_reach program s s2 t w reached step = record { begins = reached.begins; args = reached.args; choices = reached.choices ++ record { thread = t; word = w } ∷ []; run = leads_on reached.run step }
 
 -- ---- what a step does
 

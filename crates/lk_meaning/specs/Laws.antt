@@ -16,6 +16,7 @@ use Rattle.lk_cells.specs.Operands.{operand}
 use Rattle.lk_cells.specs.Places as places
 use Rattle.lk_cells.specs.declared.state.State.{State}
 use Rattle.lk_cells.specs.declared.state.Thread.{Thread}
+use Rattle.lk_birth.specs.Begins.{StartsRight}
 use Rattle.lk_birth.specs.Starts.{started}
 use Rattle.lk_meaning.specs.Reached.{Reached}
 use Rattle.lk_meaning.specs.Runs.{touch}
@@ -60,7 +61,7 @@ IsThere s c = c.object < length s.objects
 
 -- The first states are reached, and so is what a step leads to from a state that is reached.
 abbrev pub FirstStatesAreReached : Type 0
-FirstStatesAreReached = (program : Program) (args : List (List ℕ)) → Reached program (started program args)
+FirstStatesAreReached = (program : Program) (args : List (List ℕ)) → StartsRight program → Reached program (started program args)
 
 abbrev pub StepsReach : Type 0
 StepsReach = (program : Program) (s s2 : State) (t w : ℕ) → Reached program s → Step program s t w s2 → Reached program s2

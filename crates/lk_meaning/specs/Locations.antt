@@ -1,13 +1,9 @@
 -- The locations of cells: what cells of one root have in common when indices are forgotten (C99 6.2.4, 6.2.5, 20).
-use Rattle.std.specs.Prelude.{◌≡◌, ℕ, Bool, true, false, List, [], ◌∷◌, Option, None, Some, slice_get, option_and_then, if◌then◌else◌, MatchOption}
+use Rattle.std.specs.Prelude.{◌≡◌, ℕ, Bool, true, false, List, Option, None, Some, slice_get, option_and_then, if◌then◌else◌, MatchOption}
 use Rattle.std.specs.Option.{option_map}
 use Rattle.lk_base.specs.declared.cell.CellStep.{CellStep}
-use Rattle.lk_base.specs.declared.cell.CellStep.TheVariants as to
-use Rattle.lk_types.specs.Nodes.{Node, IsNode, node_of, first, step}
-use Rattle.lk_types.specs.Table.{Table}
+use Rattle.lk_types.specs.Nodes.{Node, IsNode, node_of, first}
 use Rattle.lk_types.specs.declared.node.Base.TheVariants.{Start}
-use Rattle.lk_types.specs.declared.node.Sel.{Sel}
-use Rattle.lk_types.specs.declared.node.Sel.TheVariants as sel
 use Rattle.lk_facts.specs.declared.place.Place.{Place}
 use Rattle.lk_facts.specs.declared.program.Program.{Program}
 use Rattle.lk_facts.specs.declared.root.Root.{Root}
@@ -15,6 +11,7 @@ use Rattle.lk_facts.specs.declared.root.RootKind.{RootKind}
 use Rattle.lk_facts.specs.declared.root.RootKind.TheVariants as root
 use Rattle.lk_values.specs.declared.cell.Cell.{Cell}
 use Rattle.lk_cells.specs.Cells.{kind_at}
+use Rattle.lk_cells.specs.Parts.{node_along}
 use Rattle.lk_cells.specs.declared.kind.CellKind.{CellKind}
 use Rattle.lk_cells.specs.declared.kind.CellKind.TheVariants as cell
 use Rattle.lk_cells.specs.declared.object.Object.{Object}
@@ -37,16 +34,6 @@ is_value None = false
 is_value (Some cell.Value) = true
 is_value (Some cell.Mutex) = false
 is_value (Some cell.Condition) = false
-
--- a step to a part, its index forgotten
-abbrev pub sel_of : CellStep → Sel
-sel_of (to.Field k) = sel.Field k
-sel_of (to.Index i) = sel.Element
-
--- the node to which a path leads, its indices forgotten
-abbrev pub node_along : Table → Node → List CellStep → Option Node
-node_along table n [] = Some n
-node_along table n (next ∷ path) = option_and_then (λ m. node_along table m path) (step table n (sel_of next))
 
 module _ (program : Program) where
   -- the number of the root of an object, and the node of its type to which a path leads

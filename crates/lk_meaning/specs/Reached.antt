@@ -2,6 +2,7 @@
 use Rattle.std.specs.Prelude.{ℕ, List, [], ◌∷◌}
 use Rattle.lk_facts.specs.declared.program.Program.{Program}
 use Rattle.lk_cells.specs.declared.state.State.{State}
+use Rattle.lk_birth.specs.Begins.{StartsRight}
 use Rattle.lk_birth.specs.Starts.{started}
 use Rattle.lk_meaning.specs.Steps.{Step}
 
@@ -19,8 +20,10 @@ pub data Leads (program : Program) : State → List Choice → State → Type 0 
 abbrev pub Run : Program → List (List ℕ) → List Choice → State → Type 0
 Run program args choices s = Leads program (started program args) choices s
 
--- Reached: some arguments and some choices lead to s
+-- Reached: some arguments and some choices lead to s. Static initialisers are performed before the program begins (C99 5.1.2), and one
+-- that makes a pointer to another type of a `void *` has no defined step, as in a function; so such a program has no run.
 pub record Reached (program : Program) (s : State) : Type 0 where
+  pub begins : StartsRight program
   pub args : List (List ℕ)
   pub choices : List Choice
   pub run : Run program args choices s

@@ -1,6 +1,7 @@
 //! The locations of cells.
 ghost use Rattle.std.specs.Prelude.{◌≡◌, IfSome};
 ghost use Rattle.std.specs.Option.{option_map};
+ghost use Rattle.lk_cells.specs.Parts as parts;
 ghost use Rattle.lk_meaning.specs.Locations as spec;
 ghost use Rattle.lk_types.specs.Nodes as nodes;
 
@@ -39,7 +40,7 @@ fn is_value(kind: Option<CellKind>) -> bool
 fn step_along(types: &TypeTable, node: NodeId, step: CellStep) -> Option<NodeId>
     requires { nodes.IsNode types.now node }
     ensures exact { option_map (nodes.node_of types.now) result
-        ≡ nodes.step types.now (nodes.node_of types.now node) (spec.sel_of step) }
+        ≡ nodes.step types.now (nodes.node_of types.now node) (parts.sel_of step) }
     ensures node { IfSome result (nodes.IsNode types.now) }
 {
     match step {
@@ -52,7 +53,7 @@ fn step_along(types: &TypeTable, node: NodeId, step: CellStep) -> Option<NodeId>
 fn node_along(types: &TypeTable, start: NodeId, path: &[CellStep]) -> Option<NodeId>
     requires { nodes.IsNode types.now start }
     ensures exact { option_map (nodes.node_of types.now) result
-        ≡ spec.node_along types.now (nodes.node_of types.now start) path.now }
+        ≡ parts.node_along types.now (nodes.node_of types.now start) path.now }
     ensures node { IfSome result (nodes.IsNode types.now) }
 {
     let mut node = start;

@@ -1,6 +1,6 @@
 use Rattle.std.proofs.Common.{◌≡◌, drop}
 use Rattle.lk_types.specs.Nodes.{IsNode, node_of}
-use Rattle.lk_meaning.specs.Locations.{node_along}
+use Rattle.lk_cells.specs.Parts.{node_along}
 use Rattle.lk_meaning.proofs.locating.node_along.Given as goal
 
 -- the node so far, from which the rest of the path goes on
