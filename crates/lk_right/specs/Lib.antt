@@ -1,0 +1,5 @@
+pub mod Changes
+pub mod Contexts
+pub mod Laws
+pub mod Right
+pub mod Sound

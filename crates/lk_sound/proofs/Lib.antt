@@ -1,0 +1,15 @@
+pub mod Acting
+pub mod CellSoundness
+pub mod Elements
+pub mod Entered
+pub mod FramesKept
+pub mod GrownRight
+pub mod Keeping
+pub mod ObjectsKept
+pub mod PlaceNumbers
+pub mod Reaching
+pub mod StartCells
+pub mod StartObjects
+pub mod Starting
+pub mod ThreadsKept
+pub mod Touching
