@@ -1,0 +1,33 @@
+// Characters and their escapes (C99 6.4.4.4), and the bytes of texts (C99 6.4.5).
+void told(int of[sizeof(int[('a' == 97) ? 1 : -1])]);
+void told(int of[sizeof(int[('"' == 34) ? 1 : -1])]);
+void told(int of[sizeof(int[('\'' == 39) ? 1 : -1])]);
+void told(int of[sizeof(int[('\"' == 34) ? 1 : -1])]);
+void told(int of[sizeof(int[('\?' == 63) ? 1 : -1])]);
+void told(int of[sizeof(int[('\\' == 92) ? 1 : -1])]);
+void told(int of[sizeof(int[('\a' == 7) ? 1 : -1])]);
+void told(int of[sizeof(int[('\b' == 8) ? 1 : -1])]);
+void told(int of[sizeof(int[('\f' == 12) ? 1 : -1])]);
+void told(int of[sizeof(int[('\n' == 10) ? 1 : -1])]);
+void told(int of[sizeof(int[('\r' == 13) ? 1 : -1])]);
+void told(int of[sizeof(int[('\t' == 9) ? 1 : -1])]);
+void told(int of[sizeof(int[('\v' == 11) ? 1 : -1])]);
+void told(int of[sizeof(int[('\0' == 0) ? 1 : -1])]);
+void told(int of[sizeof(int[('\01' == 1) ? 1 : -1])]);
+void told(int of[sizeof(int[('\012' == 10) ? 1 : -1])]);
+void told(int of[sizeof(int[('\177' == 127) ? 1 : -1])]);
+void told(int of[sizeof(int[('\200' == -128) ? 1 : -1])]);
+void told(int of[sizeof(int[('\377' == -1) ? 1 : -1])]);
+void told(int of[sizeof(int[('\x41' == 65) ? 1 : -1])]);
+void told(int of[sizeof(int[('\x7f' == 127) ? 1 : -1])]);
+void told(int of[sizeof(int[('\x80' == -128) ? 1 : -1])]);
+void told(int of[sizeof(int[('\xff' == -1) ? 1 : -1])]);
+void told(int of[sizeof(int[('\x000041' == 65) ? 1 : -1])]);
+void told(int of[sizeof(int[(sizeof("") == 1) ? 1 : -1])]);
+void told(int of[sizeof(int[(sizeof("a\n\"'b") == 6) ? 1 : -1])]);
+void told(int of[sizeof(int[(sizeof("/* */ // ") == 10) ? 1 : -1])]);
+void told(int of[sizeof(int[(sizeof("a""b") == 3) ? 1 : -1])]);
+void told(int of[sizeof(int[(sizeof("\x0041\12345\377") == 6) ? 1 : -1])]);
+void told(int of[sizeof(int[(sizeof("	") == 2) ? 1 : -1])]);
+void told(int of[sizeof(int[(sizeof 'a' == sizeof(int)) ? 1 : -1])]);
+int main(void) { return 0; }

@@ -1,0 +1,2 @@
+int a;
+ __builtin_abs b;

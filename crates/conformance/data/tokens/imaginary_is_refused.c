@@ -1,0 +1,2 @@
+int a;
+ _Imaginary b;

@@ -1,0 +1,2 @@
+int a;
+ _Thread_local b;

@@ -1,0 +1,1 @@
+typedef int T; void f(void) { if (1) T x; }

@@ -1,0 +1,1 @@
+typedef int T; int f(int T) { T = 1; } T x; T

@@ -1,0 +1,1 @@
+int a[static 3];

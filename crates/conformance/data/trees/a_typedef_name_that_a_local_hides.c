@@ -1,0 +1,1 @@
+typedef int T; int f(void) { int x = T; T: ; for (T i = 0; ; ) ; T * p; int T; T * p; T x; }

@@ -1,0 +1,1 @@
+int f(void) { case a = 1: ; }

@@ -1,0 +1,5 @@
+int n;
+int main(void) {
+  n = 5;
+  return n;
+}

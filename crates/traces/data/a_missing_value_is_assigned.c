@@ -1,0 +1,7 @@
+int f(void) {
+}
+int main(void) {
+  int x;
+  x = f();
+  return 0;
+}

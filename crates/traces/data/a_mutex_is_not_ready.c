@@ -1,0 +1,5 @@
+int main(void) {
+  pthread_mutex_t m;
+  pthread_mutex_lock(&m);
+  return 0;
+}

@@ -1,0 +1,6 @@
+struct part {
+  int k;
+} *p;
+int main(void) {
+  return p->k;
+}

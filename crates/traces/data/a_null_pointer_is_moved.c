@@ -1,0 +1,5 @@
+int *p;
+int main(void) {
+  p = p + 1;
+  return 0;
+}

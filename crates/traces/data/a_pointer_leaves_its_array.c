@@ -1,0 +1,4 @@
+int a[3];
+int main(void) {
+  return a[4];
+}

@@ -1,0 +1,4 @@
+int n;
+int main(void) {
+  return 7 % n;
+}

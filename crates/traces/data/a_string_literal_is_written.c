@@ -1,0 +1,5 @@
+int main(void) {
+  char *s = "ab";
+  s[1] = 'x';
+  return 0;
+}

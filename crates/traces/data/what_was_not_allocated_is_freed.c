@@ -1,0 +1,5 @@
+int n;
+int main(void) {
+  free(&n);
+  return 0;
+}
