@@ -5,3 +5,5 @@ mod MemberSizes
 mod MainLemmas
 mod FieldLemmas
 mod GivenSizes
+mod Composites
+mod CompositeTypes

@@ -7,3 +7,4 @@ pub mod Names
 pub mod Switches
 pub mod Twins
 pub mod GivenSizes
+pub mod Composites

@@ -8,6 +8,7 @@
 mod arrays;
 mod breaches;
 mod completing;
+mod composite;
 mod declarators;
 mod enumerators;
 mod initialisers;
@@ -21,6 +22,7 @@ mod words;
 
 pub use arrays::{ArraySize, MOST_ELEMENTS, array_code, array_count};
 pub use completing::{completed, given_code};
+pub use composite::composite_if_equal;
 pub use declarators::{
     definition_code, function_code, parameter_code, parameter_name_code, pointer_code,
 };

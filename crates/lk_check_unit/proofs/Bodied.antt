@@ -10,6 +10,7 @@ use Rattle.lk_tree.specs.declared.statement.Stmt.{Stmt}
 use Rattle.lk_tree.specs.declared.statement.StmtForm.{out-StmtForm}
 use Rattle.lk_types.specs.Building.{IsLonger}
 use Rattle.lk_types.specs.Table.{Table}
+use Rattle.lk_types.proofs.GrowLemmas.{longer_same, longer_then}
 use Rattle.lk_typed.specs.DeclarationRules.{AtFile, Defined}
 use Rattle.lk_typed.specs.Declarations.{named_additions}
 use Rattle.lk_typed.specs.Entities.{DeclaresName, NameDeclared}
@@ -32,7 +33,7 @@ use Rattle.lk_rules.proofs.Kept.{none_broken}
 use Rattle.lk_rules.proofs.Parts.{definitions_are_asked}
 use Rattle.lk_rules.specs.Keeping.{IsBroken, KeepsNodes}
 use Rattle.lk_check_walk.specs.Truth.{IsBegunAmong}
-use Rattle.lk_check_walk.proofs.States.{extend_both, longer_then, longer_same}
+use Rattle.lk_check_walk.proofs.States.{extend_both}
 use Rattle.lk_check_walk.proofs.Truth.{truth_behind, truth_still}
 use Rattle.lk_check_walk.specs.Declarators.{scope_told}
 use Rattle.lk_check_walk.specs.Keepings.{KeepsAll, codes_at}

@@ -7,6 +7,7 @@ use Rattle.lk_base.specs.declared.refusal.Refusal.{Refusal}
 use Rattle.lk_tree.specs.declared.expression.Expr.{Expr}
 use Rattle.lk_tree.specs.declared.statement.Unit.{Unit}
 use Rattle.lk_types.specs.Building.{IsLonger}
+use Rattle.lk_types.proofs.GrowLemmas.{longer_same}
 use Rattle.lk_typed.specs.Env.{Declared, Env, Name}
 use Rattle.lk_typed.specs.Faults.{Fault}
 use Rattle.lk_typed.specs.NodeParts.{externals_in_turn}
@@ -29,7 +30,6 @@ use Rattle.lk_check_walk.specs.declared.checker.Checker.{Checker}
 use Rattle.lk_check_walk.specs.declared.checker.Outside.{Outside}
 use Rattle.lk_predeclared.specs.Beginning.{IsOutsideOf}
 use Rattle.lk_check_walk.proofs.KeepsAll.{in_same}
-use Rattle.lk_check_walk.proofs.States.{longer_same}
 use Rattle.lk_check_walk.proofs.Truth.{truth_still}
 use Rattle.lk_check_unit.specs.Later.{AsksAll, WalksBut, pending_codes}
 use Rattle.lk_check_unit.specs.Sources.{AreTrue, AreUses, RecordsOf, TellsFirst, WalksExternals, externals_add}

@@ -8,7 +8,7 @@ use Rattle.lk_tree.specs.declared.declaration.Declare.{Declare}
 use Rattle.lk_tree.specs.declared.declaration.Init.{Init}
 use Rattle.lk_tree.specs.declared.declaration.InitDeclarator.{InitDeclarator}
 use Rattle.lk_tree.specs.declared.specifiers.Storage.{Storage}
-use Rattle.lk_types.proofs.GrowLemmas.{known_same}
+use Rattle.lk_types.proofs.GrowLemmas.{known_same, longer_same, longer_then}
 use Rattle.lk_types.specs.Building.{IsLonger, IsTable}
 use Rattle.lk_types.specs.Table.{IsKnown, Table}
 use Rattle.lk_typed.specs.DeclarationRules as rule
@@ -43,7 +43,7 @@ use Rattle.lk_check_decl.specs.declared.words.Given.{Given}
 use Rattle.lk_check_decl.specs.declared.words.Scope.{Scope}
 use Rattle.lk_check_decl.specs.declared.words.Scope.TheVariants.{File, Block}
 use Rattle.lk_check_walk.specs.Truth.{IsBegunAmong, NoTag}
-use Rattle.lk_check_walk.proofs.States.{extend_both, longer_same, longer_then}
+use Rattle.lk_check_walk.proofs.States.{extend_both}
 use Rattle.lk_check_walk.proofs.Truth.{truth_same, truth_then}
 use Rattle.lk_check_walk.specs.Declarators.{FindsDeclarator, IsDeclared, codes_of_use, left_of, name_codes, use_codes}
 use Rattle.lk_check_walk.specs.Keepings.{Codes, KeepsAll, codes_at}

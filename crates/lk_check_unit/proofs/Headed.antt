@@ -6,6 +6,7 @@ use Rattle.lk_base.specs.declared.spot.Spot.{Spot}
 use Rattle.lk_tree.specs.declared.statement.Function.{Function}
 use Rattle.lk_types.specs.Building.{IsLonger}
 use Rattle.lk_types.specs.Table.{IsKnown}
+use Rattle.lk_types.proofs.GrowLemmas.{longer_same, longer_then}
 use Rattle.lk_typed.specs.DeclarationRules.{AtFile, Defined, InDefinition, definition_rules, type_in}
 use Rattle.lk_typed.specs.DeclaratorRules.{of_type}
 use Rattle.lk_typed.specs.Declarations.{declared_as, named_additions}
@@ -27,7 +28,6 @@ use Rattle.lk_check_walk.specs.Truth.{IsBegunAmong, NoTag}
 use Rattle.lk_check_walk.proofs.GoingOn.{scope_known, type_same}
 use Rattle.lk_check_walk.proofs.WalkedForms.{scope_stays}
 use Rattle.lk_check_walk.proofs.Truth.{truth_still, told_still}
-use Rattle.lk_check_walk.proofs.States.{longer_same, longer_then}
 use Rattle.lk_check_walk.specs.Declarators.{FindsDeclarator, IsDeclared, IsKnownFound, codes_of_use, left_of, name_codes}
 use Rattle.lk_check_walk.specs.Keepings.{Codes, KeepsAll, codes_at}
 use Rattle.lk_check_walk.specs.Specified.{breaches_in}

@@ -3,6 +3,7 @@ use Rattle.std.proofs.Common.{◌≡◌, ◌∙◌, ◌↔◌, Bool, true, false
 use Rattle.std.specs.Prelude.{◌&&◌, ◌||◌, not, slice_get, if◌then◌else◌}
 use Rattle.lk_tree.specs.declared.declaration.Init.{Init}
 use Rattle.lk_types.specs.Building.{IsLonger}
+use Rattle.lk_types.proofs.GrowLemmas.{longer_same}
 use Rattle.lk_typed.specs.Declarations.{initialiser_adds}
 use Rattle.lk_typed.specs.Env.{Env}
 use Rattle.lk_typed.specs.NodeRules.{has_type, those_without_type}
@@ -14,7 +15,6 @@ use Rattle.lk_rules.specs.Keeping.{IsBroken, KeepsNodes, seen_by}
 use Rattle.lk_check_decl.specs.declared.initialisers.Target.{Target}
 use Rattle.lk_check_walk.proofs.Walking.{no_walk}
 use Rattle.lk_check_walk.proofs.Truth.{truth_behind, truth_still}
-use Rattle.lk_check_walk.proofs.States.{longer_same}
 use Rattle.lk_check_walk.specs.Walks.{IsSound, Walks, kept_in, recorded_in}
 use Rattle.lk_check_walk.specs.declared.checker.Checker.{Checker}
 use Rattle.lk_check_unit.specs.Bodies.{Grows, IsPlain}

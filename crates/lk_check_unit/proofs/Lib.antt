@@ -6,8 +6,6 @@ pub mod AtEnd
 pub mod Bodied
 pub mod Checking
 pub mod Codes
-pub mod Composites
-pub mod CompositeTypes
 pub mod Converted
 pub mod Declares
 pub mod Defining

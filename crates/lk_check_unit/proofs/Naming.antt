@@ -10,7 +10,7 @@ use Rattle.lk_base.specs.declared.code.Code.{Code}
 use Rattle.lk_base.specs.declared.code.Code.TheVariants.{Incomplete, Redeclared, VariableArray}
 use Rattle.lk_tree.specs.declared.declaration.Init.{Init}
 use Rattle.lk_tree.specs.declared.specifiers.Storage.{Storage}
-use Rattle.lk_types.proofs.GrowLemmas.{known_same}
+use Rattle.lk_types.proofs.GrowLemmas.{known_same, longer_same, longer_then}
 use Rattle.lk_types.specs.Building.{IsLonger, IsTable}
 use Rattle.lk_types.specs.Table.{IsKnown, Table}
 use Rattle.lk_typed.proofs.Meanings.{meaning_stays}
@@ -52,7 +52,6 @@ use Rattle.lk_check_decl.specs.declared.words.Given.TheVariants.{Initialiser, Bo
 use Rattle.lk_check_decl.specs.declared.words.Scope.{Scope}
 use Rattle.lk_check_decl.specs.declared.words.Scope.TheVariants.{File, Block}
 use Rattle.lk_check_walk.proofs.Recordings.{in_recorded, with_records}
-use Rattle.lk_check_walk.proofs.States.{longer_same, longer_then}
 use Rattle.lk_check_walk.specs.Keepings.{KeepsAll, codes_at}
 use Rattle.lk_check_walk.specs.Recorded.{Recorded}
 use Rattle.lk_check_walk.specs.Specifying.{IsSame, KeepsAt}

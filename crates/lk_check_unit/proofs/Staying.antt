@@ -1,12 +1,11 @@
 -- States that stay sound.
 use Rattle.std.proofs.Common.{◌≡◌, ◌∙◌, ℕ, Option, Some, None, refl, sym, subst}
 use Rattle.std.specs.Prelude.{IfSome}
-use Rattle.lk_types.proofs.GrowLemmas.{known_same}
+use Rattle.lk_types.proofs.GrowLemmas.{known_same, longer_same, longer_then}
 use Rattle.lk_types.specs.Building.{IsLonger}
 use Rattle.lk_types.specs.Table.{IsKnown}
 use Rattle.lk_names.specs.declared.names.Mark.{Mark}
 use Rattle.lk_typed.specs.Faults.{Breach}
-use Rattle.lk_check_walk.proofs.States.{longer_same, longer_then}
 use Rattle.lk_check_walk.specs.Walks.{IsSound, Tells}
 use Rattle.lk_check_walk.specs.declared.checker.Checker.{Checker}
 use Rattle.lk_check_walk.specs.declared.found.At.{At}

@@ -4,6 +4,7 @@ use Rattle.std.specs.HashSet.{contains_by}
 use Rattle.std.specs.Prelude.{slice_get}
 use Rattle.lk_types.specs.Building.{IsLonger}
 use Rattle.lk_types.specs.Table.{Table}
+use Rattle.lk_types.proofs.GrowLemmas.{longer_same}
 use Rattle.lk_typed.specs.Elements.{HasFewElements}
 use Rattle.lk_typed.specs.Env.{Env, Additions, both, enter, extend, is_name, is_one_of, nothing, past_scope}
 use Rattle.lk_typed.specs.Meaning.{IsReady}
@@ -18,7 +19,7 @@ use Rattle.lk_names.specs.declared.names.Mark.{Mark}
 use Rattle.lk_rules.proofs.Kept.{codes_are_kept_behind_parts}
 use Rattle.lk_rules.specs.Keeping.{KeepsCodes, KeepsNodes}
 use Rattle.lk_check_walk.proofs.Gathers.{both_nothing}
-use Rattle.lk_check_walk.proofs.States.{extend_nothing, longer_same}
+use Rattle.lk_check_walk.proofs.States.{extend_nothing}
 use Rattle.lk_check_walk.proofs.Entries.{is_expression}
 use Rattle.lk_check_walk.proofs.Truth.{truth_behind, truth_of_node, truth_still}
 use Rattle.lk_check_walk.specs.Structs.{AreListed}

@@ -1,6 +1,5 @@
 pub mod Asking
 pub mod Bodies
-pub mod Composites
 pub mod Converting
 pub mod Declaring
 pub mod Definitions

@@ -1,23 +1,20 @@
 //! The declarations of one name (C99 6.2.2, 6.2.7).
 ghost use Rattle.std.specs.Prelude.{◌≡◌, Some, IfOk, IfSome, OnOk};
 ghost use Rattle.std.specs.Option.{option_map};
-ghost use Rattle.lk_types.specs.Building.{IsLonger};
 ghost use Rattle.lk_types.specs.Table.{Table, IsKnown};
 ghost use Rattle.lk_typed.specs.Declarations as spec;
-ghost use Rattle.lk_typed.specs.Elements.{HasFewElements};
 ghost use Rattle.lk_typed.specs.Env.{Env, look_up, or_else};
 ghost use Rattle.lk_typed.specs.Meaning.{meaning};
 ghost use Rattle.lk_typed.specs.Names.{declared_in, meaning_in, IsKnownMeaning, IsKnownName};
 ghost use Rattle.lk_typed.specs.Redeclared.{function_type, object_type};
-ghost use Rattle.lk_typed.specs.Ty.{Ty, is_redeclarable};
+ghost use Rattle.lk_typed.specs.Ty.{Ty};
 ghost use Rattle.lk_names.specs.InScope.{env_in, IsKnownScope};
 ghost use Rattle.lk_check_decl.specs.Twins.{scope_of};
 ghost use Rattle.lk_check_walk.specs.Walks.{IsIn, IsSound};
 ghost use Rattle.lk_check_unit.specs.Declaring.{PutsTypes};
 
-use crate::composite::composite;
 use lk_base::{Name, NoMemory};
-use lk_check_decl::{Scope, linkage_of};
+use lk_check_decl::{Scope, composite_if_equal, linkage_of};
 use lk_check_walk::Checker;
 use lk_names::Names;
 use lk_tree::Storage;
@@ -101,46 +98,6 @@ pub(crate) fn reach_of(
     let before = linkage_before(&checker.names, name);
     let is_function = is_function_type(&checker.types, t);
     linkage_of(scope, words, is_function, before)
-}
-
-/// Whether two types are those that two declarations of one name may have (C99 6.2.7).
-fn are_redeclarable(types: &TypeTable, t: TypeId, u: TypeId) -> bool
-    requires t { IsKnown types.now t }
-    requires u { IsKnown types.now u }
-    ensures { result ≡ is_redeclarable (meaning types.now t) (meaning types.now u) }
-{
-    types.is_table();
-    types.are_redeclarable(t, u)
-}
-
-/// The composite of a type and one that is declared before, where they are those of one entity.
-pub fn composite_if_equal(
-    alloc: Global,
-    types: &mut TypeTable,
-    t: TypeId,
-    old: Option<TypeId>,
-) -> Result<TypeId, NoMemory>
-    requires t { IsKnown types.old t }
-    requires old { IfSome old (IsKnown types.old) }
-    requires few { HasFewElements types.old }
-    ensures means { IfOk result (λ made. meaning types.new made ≡
-        spec.composite_if_equal (meaning types.old t) (option_map (meaning types.old) old)) }
-    ensures known { IfOk result (IsKnown types.new) }
-    ensures longer { OnOk result (IsLonger types.old types.new) }
-    ensures members { OnOk result (types.new.members ≡ types.old.members) }
-    ensures few { OnOk result (HasFewElements types.new) }
-{
-    types.is_table();
-    match old {
-        Some(old) => {
-            if are_redeclarable(types, t, old) {
-                composite(alloc, types, t, old)
-            } else {
-                Ok(t)
-            }
-        }
-        None => Ok(t),
-    }
 }
 
 /// The type before, where a name of this linkage has it too.

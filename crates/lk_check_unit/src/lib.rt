@@ -6,7 +6,6 @@ mod asking;
 mod at_end;
 mod body;
 mod cases;
-mod composite;
 mod converting;
 mod declarations;
 mod declared;
@@ -27,7 +26,6 @@ mod statements;
 mod written;
 
 pub use definitions::items_of;
-pub use entities::composite_if_equal;
 pub use labels::put_labels;
 pub use lk_check_walk::Checked;
 pub use source::{check, check_faults};

@@ -5,6 +5,7 @@ use Rattle.std.specs.List.{list_any}
 use Rattle.std.proofs.lemmas.Slice.Eq.{bytes_eq-Decides}
 use Rattle.lk_types.specs.Building.{IsLonger, IsTable}
 use Rattle.lk_types.specs.Table.{Table, IsKnown}
+use Rattle.lk_types.proofs.GrowLemmas.{longer_then}
 use Rattle.lk_tree.specs.declared.expression.DeclaratorForm.TheOpen.{ExprForm-F}
 use Rattle.lk_tree.specs.declared.expression.Expr.{Expr}
 use Rattle.lk_tree.specs.declared.expression.ExprForm.{ExprForm, out-ExprForm, roll-ExprForm, out-roll-ExprForm}
@@ -35,7 +36,7 @@ use Rattle.lk_check_walk.specs.declared.found.Stands.{Stands}
 use Rattle.lk_check_walk.specs.declared.found.TypeFound.{TypeFound}
 use Rattle.lk_check_walk.proofs.Argued.{given_elsewhere}
 use Rattle.lk_check_walk.proofs.Further.{role_further}
-use Rattle.lk_check_walk.proofs.Lasting.{found_elsewhere, found_longer, found_operand, longer_trans}
+use Rattle.lk_check_walk.proofs.Lasting.{found_elsewhere, found_longer, found_operand}
 use Rattle.lk_check_walk.proofs.Walking.{Layer, form_in, in_any_role, judged_as, no_walk, parts_of_layer, then_walks, walks_in}
 
 -- an expression of a form is of its layer
@@ -260,7 +261,7 @@ arm_call at_end old middle last new stands e function arguments env f given foun
     let all = then_walks at_end old middle last env x.adds (added_by ys) (p ∷ []) (nodes_of places) walks k.walks in
     judged_as at_end old last new e env found (ExprForm-F.Call function arguments) layered all
     (settles (extend env (both x.adds (added_by ys))) x ys refl
-    (role_further old.types last.types stands.role sound.ready.table_is (longer_trans old.types middle.types last.types walks.longer k.walks.longer) known ∙ is.role)
+    (role_further old.types last.types stands.role sound.ready.table_is (longer_then old.types middle.types last.types walks.longer k.walks.longer) known ∙ is.role)
     (found_longer middle.types last.types env f x walks.sound.ready.table_is k.walks.longer (found_elsewhere middle.types inside env f x refl j.found))
     (given_elsewhere last.types next env given ys refl k.given))
 

@@ -28,7 +28,7 @@ use Rattle.lk_rules.specs.NodeLaws.{has_type_if_there}
 use Rattle.lk_check_walk.proofs.Arms.{somewhere}
 use Rattle.lk_check_walk.proofs.Gathers.{or_assoc, or_false, stands_behind}
 use Rattle.lk_check_walk.proofs.Keepings.{unnamed_none}
-use Rattle.lk_check_walk.proofs.States.{extend_both, longer_then}
+use Rattle.lk_check_walk.proofs.States.{extend_both}
 use Rattle.lk_check_walk.proofs.Walking.{no_walk, then_walks}
 use Rattle.lk_check_walk.specs.Counting.{AreItems, Counts, CountsAll, IsItem, IsSettled}
 use Rattle.lk_check_walk.specs.Keepings.{AreUnnamed}
@@ -38,6 +38,7 @@ use Rattle.lk_check_walk.proofs.KeepsAll.{in_same}
 use Rattle.lk_check_walk.proofs.Truth.{truth_of_node, truth_still}
 use Rattle.lk_names.specs.InScope.{InScope}
 use Rattle.lk_types.specs.Building.{IsLonger}
+use Rattle.lk_types.proofs.GrowLemmas.{longer_then}
 use Rattle.lk_check_walk.specs.Walking.{IsJudged, operand_in}
 use Rattle.lk_check_walk.specs.Walks.{IsFoundTyping, IsIn, IsSound, StandsIn, Walks, kept_in, mark_at}
 use Rattle.lk_check_walk.specs.declared.checker.Checker.{Checker}

@@ -7,6 +7,7 @@ use Rattle.std.proofs.lemmas.Option.{slice_get_within}
 use Rattle.std.proofs.lemmas.List.{append-nil}
 use Rattle.lk_types.specs.Building.{IsLonger}
 use Rattle.lk_types.specs.Table.{Table, is_empty}
+use Rattle.lk_types.proofs.GrowLemmas.{longer_same, longer_then}
 use Rattle.lk_tree.specs.declared.expression.Item.{Item}
 use Rattle.lk_tree.specs.declared.expression.Member.{Member}
 use Rattle.lk_tree.specs.declared.expression.Specifier.{Specifier, out-Specifier, out-roll-Specifier, roll-Specifier}
@@ -37,7 +38,7 @@ use Rattle.lk_check_walk.proofs.Gathers.{both_assoc, or_false, stands_behind}
 use Rattle.lk_check_walk.proofs.KeepsAll.{sound_same}
 use Rattle.lk_check_walk.proofs.NamedTypes.{gathered_stays}
 use Rattle.lk_names.specs.InScope.{InScope}
-use Rattle.lk_check_walk.proofs.States.{extend_both, longer_same, longer_then}
+use Rattle.lk_check_walk.proofs.States.{extend_both}
 use Rattle.lk_check_walk.proofs.Walking.{no_walk, walks_as, walks_then}
 use Rattle.lk_check_walk.proofs.Truth.{begun_told, told_still, truth_same}
 use Rattle.lk_check_walk.specs.Counting.{CountsAll}

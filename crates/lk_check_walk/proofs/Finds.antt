@@ -6,6 +6,7 @@ use Rattle.std.proofs.lemmas.List.{append-nil}
 use Rattle.lk_base.specs.declared.code.Code.TheVariants.{BitField}
 use Rattle.lk_types.specs.Building.{IsLonger, IsTable}
 use Rattle.lk_types.specs.Table.{IsKnown}
+use Rattle.lk_types.proofs.GrowLemmas.{longer_same}
 use Rattle.lk_tree.specs.declared.expression.Declarator.{Declarator}
 use Rattle.lk_tree.specs.declared.expression.Expr.{Expr}
 use Rattle.lk_tree.specs.declared.expression.Member.{Member}
@@ -41,7 +42,6 @@ use Rattle.lk_check_walk.proofs.Inside.{use_kept}
 use Rattle.lk_check_walk.proofs.KeepsAll.{in_same, sound_same}
 use Rattle.lk_check_walk.proofs.NamedTypes.{type_stays}
 use Rattle.lk_check_walk.proofs.Shaping.{known_stays}
-use Rattle.lk_check_walk.proofs.States.{longer_same}
 use Rattle.lk_check_walk.proofs.Walking.{no_walk, then_walks, walks_then}
 use Rattle.lk_check_walk.proofs.Truth.{truth_still, told_of_node, told_still}
 use Rattle.lk_check_walk.specs.Declarators.{IsDeclared, KeepsUse, left_of}

@@ -3,6 +3,7 @@ use Rattle.std.proofs.Common.{◌≡◌, ◌∙◌, ℕ, Option, Some, None, ref
 use Rattle.std.specs.Prelude.{IfSome}
 use Rattle.lk_types.specs.Building.{IsLonger, IsTable}
 use Rattle.lk_types.specs.Table.{Table, IsKnown}
+use Rattle.lk_types.proofs.GrowLemmas.{longer_same, longer_then}
 use Rattle.lk_typed.specs.Env.{ConvertedTo}
 use Rattle.lk_typed.specs.Names.{IsKnownRole, role_in}
 use Rattle.lk_typed.specs.Typings.{IsOperand}
@@ -15,15 +16,14 @@ use Rattle.lk_check_walk.specs.Walks.{IsSound}
 use Rattle.lk_check_walk.specs.declared.checker.Checker.{Checker}
 use Rattle.lk_check_walk.specs.declared.found.Found.{Found}
 use Rattle.lk_check_walk.specs.declared.found.TypeFound.{TypeFound}
-use Rattle.lk_check_walk.proofs.Settling.{longer_refl}
-use Rattle.lk_check_walk.proofs.Lasting.{expr_type_longer, known_longer, longer_trans, operand_longer, type_known_longer}
+use Rattle.lk_check_walk.proofs.Lasting.{expr_type_longer, known_longer, operand_longer, type_known_longer}
 
 pub no_further : (checker : Checker) → IsSound checker → IsFurther checker checker
-no_further checker sound = record { longer = longer_refl checker.types; sound = sound; outside = refl; begun = λ s begun. begun }
+no_further checker sound = record { longer = longer_same checker.types; sound = sound; outside = refl; begun = λ s begun. begun }
 
 pub then_further : (a b c : Checker) → IsFurther a b → IsFurther b c → IsFurther a c
 then_further a b c f g = record {
-  longer = longer_trans a.types b.types c.types f.longer g.longer;
+  longer = longer_then a.types b.types c.types f.longer g.longer;
   sound = g.sound;
   outside = g.outside ∙ f.outside;
   begun = λ s begun. g.begun s (f.begun s begun);

@@ -4,7 +4,7 @@ use Rattle.std.specs.Prelude.{slice_get}
 use Rattle.std.specs.Option.{option_map}
 use Rattle.std.proofs.lemmas.List.{length-map}
 use Rattle.std.proofs.lemmas.List.Elements.{All-push}
-use Rattle.lk_types.proofs.GrowLemmas.{form_grown}
+use Rattle.lk_types.proofs.GrowLemmas.{form_grown, longer_same, longer_then}
 use Rattle.lk_types.specs.Building.{IsPassed, IsTable}
 use Rattle.lk_types.specs.Table.{IsKnown}
 use Rattle.lk_types.specs.declared.c_type.CType.TheVariants.{Array}
@@ -16,7 +16,6 @@ use Rattle.lk_names.proofs.KnownScopes.{known_left_stays}
 use Rattle.lk_names.specs.Growing.{InLeftScope, IsKnownLeft}
 use Rattle.lk_names.specs.InScope.{InScope}
 use Rattle.lk_check_walk.proofs.Shaping.{known_stays, layers_known, passed_stays}
-use Rattle.lk_check_walk.proofs.States.{longer_same, longer_then}
 use Rattle.lk_check_walk.specs.Moves.{Grows, Puts}
 use Rattle.lk_check_walk.specs.Shaped.{IsKnownAt, IsKnownLeft as IsKnownType}
 use Rattle.lk_check_walk.specs.Shapes.{IsElementIn}

@@ -1,8 +1,8 @@
 -- What stays true of types and of what was found, while the table grows.
-use Rattle.std.proofs.Common.{◌≡◌, ◌∙◌, ◌++◌, Option, Some, None, ℕ, sym, ap, subst, arith, append_assoc, length-append}
+use Rattle.std.proofs.Common.{◌≡◌, ◌∙◌, Option, Some, None, ℕ, sym, ap, subst, arith, length-append}
 use Rattle.std.specs.Prelude.{IfSome}
 use Rattle.lk_types.specs.Building.{IsLonger, IsTable}
-use Rattle.lk_types.specs.Table.{Table, IsKnown, is_empty}
+use Rattle.lk_types.specs.Table.{Table, IsKnown}
 use Rattle.lk_typed.proofs.Meanings.{meaning_stays}
 use Rattle.lk_typed.specs.Calls.{names_routine}
 use Rattle.lk_typed.specs.Env.{Env, Outside}
@@ -21,14 +21,6 @@ use Rattle.lk_check_walk.specs.Walks.{IsFound, IsFoundTyping}
 use Rattle.lk_check_walk.specs.declared.found.Found.{Found}
 
 -- ---- tables
-
-pub longer_trans : (a b c : Table) → IsLonger a b → IsLonger b c → IsLonger a c
-longer_trans a b c p q = record {
-  types = (p.types.0 ++ q.types.0, q.types.1 ∙ ap (λ types. types ++ q.types.0) p.types.1 ∙ append_assoc a.types p.types.0 q.types.0);
-  least = (p.least.0 ++ q.least.0, q.least.1 ∙ ap (λ least. least ++ q.least.0) p.least.1 ∙ append_assoc a.least p.least.0 q.least.0);
-  structs = omega (arith, p.structs, q.structs);
-  members = λ s closed. q.members s (ap is_empty (p.members s closed) ∙ closed) ∙ p.members s closed;
-}
 
 pub known_longer : (old new : Table) (t : ℕ) → IsLonger old new → IsKnown old t → IsKnown new t
 known_longer old new t longer known = rw longer.types.1 (omega (arith, known, length-append old.types longer.types.0))

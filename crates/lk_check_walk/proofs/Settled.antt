@@ -7,6 +7,7 @@ use Rattle.lk_base.specs.declared.code.Code.TheVariants.{LargeType}
 use Rattle.lk_tree.specs.declared.expression.Parameter.{Parameter, out-Parameter}
 use Rattle.lk_types.specs.Building.{IsLonger, IsPassed, IsTable}
 use Rattle.lk_types.specs.Table.{Table}
+use Rattle.lk_types.proofs.GrowLemmas.{longer_same}
 use Rattle.lk_typed.specs.DeclaratorRules.{adjusted, parameter_rules}
 use Rattle.lk_typed.specs.Env.{Env, Meaning, extend}
 use Rattle.lk_typed.specs.Faults.{breach}
@@ -23,7 +24,7 @@ use Rattle.lk_check_decl.specs.Making.{IsMade}
 use Rattle.lk_check_walk.proofs.Adjusting.{both_kept, made_code, made_passed, made_type, missing_type, none_both}
 use Rattle.lk_check_walk.proofs.GoingOn.{grows_further, is_further, puts_further, same_sound, then_further}
 use Rattle.lk_check_walk.proofs.Shaping.{fields_are}
-use Rattle.lk_check_walk.proofs.States.{extend_nothing, grown_sound, longer_same, same_in, stays_in}
+use Rattle.lk_check_walk.proofs.States.{extend_nothing, grown_sound, same_in, stays_in}
 use Rattle.lk_check_walk.proofs.Whole.{tells_same}
 use Rattle.lk_check_walk.specs.Moves.{GoesOn, Grows, Puts}
 use Rattle.lk_check_walk.specs.Named.{name_in}

@@ -2,11 +2,11 @@
 use Rattle.std.proofs.Common.{◌≡◌, ◌∙◌, ◌≤◌, ℕ, Bool, true, false, List, [], ◌∷◌, Option, Some, None, map, refl, sym, ap, subst, arith, inl, inr, nat_lt}
 use Rattle.std.specs.Prelude.{is_some, option_map, if◌then◌else◌}
 use Rattle.std.proofs.lemmas.Bool.{false≢true}
-use Rattle.std.proofs.lemmas.List.{append-nil}
 use Rattle.lk_base.specs.Code.{number_of}
 use Rattle.lk_base.specs.declared.code.Code.{Code}
 use Rattle.lk_types.specs.Building.{IsLonger}
 use Rattle.lk_types.specs.Table.{Table}
+use Rattle.lk_types.proofs.GrowLemmas.{longer_same}
 use Rattle.lk_tree.specs.declared.expression.Expr.{Expr}
 use Rattle.lk_typed.specs.Codes.{lesser, least_code}
 use Rattle.lk_typed.specs.Elements.{HasFewElements}
@@ -32,7 +32,7 @@ use Rattle.lk_check_walk.specs.Addresses.{kept_of}
 use Rattle.lk_check_walk.specs.Judging.{Gives, IsRuled, TellsNoName, code_in, typed_in}
 use Rattle.lk_check_walk.specs.Structs.{AreListed}
 use Rattle.lk_check_walk.specs.Walks as walks
-use Rattle.lk_check_walk.specs.Walks.{IsFound, IsFoundTyping, IsSound, JudgedForm, Settles, Tells, judged_of, kept_in, mark_at}
+use Rattle.lk_check_walk.specs.Walks.{IsFoundTyping, IsSound, JudgedForm, Settles, Tells, kept_in, mark_at}
 use Rattle.lk_check_walk.specs.declared.checker.Checker.{Checker}
 use Rattle.lk_check_walk.specs.declared.found.At.{At}
 use Rattle.lk_check_walk.specs.declared.found.Found.{Found}
@@ -158,11 +158,8 @@ found_by table found verdict.Silent spec.Silent is e gives = e
 
 -- ---- the state behind it
 
-pub longer_refl : (table : Table) → IsLonger table table
-longer_refl table = record { types = ([], sym (append-nil table.types)); least = ([], sym (append-nil table.least)); structs = omega arith; members = λ s closed. refl }
-
-pub longer_same : (old new : Table) → new ≡ old → IsLonger old new
-longer_same old new e = subst (IsLonger old) (sym e) (longer_refl old)
+pub longer_as : (old new : Table) → new ≡ old → IsLonger old new
+longer_as old new e = subst (IsLonger old) (sym e) (longer_same old)
 
 record SoundOf (table : Table) (names : InScope) : Type 0 where
   ready : IsReady table
@@ -194,7 +191,7 @@ settled old new e env behind form ruled look at broken found sound place tells s
       keeps =
           subst (KeepsCodes (kept_in old) (mark e.spot e.ordinal) (map (breach_at (written e)) (codes_of v))) (sym kept)
           (verdict_kept (kept_in old) (mark e.spot e.ordinal) (written e) old.types ruled.verdict v is.verdict);
-      types = longer_same old.types new.types tells.types;
+      types = longer_as old.types new.types tells.types;
       sound = sound_same old new sound tells.types tells.names;
       names = tells.names;
       outside = tells.outside;

@@ -1,11 +1,12 @@
 -- The state of the checker stays sound where types, tags and structs come into it.
-use Rattle.std.proofs.Common.{◌≡◌, ◌∙◌, ◌<◌, ◌^◌, ◌++◌, ℕ, List, [], ◌∷◌, length, map, refl, sym, ap, subst, arith, All, append_assoc}
+use Rattle.std.proofs.Common.{◌≡◌, ◌∙◌, ◌<◌, ◌^◌, ◌++◌, ℕ, List, [], ◌∷◌, length, map, refl, sym, ap, subst, All, append_assoc}
 use Rattle.std.proofs.lemmas.List.{map-append, append-nil}
 use Rattle.std.proofs.lemmas.List.Elements.{All-push}
 use Rattle.lk_types.proofs.NewLemmas.{predeclared_types_stay}
 use Rattle.lk_types.specs.Building.{IsTable, IsLonger, IsPut, found, added}
-use Rattle.lk_types.specs.Table.{Table, IsKnown, is_empty}
+use Rattle.lk_types.specs.Table.{Table, IsKnown}
 use Rattle.lk_types.specs.declared.c_type.CType.{CType}
+use Rattle.lk_types.proofs.GrowLemmas.{longer_then}
 use Rattle.lk_typed.proofs.Elements.{few_put}
 use Rattle.lk_typed.proofs.Meanings.{meaning_stays}
 use Rattle.lk_typed.specs.DeclaratorRules.{elements}
@@ -39,17 +40,6 @@ put_grown old new form t good new_good longer put few = record {
   longer = longer;
   members = put_members old new form t put;
   few = few_put old new form t good new_good longer put few;
-}
-
-pub longer_same : (table : Table) → IsLonger table table
-longer_same table = record { types = ([], sym (append-nil table.types)); least = ([], sym (append-nil table.least)); structs = omega arith; members = λ s closed. refl }
-
-pub longer_then : (a b c : Table) → IsLonger a b → IsLonger b c → IsLonger a c
-longer_then a b c first second = record {
-  types = (first.types.0 ++ second.types.0, second.types.1 ∙ ap (λ ts. ts ++ second.types.0) first.types.1 ∙ append_assoc a.types first.types.0 second.types.0);
-  least = (first.least.0 ++ second.least.0, second.least.1 ∙ ap (λ ts. ts ++ second.least.0) first.least.1 ∙ append_assoc a.least first.least.0 second.least.0);
-  structs = let one = first.structs in let two = second.structs in omega (arith, one, two);
-  members = λ s closed. second.members s (ap is_empty (first.members s closed) ∙ closed) ∙ first.members s closed;
 }
 
 -- ---- the state

@@ -3,6 +3,7 @@ use Rattle.std.proofs.Common.{◌≡◌, ◌∙◌, ◌++◌, Bool, false, List,
 use Rattle.std.specs.Prelude.{◌||◌, slice_get}
 use Rattle.std.specs.Option.{option_map}
 use Rattle.lk_types.specs.Building.{IsLonger}
+use Rattle.lk_types.proofs.GrowLemmas.{longer_same, longer_then}
 use Rattle.lk_tree.specs.declared.expression.Declarator.{Declarator}
 use Rattle.lk_tree.specs.declared.expression.TypeName.{TypeName, out-TypeName}
 use Rattle.lk_typed.specs.DeclarationRules.{InType, type_in}
@@ -27,7 +28,7 @@ use Rattle.lk_check_walk.specs.Truth.{IsBegunAmong, NoTag}
 use Rattle.lk_check_walk.proofs.Gathers.{or_false}
 use Rattle.lk_check_walk.proofs.Inside.{use_kept}
 use Rattle.lk_check_walk.proofs.KeepsAll.{in_same, no_codes, sound_same}
-use Rattle.lk_check_walk.proofs.States.{extend_both, extend_nothing, longer_same, longer_then}
+use Rattle.lk_check_walk.proofs.States.{extend_both, extend_nothing}
 use Rattle.lk_check_walk.proofs.Truth.{truth_same, told_of_node, told_still, told_then}
 use Rattle.lk_check_walk.specs.Declarators.{IsDeclared, left_of, name_codes, use_codes}
 use Rattle.lk_check_walk.specs.Keepings.{KeepsEach, codes_at}

@@ -4,6 +4,7 @@ use Rattle.std.specs.Prelude.{slice_get}
 use Rattle.std.proofs.lemmas.List.{append-nil}
 use Rattle.lk_types.specs.Building.{IsLonger}
 use Rattle.lk_types.specs.Table.{Table}
+use Rattle.lk_types.proofs.GrowLemmas.{longer_same, longer_then}
 use Rattle.lk_tree.specs.declared.expression.DeclaratorForm.TheOpen.{ExprForm-F}
 use Rattle.lk_tree.specs.declared.expression.DeclaratorForm.{DeclaratorForm}
 use Rattle.lk_tree.specs.declared.expression.Declarator.{Declarator}
@@ -36,8 +37,6 @@ use Rattle.lk_check_walk.specs.Walks.{IsFound, IsIn, IsSound, JudgedForm, Settle
 use Rattle.lk_check_walk.specs.declared.checker.Checker.{Checker}
 use Rattle.lk_check_walk.specs.declared.found.Found.{Found}
 use Rattle.lk_check_walk.proofs.Growing.{in_longer}
-use Rattle.lk_check_walk.proofs.Lasting.{longer_trans}
-use Rattle.lk_check_walk.proofs.Settling.{longer_refl}
 use Rattle.lk_check_walk.proofs.Truth.{told_as, told_then, truth_same, truth_still}
 
 -- ---- environments
@@ -64,7 +63,7 @@ in_any_role checker env role in_size is = record { scope = ap (λ (e : Env). rec
 
 pub no_walk : (at_end : Env) (checker : Checker) (env : Env) → IsSound checker → IsIn checker env → Walks at_end checker checker env nothing []
 no_walk at_end checker env sound is = record {
-  longer = longer_refl checker.types;
+  longer = longer_same checker.types;
   sound = sound;
   outside = refl;
   begun = λ s begun. begun;
@@ -90,7 +89,7 @@ pub walks_then : (One Two Own : ℕ → StructTag → Type 0) (at_end : Env) (ol
     ((s : ℕ) (tag : StructTag) → One s tag → Own s tag) → ((s : ℕ) (tag : StructTag) → Two s tag → Own s tag) → WalksOwn One at_end old middle env a ps ps →
     WalksOwn Two at_end middle new (extend env a) b qs qs → WalksOwn Own at_end old new env (both a b) (ps ++ qs) (ps ++ qs)
 walks_then One Two Own at_end old middle new env a b ps qs of_one of_two f g = record {
-  longer = longer_trans old.types middle.types new.types f.longer g.longer;
+  longer = longer_then old.types middle.types new.types f.longer g.longer;
   sound = g.sound;
   outside = g.outside ∙ f.outside;
   begun = λ s begun. g.begun s (f.begun s begun);
@@ -143,7 +142,7 @@ judged_as at_end old middle new e env found layer is walks settles =
     subst (λ l. KeepsNodes at_end (kept_in old) (parts_of_layer env l) (kept_in middle)) (sym is) walks.keeps in
     let own = subst (λ cs. KeepsCodes (kept_in middle) (mark e.spot e.ordinal) cs (kept_in new)) (sym codes) settles.keeps in
     let all : WalksAndTells at_end old new env (additions_of form) (at env (AnExpression e) ∷ []) (parts at_end env (AnExpression e)) = record {
-      longer = longer_trans old.types middle.types new.types walks.longer settles.types;
+      longer = longer_then old.types middle.types new.types walks.longer settles.types;
       sound = settles.sound;
       outside = settles.outside ∙ walks.outside;
       begun = λ s begun. ap (λ (names : InScope). slice_get names.structs s) settles.names ∙ walks.begun s begun;
@@ -161,4 +160,4 @@ judged_as at_end old middle new e env found layer is walks settles =
 pub text_settles : (old : Checker) (types : Table) (new : Checker) (e : Expr) (env behind : Env) (form : JudgedForm) (found : Found) → IsLonger old.types types →
     Settles (record old { types = types }) new e env behind form found → Settles old new e env behind form found
 text_settles old types new e env behind form found longer s =
-    record { keeps = s.keeps; types = longer_trans old.types types new.types longer s.types; sound = s.sound; names = s.names; outside = s.outside; records = s.records; found = s.found }
+    record { keeps = s.keeps; types = longer_then old.types types new.types longer s.types; sound = s.sound; names = s.names; outside = s.outside; records = s.records; found = s.found }

@@ -1,8 +1,8 @@
 -- What is known in a state is known while types are added.
-use Rattle.std.proofs.Common.{◌≡◌, ◌∙◌, ◌<◌, ◌++◌, ℕ, List, [], Option, Some, None, length, refl, sym, ap, subst, arith, append_assoc, length-append}
-use Rattle.std.proofs.lemmas.List.{append-nil}
+use Rattle.std.proofs.Common.{◌≡◌, ◌∙◌, ◌<◌, ◌++◌, ℕ, List, Option, Some, None, length, refl, sym, ap, subst, arith, append_assoc, length-append}
 use Rattle.lk_types.specs.Building.{IsTable, IsLonger}
-use Rattle.lk_types.specs.Table.{Table, IsKnown, is_empty}
+use Rattle.lk_types.specs.Table.{Table, IsKnown}
+use Rattle.lk_types.proofs.GrowLemmas.{longer_same, longer_then}
 use Rattle.lk_tree.specs.declared.expression.TypeName.{TypeName}
 use Rattle.lk_typed.proofs.Meanings.{meaning_stays}
 use Rattle.lk_typed.specs.Elaborated.{InPlace}
@@ -33,17 +33,6 @@ use Rattle.lk_elab_expr.specs.declared.parts.Part.{Part}
 use Rattle.lk_elab_expr.specs.declared.parts.Part.TheVariants as part
 
 -- ---- tables
-
-pub longer_same : (table : Table) → IsLonger table table
-longer_same table = record { types = ([], sym (append-nil table.types)); least = ([], sym (append-nil table.least)); structs = omega arith; members = λ s closed. refl }
-
-pub longer_then : (a b c : Table) → IsLonger a b → IsLonger b c → IsLonger a c
-longer_then a b c first second = record {
-  types = (first.types.0 ++ second.types.0, second.types.1 ∙ ap (λ ts. ts ++ second.types.0) first.types.1 ∙ append_assoc a.types first.types.0 second.types.0);
-  least = (first.least.0 ++ second.least.0, second.least.1 ∙ ap (λ ts. ts ++ second.least.0) first.least.1 ∙ append_assoc a.least first.least.0 second.least.0);
-  structs = let one = first.structs in let two = second.structs in omega (arith, one, two);
-  members = λ s closed. second.members s (ap is_empty (first.members s closed) ∙ closed) ∙ first.members s closed;
-}
 
 module _ (old new : Table) (longer : IsLonger old new) where
   more : {A : Type 0} (t : ℕ) (xs ys : List A) → t < length xs → t < length (xs ++ ys)

@@ -4,6 +4,7 @@ use Rattle.std.proofs.lemmas.List.Elements.{All-head, All-tail}
 use Rattle.lk_tree.specs.declared.statement.Unit.{Unit}
 use Rattle.lk_types.specs.Building.{IsTable, IsLonger}
 use Rattle.lk_types.specs.Table.{Table, IsKnown}
+use Rattle.lk_types.proofs.GrowLemmas.{longer_same, longer_then}
 use Rattle.lk_typed.proofs.Meanings.{meaning_stays}
 use Rattle.lk_typed.specs.Env as env
 use Rattle.lk_typed.specs.Env.{Env, Name}
@@ -25,7 +26,7 @@ use Rattle.lk_check_walk.specs.Walks.{IsDeclaredAs, IsOfKind}
 use Rattle.lk_check_walk.specs.declared.records.DeclaredHere.{DeclaredHere}
 use Rattle.lk_check_walk.specs.declared.records.InitialiserKind.{InitialiserKind}
 use Rattle.lk_check_walk.specs.declared.records.InitialiserKind.TheVariants.{Word, Value}
-use Rattle.lk_elab_expr.proofs.Growing.{known_stays, longer_same, longer_then, told_stays}
+use Rattle.lk_elab_expr.proofs.Growing.{known_stays, told_stays}
 use Rattle.lk_elab_expr.specs.Leading.{GoesOn}
 use Rattle.lk_elab_expr.specs.declared.elaborator.Elaborator.{Elaborator}
 use Rattle.lk_elaborate.specs.Making.{StandIn}

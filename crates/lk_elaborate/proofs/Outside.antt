@@ -2,11 +2,11 @@
 use Rattle.std.proofs.Common.{◌∙◌, ◌++◌, List, refl, ap, append_assoc}
 use Rattle.lk_tree.specs.declared.statement.Unit.{Unit}
 use Rattle.lk_types.specs.declared.c_type.CType.{CType}
+use Rattle.lk_types.proofs.GrowLemmas.{longer_same, longer_then}
 use Rattle.lk_typed.specs.Elaborated.{InPlace}
 use Rattle.lk_typed.specs.Env.{Env, Name}
 use Rattle.lk_typed.specs.Nodes.{Node, Placed}
 use Rattle.lk_typed.specs.declared.entity.Entity.{Entity}
-use Rattle.lk_elab_expr.proofs.Growing.{longer_same, longer_then}
 use Rattle.lk_elab_expr.specs.Leading.{GoesOn}
 use Rattle.lk_elab_expr.specs.Telling.{IsTold, IsTrueOf}
 use Rattle.lk_elab_expr.specs.declared.elaborator.Elaborator.{Elaborator}

@@ -1,6 +1,7 @@
 -- Locals are put one after the other, those of the parameters of a definition first (C99 6.9.1, 9).
 use Rattle.std.proofs.Common.{◌≡◌, ◌∙◌, ◌++◌, ℕ, List, [], ◌∷◌, Some, None, refl, sym, ap, subst}
 use Rattle.std.proofs.lemmas.List.{append-nil, append_assoc}
+use Rattle.lk_types.proofs.GrowLemmas.{longer_same}
 use Rattle.lk_tree.specs.declared.expression.Parameter.{Parameter, out-Parameter}
 use Rattle.lk_tree.specs.declared.statement.Unit.{Unit}
 use Rattle.lk_typed.specs.Env.{Name}
@@ -8,7 +9,6 @@ use Rattle.lk_typed.specs.Locals.{StandsAtName, parameter_name}
 use Rattle.lk_typed.specs.Locals.StandsAtName.{named, unnamed}
 use Rattle.lk_typed.specs.Told.{Named}
 use Rattle.lk_typed.specs.declared.unit.Local.{Local}
-use Rattle.lk_elab_expr.proofs.Growing.{longer_same}
 use Rattle.lk_elab_expr.specs.Leading.{GoesOn}
 use Rattle.lk_elab_expr.specs.PuttingLocals.{IsLocalSo, PutsLocal, PutsLocalOf}
 use Rattle.lk_elab_expr.specs.declared.elaborator.Elaborator.{Elaborator}

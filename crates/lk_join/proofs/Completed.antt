@@ -11,9 +11,10 @@ use Rattle.lk_types.specs.Predeclared.{first_table}
 use Rattle.lk_types.specs.Table.{Table, is_empty, is_open, members_of}
 use Rattle.lk_types.specs.declared.c_type.CType.{CType}
 use Rattle.lk_types.specs.declared.member.StructMember.{StructMember}
+use Rattle.lk_types.proofs.GrowLemmas.{longer_same, longer_then}
 use Rattle.lk_join.specs.Completing.{AreCompleted, AreOpen, GivesMembers, HaveSameMembers, IsCompleted, IsGiven}
 use Rattle.lk_join.specs.Forms.{IsHere, IsMember}
-use Rattle.lk_join.proofs.Growing.{got, here_more, longer_same, longer_then}
+use Rattle.lk_join.proofs.Growing.{got, here_more}
 use Rattle.lk_join.proofs.Saying.{set_here, set_there}
 use Rattle.lk_join.proofs.Zips.{zip_weaker}
 

@@ -1,7 +1,6 @@
 -- What stays while the program's table and the rows of sources grow.
-use Rattle.std.proofs.Common.{◌≡◌, ◌∙◌, ◌+◌, ◌<◌, ◌≤◌, ◌++◌, inl, inr, ℕ, zero, suc, get_or, Bool, true, false, List, [], ◌∷◌, Some, All, append_assoc, arith, length, length-append, refl, sym, ap, subst}
+use Rattle.std.proofs.Common.{◌≡◌, ◌∙◌, ◌+◌, ◌<◌, ◌≤◌, ◌++◌, inl, inr, ℕ, zero, suc, get_or, Bool, true, false, List, [], ◌∷◌, Some, All, arith, length, length-append, refl, sym, ap, subst}
 use Rattle.std.proofs.lemmas.Bool.{or_parts}
-use Rattle.std.proofs.lemmas.List.{append-nil}
 use Rattle.std.proofs.lemmas.List.Elements.{All-cons, All-from_get_or, All-head, All-nil, All-tail, All-weaker}
 use Rattle.std.proofs.lemmas.Option.{none-some, same_Some, slice_get-get_or, slice_get_within}
 use Rattle.std.proofs.Math.Nat.{eq-or-lt_of_le}
@@ -10,28 +9,17 @@ use Rattle.lk_link.specs.Sources.{Units}
 use Rattle.lk_typed.specs.declared.unit.TypedUnit.{TypedUnit}
 use Rattle.lk_types.specs.Building.{IsClosed, IsLonger, IsTable}
 use Rattle.lk_types.specs.Sizes.{is_too_large}
-use Rattle.lk_types.specs.Table.{Table, HasKnown, IsKnown, is_empty, type_at}
+use Rattle.lk_types.specs.Table.{Table, HasKnown, IsKnown, type_at}
 use Rattle.lk_types.specs.Walks.{branches, has_tag, holds_struct, is_void, target}
 use Rattle.lk_types.specs.declared.c_type.CType.{CType}
 use Rattle.lk_types.specs.declared.c_type.CType.TheVariants.{Pointer}
 use Rattle.lk_types.proofs.AddLemmas.{closed_plain, last_got}
 use Rattle.lk_types.proofs.Entries.{OfParts}
-use Rattle.lk_types.proofs.GrowLemmas.{branches_by, form_size_by, get_before, own_closed}
+use Rattle.lk_types.proofs.GrowLemmas.{branches_by, form_size_by, get_before, longer_same, longer_then, own_closed}
 use Rattle.lk_types.proofs.PartLemmas.{one_part, target_type}
 use Rattle.lk_join.specs.Forms.{ArePutAt, AreRowsOf, HasForm, HasPointer, IsHere, IsPutAt, KeepsPointers}
 use Rattle.lk_join.specs.Forms.HasForm.{void, integer, thread, mutex, condition, opaque, pointer, array, struct, function}
 use Rattle.lk_join.proofs.Zips.{zip_push, zip_weaker}
-
-pub longer_same : (table : Table) → IsLonger table table
-longer_same table = record { types = ([], sym (append-nil table.types)); least = ([], sym (append-nil table.least)); structs = omega arith; members = λ s closed. refl }
-
-pub longer_then : (a b c : Table) → IsLonger a b → IsLonger b c → IsLonger a c
-longer_then a b c first second = record {
-  types = (first.types.0 ++ second.types.0, second.types.1 ∙ ap (λ ts. ts ++ second.types.0) first.types.1 ∙ append_assoc a.types first.types.0 second.types.0);
-  least = (first.least.0 ++ second.least.0, second.least.1 ∙ ap (λ ts. ts ++ second.least.0) first.least.1 ∙ append_assoc a.least first.least.0 second.least.0);
-  structs = let one = first.structs in let two = second.structs in omega (arith, one, two);
-  members = λ s closed. second.members s (ap is_empty (first.members s closed) ∙ closed) ∙ first.members s closed;
-}
 
 pub get_longer : (old new : Table) → IsLonger old new → (t : ℕ) (form : CType) → slice_get old.types t ≡ Some form → slice_get new.types t ≡ Some form
 get_longer old new longer t form at = ap (λ ts. slice_get ts t) longer.types.1 ∙ get_before old.types longer.types.0 t (slice_get_within old.types t form at) ∙ at

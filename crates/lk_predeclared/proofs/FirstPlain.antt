@@ -12,9 +12,9 @@ use Rattle.lk_types.specs.Predeclared.{predeclared}
 use Rattle.lk_types.specs.Table.{Table, members_of}
 use Rattle.lk_types.specs.declared.c_type.CType.{CType}
 use Rattle.lk_types.specs.declared.c_type.CType.TheVariants as forms
+use Rattle.lk_types.proofs.GrowLemmas.{longer_same, longer_then}
 use Rattle.lk_typed.proofs.FirstTypes.{first_got}
 use Rattle.lk_typed.proofs.Meanings.{meaning_by}
-use Rattle.lk_check_walk.proofs.States.{longer_same, longer_then}
 use Rattle.lk_typed.specs.Bounds.{holds_struct, size_within, steps_counted}
 use Rattle.lk_typed.specs.Library.{routine_type}
 use Rattle.lk_typed.specs.Meaning.{meaning, tree_of, IsReady}

@@ -1,5 +1,5 @@
 -- What stays as it is while a table grows.
-use Rattle.std.proofs.Common.{◌≡◌, ◌∙◌, ◌<◌, ℕ, zero, suc, Bool, true, false, List, [], ◌∷◌, ◌++◌, length, refl, sym, ap, subst, arith, length-append, All}
+use Rattle.std.proofs.Common.{◌≡◌, ◌∙◌, ◌<◌, ℕ, zero, suc, Bool, true, false, List, [], ◌∷◌, ◌++◌, length, refl, sym, ap, subst, arith, length-append, append-nil, append_assoc, All}
 use Rattle.std.specs.List.{flat_map, slice_get}
 use Rattle.std.specs.Prelude.{not, unwrap_or, ◌||◌}
 use Rattle.std.proofs.lemmas.Bool.{false≢true}
@@ -19,6 +19,18 @@ pub get_before : {X : Type 0} (xs ys : List X) (i : ℕ) → i < length xs → s
 get_before [] ys i within = absurd (omega arith)
 get_before (x ∷ xs) ys zero within = refl
 get_before (x ∷ xs) ys (suc i) within = get_before xs ys i (omega arith)
+
+-- a table is longer than itself, and one longer than that is longer than this
+pub longer_same : (table : Table) → IsLonger table table
+longer_same table = record { types = ([], sym (append-nil table.types)); least = ([], sym (append-nil table.least)); structs = omega arith; members = λ s closed. refl }
+
+pub longer_then : (a b c : Table) → IsLonger a b → IsLonger b c → IsLonger a c
+longer_then a b c first second = record {
+  types = (first.types.0 ++ second.types.0, second.types.1 ∙ ap (λ ts. ts ++ second.types.0) first.types.1 ∙ append_assoc a.types first.types.0 second.types.0);
+  least = (first.least.0 ++ second.least.0, second.least.1 ∙ ap (λ ts. ts ++ second.least.0) first.least.1 ∙ append_assoc a.least first.least.0 second.least.0);
+  structs = let one = first.structs in let two = second.structs in omega (arith, one, two);
+  members = λ s closed. second.members s (ap is_empty (first.members s closed) ∙ closed) ∙ first.members s closed;
+}
 
 -- whether forms hold structs is the same by two functions that agree on what they are made of
 pub holds_agree : (f g : ℕ → Bool) (table : Table) (t : ℕ) (form : CType) → IsMadeOf table t form → ((u : ℕ) → u < t → f u ≡ g u) → holds f form ≡ holds g form

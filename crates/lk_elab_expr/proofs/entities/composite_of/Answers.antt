@@ -4,8 +4,8 @@ use Rattle.std.proofs.lemmas.List.{take_all}
 use Rattle.std.proofs.lemmas.Option.{slice_get-get_or}
 use Rattle.lk_types.specs.Table.{IsKnown}
 use Rattle.lk_types.proofs.FormEq.{take_more}
+use Rattle.lk_types.proofs.GrowLemmas.{longer_then}
 use Rattle.lk_elab_expr.proofs.Finishing.{IsSoFar, composite_found, so_far_more}
-use Rattle.lk_elab_expr.proofs.Growing.{longer_then}
 use Rattle.lk_elab_expr.proofs.entities.composite_of.Goals as goal
 
 pub loop-declaration-preserved : goal.loop-declaration-preserved

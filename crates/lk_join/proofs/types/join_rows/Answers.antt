@@ -1,10 +1,11 @@
 use Rattle.std.proofs.Common.{◌≡◌, ◌+◌, Some, arith, length, sym, subst}
 use Rattle.std.specs.List.{slice_get}
 use Rattle.lk_types.proofs.KeptLemmas.{read_got}
+use Rattle.lk_types.proofs.GrowLemmas.{longer_same, longer_then}
 use Rattle.lk_join.specs.Completing.{AreCompleted, GivesMembers, HasMembers}
 use Rattle.lk_join.specs.Forms.{ArePutAt, AreRowsOf}
 use Rattle.lk_join.proofs.Giving.{members_more, no_members}
-use Rattle.lk_join.proofs.Growing.{longer_same, longer_then, no_rows, rows_more}
+use Rattle.lk_join.proofs.Growing.{no_rows, rows_more}
 use Rattle.lk_join.proofs.types.join_rows.Goals as goal
 
 pub loop-unit-init : goal.loop-unit-init

@@ -24,13 +24,13 @@ use Rattle.lk_check_walk.proofs.Argued.{AreArgued, argued_then, argument_judged,
 use Rattle.lk_check_walk.proofs.Arms.{arm_call, arm_cast, arm_none, arm_one, arm_sizeof_type, arm_three, arm_two, in_role, judged_further, judged_operand, layer_is, sides_judged, two_judged}
 use Rattle.lk_check_walk.proofs.Further.{named_further, operand_further, role_known_further, then_further}
 use Rattle.lk_check_walk.proofs.Recordings.{further_recorded, judged_recorded, named_recorded}
-use Rattle.lk_check_walk.proofs.Lasting.{longer_trans}
 use Rattle.lk_check_walk.proofs.Walking.{no_walk}
 use Rattle.lk_base.specs.declared.code.Code.TheVariants.{BitField}
 use Rattle.lk_typed.specs.Faults.{breach}
 use Rattle.lk_tree.specs.declared.expression.Item.{out-Item}
 use Rattle.lk_tree.specs.declared.expression.TypeName.{out-TypeName}
 use Rattle.lk_types.specs.Table.{Table, IsKnown}
+use Rattle.lk_types.proofs.GrowLemmas.{longer_then}
 use Rattle.lk_typed.specs.HolderRules.{counted_rules, enum_rules, has_bit_field, written_rules}
 use Rattle.lk_typed.specs.Redeclared.{tag_rules}
 use Rattle.lk_typed.specs.Structs.{struct_begun}
@@ -313,7 +313,7 @@ judge_form-returns-in_ok-found-in-Call t c = λ at_end env is.
 pub judge_form-settle_call-requires-clause-role : goal.judge_form-settle_call-requires-clause-role
 judge_form-settle_call-requires-clause-role t c =
     role_known_further c.args.self.now.types c.judge_arguments.new.self.types c.args.stands.role
-    (longer_trans c.args.self.now.types c.judge_function.new.self.types c.judge_arguments.new.self.types c.in_ok-f-in-Call.ensures.further.longer c.in_ok-given-in-Call.ensures.further.longer) c.requires.role
+    (longer_then c.args.self.now.types c.judge_function.new.self.types c.judge_arguments.new.self.types c.in_ok-f-in-Call.ensures.further.longer c.in_ok-given-in-Call.ensures.further.longer) c.requires.role
 
 pub judge_form-settle_call-requires-clause-function : goal.judge_form-settle_call-requires-clause-function
 judge_form-settle_call-requires-clause-function t c =

@@ -1,12 +1,13 @@
 use Rattle.std.proofs.Common.{◌≡◌, ◌∙◌, [], ◌∷◌, Some, ap, refl, subst, sym}
 use Rattle.std.specs.List.{slice_get}
+use Rattle.lk_types.proofs.GrowLemmas.{longer_same}
 use Rattle.lk_typed.specs.Env.{Completes}
 use Rattle.lk_typed.specs.Told.{steps}
 use Rattle.lk_typed.specs.Typings.{members_in}
 use Rattle.lk_typed.specs.declared.members.Members.TheVariants.{NotYet, Begun}
 use Rattle.lk_names.specs.InScope.{InScope}
 use Rattle.lk_check_walk.proofs.Completing.{begun_stays, got_set, step_sound}
-use Rattle.lk_check_walk.proofs.States.{goes_on, longer_same}
+use Rattle.lk_check_walk.proofs.States.{goes_on}
 use Rattle.lk_check_walk.proofs.checker.Checker.begin_members.Goals as goal
 
 pub returns-clause-grows : goal.returns-clause-grows

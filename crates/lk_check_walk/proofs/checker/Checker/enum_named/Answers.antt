@@ -1,10 +1,10 @@
 use Rattle.std.proofs.Common.{◌∙◌, None, Some, ap}
 use Rattle.std.specs.Prelude.{if◌then◌else◌}
+use Rattle.lk_types.proofs.GrowLemmas.{longer_same}
 use Rattle.lk_typed.specs.Env.{Env, look_up_tag}
 use Rattle.lk_typed.specs.HolderRules.{enum_rules}
 use Rattle.lk_typed.specs.Ty.{int}
 use Rattle.lk_check_walk.proofs.NamedTypes.{enum_is, named_put}
-use Rattle.lk_check_walk.proofs.States.{longer_same}
 use Rattle.lk_check_walk.proofs.checker.Checker.enum_named.Goals as goal
 
 pub returns : goal.returns

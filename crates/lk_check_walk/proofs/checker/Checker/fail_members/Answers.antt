@@ -1,10 +1,11 @@
 use Rattle.std.proofs.Common.{[], ◌∷◌, refl}
+use Rattle.lk_types.proofs.GrowLemmas.{longer_same}
 use Rattle.lk_typed.specs.Env.{Completes}
 use Rattle.lk_typed.specs.Told.{steps}
 use Rattle.lk_typed.specs.Typings.{members_in}
 use Rattle.lk_typed.specs.declared.members.Members.TheVariants.{Begun, Faulty}
 use Rattle.lk_check_walk.proofs.Completing.{step_sound}
-use Rattle.lk_check_walk.proofs.States.{goes_on, longer_same}
+use Rattle.lk_check_walk.proofs.States.{goes_on}
 use Rattle.lk_check_walk.proofs.checker.Checker.fail_members.Goals as goal
 
 pub returns-clause-grows : goal.returns-clause-grows

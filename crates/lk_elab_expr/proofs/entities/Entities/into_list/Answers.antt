@@ -1,7 +1,7 @@
 use Rattle.std.proofs.Common.{◌≡◌, ◌<◌, ◌∙◌, length, slice_get, get_or, sym, ap, subst, arith}
 use Rattle.std.proofs.lemmas.Option.{slice_get-get_or, slice_get_within}
+use Rattle.lk_types.proofs.GrowLemmas.{longer_then}
 use Rattle.lk_elab_expr.proofs.Finishing.{finished_more, others_more, set_length, written_back}
-use Rattle.lk_elab_expr.proofs.Growing.{longer_then}
 use Rattle.lk_elab_expr.specs.Gathering.{AreFinished}
 use Rattle.lk_elab_expr.proofs.entities.Entities.into_list.Goals as goal
 

@@ -11,7 +11,7 @@ use Rattle.lk_types.specs.Table.{Table, IsKnown, is_complete, is_complete_form, 
 use Rattle.lk_types.specs.declared.c_type.CType.{CType}
 use Rattle.lk_types.specs.declared.c_type.CType.TheVariants as forms
 use Rattle.lk_types.proofs.FormEq.{take_more}
-use Rattle.lk_types.proofs.GrowLemmas.{form_grown, known_same}
+use Rattle.lk_types.proofs.GrowLemmas.{form_grown, known_same, longer_then}
 use Rattle.lk_typed.specs.Told.{with_optional}
 use Rattle.lk_typed.specs.Bounds.{holds_struct, is_large}
 use Rattle.lk_typed.specs.Declarations.{composite, composites, sized}
@@ -21,13 +21,12 @@ use Rattle.lk_typed.specs.Meaning.{meaning, tree_of}
 use Rattle.lk_typed.specs.Ty.{Signature, Ty, Tys, Pointer, Array, Function, types_of, is_equal_but, are_equal_but, is_redeclarable, sizes_or_none, target_of, array_of, function_of}
 use Rattle.lk_typed.proofs.Meanings.{made_by, meaning_by, meaning_is, meaning_stays, more_same}
 use Rattle.lk_check_decl.specs.Making as made
-use Rattle.lk_check_decl.specs.Making.{IsLarge, IsMade, IsThere}
+use Rattle.lk_check_decl.specs.Making.{IsMade, IsThere}
 use Rattle.lk_check_decl.proofs.Sizes.{holds_is, known_small}
-use Rattle.lk_check_walk.proofs.States.{longer_then}
-use Rattle.lk_check_unit.specs.declared.composite.ArrayParts.{ArrayParts}
-use Rattle.lk_check_unit.specs.declared.composite.FunctionParts.{FunctionParts}
-use Rattle.lk_check_unit.specs.Composites.{AddsTypes, IsArrayOf, IsFunctionOf, PointsTo, Stands, StandEach, none as no_numbers, more as one_more}
-use Rattle.lk_check_unit.proofs.Composites.{HasSizes, complete_composite, few_composite, holds_composite, is_complete_tree, large_composite, not_true}
+use Rattle.lk_check_decl.specs.declared.composite.ArrayParts.{ArrayParts}
+use Rattle.lk_check_decl.specs.declared.composite.FunctionParts.{FunctionParts}
+use Rattle.lk_check_decl.specs.Composites.{AddsTypes, IsArrayOf, IsFunctionOf, PointsTo, Stands, StandEach, none as no_numbers, more as one_more}
+use Rattle.lk_check_decl.proofs.Composites.{HasSizes, complete_composite, few_composite, holds_composite, is_complete_tree, large_composite, not_true}
 
 -- ---- complete types
 

@@ -1,5 +1,6 @@
 //! The composite type of two declarations of one name (C99 6.2.7, 3).
-ghost use Rattle.std.specs.Prelude.{◌≡◌, ◌∷◌, ◌<◌, map, true, None, All, IfOk, OnOk, MatchOption};
+ghost use Rattle.std.specs.Prelude.{◌≡◌, ◌∷◌, ◌<◌, map, true, None, All, IfOk, IfSome, OnOk, MatchOption};
+ghost use Rattle.std.specs.Option.{option_map};
 ghost use Rattle.lk_types.specs.Building.{IsLonger};
 ghost use Rattle.lk_types.specs.Table.{IsKnown};
 ghost use Rattle.lk_typed.specs.Declarations as spec;
@@ -7,10 +8,10 @@ ghost use Rattle.lk_typed.specs.Elements.{HasFewElements};
 ghost use Rattle.lk_typed.specs.Meaning.{meaning};
 ghost use Rattle.lk_typed.specs.Ty as trees;
 ghost use Rattle.lk_typed.specs.Ty.{are_equal_but, is_redeclarable, sizes_or_none, types_of};
-ghost use Rattle.lk_check_unit.specs.Composites.{AddsTypes, IsArrayOf, IsFunctionOf, PointsTo, StandEach, Stands};
+ghost use Rattle.lk_check_decl.specs.Composites.{AddsTypes, IsArrayOf, IsFunctionOf, PointsTo, StandEach, Stands};
 
+use crate::making::{array_of, function_of, pointer_to};
 use lk_base::NoMemory;
-use lk_check_decl::{array_of, function_of, pointer_to};
 use lk_types::{CType, TypeId, TypeIds, TypeTable};
 use std::alloc::Global;
 
@@ -256,4 +257,44 @@ fn of_params(
         made.push(both)?;
     }
     Ok(TypeIds::new(made))
+}
+
+/// Whether two types are those that two declarations of one name may have (C99 6.2.7).
+fn are_redeclarable(types: &TypeTable, t: TypeId, u: TypeId) -> bool
+    requires t { IsKnown types.now t }
+    requires u { IsKnown types.now u }
+    ensures { result ≡ is_redeclarable (meaning types.now t) (meaning types.now u) }
+{
+    types.is_table();
+    types.are_redeclarable(t, u)
+}
+
+/// The composite of a type and one that is declared before, where they are those of one entity.
+pub fn composite_if_equal(
+    alloc: Global,
+    types: &mut TypeTable,
+    t: TypeId,
+    old: Option<TypeId>,
+) -> Result<TypeId, NoMemory>
+    requires t { IsKnown types.old t }
+    requires old { IfSome old (IsKnown types.old) }
+    requires few { HasFewElements types.old }
+    ensures means { IfOk result (λ made. meaning types.new made ≡
+        spec.composite_if_equal (meaning types.old t) (option_map (meaning types.old) old)) }
+    ensures known { IfOk result (IsKnown types.new) }
+    ensures longer { OnOk result (IsLonger types.old types.new) }
+    ensures members { OnOk result (types.new.members ≡ types.old.members) }
+    ensures few { OnOk result (HasFewElements types.new) }
+{
+    types.is_table();
+    match old {
+        Some(old) => {
+            if are_redeclarable(types, t, old) {
+                composite(alloc, types, t, old)
+            } else {
+                Ok(t)
+            }
+        }
+        None => Ok(t),
+    }
 }

@@ -1,11 +1,11 @@
 use Rattle.std.proofs.Common.{◌≡◌, rules}
 use Rattle.lk_typed.specs.Meaning.{meaning, tree_of}
 use Rattle.lk_typed.proofs.Meanings.{meaning_by}
-use Rattle.lk_check_unit.proofs.CompositeTypes.{array_by}
-use Rattle.lk_check_unit.proofs.composite.array_parts.Goals as goal
+use Rattle.lk_check_decl.proofs.CompositeTypes.{pointer_by}
+use Rattle.lk_check_decl.proofs.composite.pointer_target.Goals as goal
 
-pub returns-in-Array : goal.returns-in-Array
-returns-in-Array c = array_by c.args.types.now c.get.ensures.table c.args.t c.requires c.get.result.now c.get.ensures.value c.in-Array.element c.in-Array.size c.in-Array.is
+pub returns-in-Pointer : goal.returns-in-Pointer
+returns-in-Pointer c = pointer_by c.args.types.now c.get.ensures.table c.args.t c.requires c.get.result.now c.get.ensures.value c.in-Pointer.target c.in-Pointer.is
 
 pub returns-in-Void : goal.returns-in-Void
 returns-in-Void c =

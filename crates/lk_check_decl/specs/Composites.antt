@@ -6,8 +6,8 @@ use Rattle.lk_typed.specs.Declarations.{composite}
 use Rattle.lk_typed.specs.Elements.{HasFewElements}
 use Rattle.lk_typed.specs.Meaning.{meaning}
 use Rattle.lk_typed.specs.Ty.{Ty, Pointer, Array, Function, types_of}
-use Rattle.lk_check_unit.specs.declared.composite.ArrayParts.{ArrayParts}
-use Rattle.lk_check_unit.specs.declared.composite.FunctionParts.{FunctionParts}
+use Rattle.lk_check_decl.specs.declared.composite.ArrayParts.{ArrayParts}
+use Rattle.lk_check_decl.specs.declared.composite.FunctionParts.{FunctionParts}
 
 -- the type with these numbers as its parts
 abbrev pub array_tree : Table → ArrayParts → Ty

@@ -1,8 +1,8 @@
 use Rattle.std.proofs.Common.{◌+◌, ◌*◌, take}
 use Rattle.lk_types.specs.Building.{IsTable}
 use Rattle.lk_types.proofs.RedeclareLemmas.{above_all}
-use Rattle.lk_check_unit.specs.Composites.{AddsTypes, StandEach}
-use Rattle.lk_check_unit.proofs.composite.+composite.Given as goal
+use Rattle.lk_check_decl.specs.Composites.{AddsTypes, StandEach}
+use Rattle.lk_check_decl.proofs.composite.+composite.Given as goal
 
 abbrev pub decreases-composite : goal.decreases-composite
 decreases-composite l = 3 * l.t + 2

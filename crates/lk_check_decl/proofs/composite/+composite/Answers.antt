@@ -4,7 +4,7 @@ use Rattle.std.proofs.lemmas.Bool.Decides.{nat_tests}
 use Rattle.std.proofs.lemmas.List.Elements.{All-head, All-tail}
 use Rattle.lk_types.specs.Building.{IsPassed}
 use Rattle.lk_types.specs.Table.{IsKnown}
-use Rattle.lk_types.proofs.GrowLemmas.{known_same}
+use Rattle.lk_types.proofs.GrowLemmas.{known_same, longer_then}
 use Rattle.lk_types.proofs.KeptLemmas.{read_got}
 use Rattle.lk_types.proofs.RedeclareLemmas.{above_all, above_at, above_bound}
 use Rattle.lk_types.proofs.SizeLemmas.{all_read}
@@ -12,11 +12,10 @@ use Rattle.lk_typed.specs.Declarations.{composite}
 use Rattle.lk_typed.specs.Meaning.{meaning}
 use Rattle.lk_typed.specs.Ty.{Pointer, Array}
 use Rattle.lk_check_decl.specs.Making.{function_tree}
-use Rattle.lk_check_walk.proofs.States.{longer_then}
-use Rattle.lk_check_unit.specs.Composites.{IsFunctionOf, StandEach, none}
-use Rattle.lk_check_unit.proofs.Composites.{composite_self}
-use Rattle.lk_check_unit.proofs.CompositeTypes.{both_made, equal_function, equal_later, equal_now, few_array, stands_now, function_made, function_passed, adds_none, adds_then, array_composite, each_later, each_next, element_composite, equal_at, equal_elements, equal_long, equal_targets, made_stands, made_there, passed_known, pointer_composite}
-use Rattle.lk_check_unit.proofs.composite.+composite.Goals as goal
+use Rattle.lk_check_decl.specs.Composites.{IsFunctionOf, StandEach, none}
+use Rattle.lk_check_decl.proofs.Composites.{composite_self}
+use Rattle.lk_check_decl.proofs.CompositeTypes.{both_made, equal_function, equal_later, equal_now, few_array, stands_now, function_made, function_passed, adds_none, adds_then, array_composite, each_later, each_next, element_composite, equal_at, equal_elements, equal_long, equal_targets, made_stands, made_there, passed_known, pointer_composite}
+use Rattle.lk_check_decl.proofs.composite.+composite.Goals as goal
 
 -- ---- a type that is declared again
 pub composite-returns-then-eq-clause-means : goal.composite-returns-then-eq-clause-means

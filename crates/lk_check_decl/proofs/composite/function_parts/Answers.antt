@@ -2,8 +2,8 @@ use Rattle.std.proofs.Common.{◌≡◌, ◌∙◌, ap, sym, rules}
 use Rattle.lk_types.specs.declared.c_type.CType.TheVariants as forms
 use Rattle.lk_typed.specs.Meaning.{meaning, tree_of}
 use Rattle.lk_typed.proofs.Meanings.{meaning_by}
-use Rattle.lk_check_unit.proofs.CompositeTypes.{function_by}
-use Rattle.lk_check_unit.proofs.composite.function_parts.Goals as goal
+use Rattle.lk_check_decl.proofs.CompositeTypes.{function_by}
+use Rattle.lk_check_decl.proofs.composite.function_parts.Goals as goal
 
 pub returns-in_ok-copy-in-Function : goal.returns-in_ok-copy-in-Function
 returns-in_ok-copy-in-Function c = function_by c.args.types.now c.get.ensures.table c.args.t c.requires c.get.result.now c.get.ensures.value c.in-Function.result c.in_ok-copy-in-Function.field-0 c.in-Function.dots
