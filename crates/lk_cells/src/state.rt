@@ -48,7 +48,6 @@ pub struct Thread {
 }
 
 /// A state of a program that runs.
-#[derive(Drop)]
 pub struct State {
     /// The objects, in the order of their births.
     pub objects: Seq<Object>,
@@ -56,6 +55,16 @@ pub struct State {
     pub threads: Seq<Thread>,
     /// Whether the process has ended.
     pub ended: bool,
+}
+
+impl Drop for State {
+    fn drop(self) {
+        let State {
+            objects: _objects,
+            threads: _threads,
+            ended: _ended,
+        } = self;
+    }
 }
 
 impl State {

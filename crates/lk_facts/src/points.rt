@@ -17,9 +17,14 @@ use lk_types::{NodeId, TypeId, TypeTable};
 use std::marker::Model;
 
 /// A program as its control points, functions and roots. All numbers in it are in range.
-#[derive(Drop)]
 pub struct Points {
     program: Program,
+}
+
+impl Drop for Points {
+    fn drop(self) {
+        let Points { program: _program } = self;
+    }
 }
 
 impl Model for Points {

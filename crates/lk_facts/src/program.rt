@@ -9,7 +9,6 @@ use lk_base::Seq;
 use lk_types::TypeTable;
 
 /// The parts of a program as control points, from which `Points` is made.
-#[derive(Drop)]
 pub struct Program {
     /// Its control points.
     pub points: Seq<Point>,
@@ -29,4 +28,20 @@ pub struct Program {
     pub main: u32,
     /// How many sites there are.
     pub sites: u32,
+}
+
+impl Drop for Program {
+    fn drop(self) {
+        let Program {
+            points: _points,
+            functions: _functions,
+            roots: _roots,
+            types: _types,
+            places: _places,
+            locations: _locations,
+            initials: _initials,
+            main: _main,
+            sites: _sites,
+        } = self;
+    }
 }

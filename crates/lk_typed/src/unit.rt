@@ -46,7 +46,6 @@ pub struct StructTag {
 }
 
 /// A source without a fault.
-#[derive(Drop)]
 pub struct TypedUnit {
     pub types: TypeTable,
     /// The structs of `types` by their numbers.
@@ -57,4 +56,16 @@ pub struct TypedUnit {
     pub objects: Seq<StaticObject>,
     /// The definitions of functions, in the order of the text.
     pub bodies: Seq<Body>,
+}
+
+impl Drop for TypedUnit {
+    fn drop(self) {
+        let TypedUnit {
+            types: _types,
+            structs: _structs,
+            entities: _entities,
+            objects: _objects,
+            bodies: _bodies,
+        } = self;
+    }
 }

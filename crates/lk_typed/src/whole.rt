@@ -6,13 +6,22 @@ use lk_base::{Name, Seq};
 use lk_types::{TypeId, TypeTable};
 
 /// A checked source with what its numbers stand for in the program.
-#[derive(Drop)]
 pub struct Linked {
     pub unit: TypedUnit,
     /// Of each of its types the number in the program's table.
     pub types: Seq<TypeId>,
     /// Of each of its entities the number among the program's.
     pub entities: Seq<u32>,
+}
+
+impl Drop for Linked {
+    fn drop(self) {
+        let Linked {
+            unit: _unit,
+            types: _types,
+            entities: _entities,
+        } = self;
+    }
 }
 
 /// A function or an object of static storage of the program: one for each name of external linkage, and one of each
@@ -29,7 +38,6 @@ pub struct WholeEntity {
 }
 
 /// The program that sources make together.
-#[derive(Drop)]
 pub struct Whole {
     /// The sources, in the order of the command.
     pub sources: Seq<Linked>,
@@ -39,4 +47,15 @@ pub struct Whole {
     pub entities: Seq<WholeEntity>,
     /// The number of the function `main`.
     pub main: u32,
+}
+
+impl Drop for Whole {
+    fn drop(self) {
+        let Whole {
+            sources: _sources,
+            types: _types,
+            entities: _entities,
+            main: _main,
+        } = self;
+    }
 }
