@@ -1,5 +1,5 @@
 -- What the points of a program keep that were made from its typed tree.
-use Rattle.std.specs.Prelude.{◌≡◌, ◌↔◌, ◌<◌, ◌⊎◌, ℕ, suc, Bool, true, false, [], ◌∷◌, List, Option, Some, length, slice_get, ⊤}
+use Rattle.std.specs.Prelude.{◌≡◌, ◌↔◌, ◌<◌, ◌⊎◌, ℕ, suc, Bool, true, false, [], ◌∷◌, List, Option, Some, None, length, slice_get, ⊤}
 use Rattle.lk_base.specs.declared.kind.Kind.TheVariants.{Char}
 use Rattle.lk_facts.specs.InRange.{AllOperands}
 use Rattle.lk_facts.specs.Initials.{IsWritten}
@@ -11,7 +11,7 @@ use Rattle.lk_facts.specs.Reach.{IsNext}
 use Rattle.lk_facts.specs.Typed.{IsForm, HasPartAt, IsRootType, IsHolderType, IsNumberOf, IsTyped, IsFunctionTyped}
 use Rattle.lk_facts.specs.declared.action.Action.{Action}
 use Rattle.lk_facts.specs.declared.action.Action.TheVariants as action
-use Rattle.lk_facts.specs.declared.action.Action.TheVariants.{Func, Skip, Return, Text as OfText}
+use Rattle.lk_facts.specs.declared.action.Action.TheVariants.{Func, Skip, Release, Retake, Return, Text as OfText}
 use Rattle.lk_base.specs.declared.cell.CellStep.{CellStep}
 use Rattle.lk_facts.specs.declared.initial.Initial.{Initial}
 use Rattle.lk_facts.specs.declared.initial.InitialValue.{InitialValue}
@@ -30,6 +30,102 @@ use Rattle.lk_types.specs.declared.c_type.CType.TheVariants.{Array, Cond, Int, M
 pub data Owner : Type 0 where
   point : ℕ → Owner
   function : ℕ → Owner
+
+-- how many successors a point has where it isn't an exit: of a Branch two, of a Switch one a case and one more, of a Create one where it
+-- made a thread and one where it failed; none where the thread ends (C99 6.8; POSIX pthread_create, pthread_exit)
+abbrev pub ways_of : Action → ℕ
+ways_of (action.Branch a) = 2
+ways_of (action.Switch a cases) = suc (length cases)
+ways_of (action.Create f a) = 2
+ways_of action.ExitThread = 0
+ways_of action.ExitProcess = 0
+ways_of (action.Value number ty) = 1
+ways_of (action.Null ty) = 1
+ways_of (action.Func f) = 1
+ways_of action.SelfId = 1
+ways_of (action.Root r) = 1
+ways_of (action.Text r) = 1
+ways_of (action.Field a member) = 1
+ways_of (action.Index a b into) = 1
+ways_of (action.Read a raw) = 1
+ways_of (action.Write a b raw) = 1
+ways_of (action.SlotRead s) = 1
+ways_of (action.SlotWrite s a) = 1
+ways_of (action.Unary op a) = 1
+ways_of (action.Binary op a b) = 1
+ways_of (action.Compute args ty equal) = 1
+ways_of (action.Convert a ty) = 1
+ways_of action.Skip = 1
+ways_of (action.Call f args) = 1
+ways_of (action.PointerCall a args) = 1
+ways_of (action.Return a) = 1
+ways_of (action.StoreId a) = 1
+ways_of (action.Join a) = 1
+ways_of (action.Detach a) = 1
+ways_of (action.Lock a) = 1
+ways_of (action.Unlock a) = 1
+ways_of (action.Release cond mutex) = 1
+ways_of (action.Retake a) = 1
+ways_of (action.Init a) = 1
+ways_of (action.Destroy a) = 1
+ways_of (action.Signal a) = 1
+ways_of (action.Allocate ty count zero root) = 1
+ways_of (action.Free a) = 1
+ways_of (action.Scan a) = 1
+ways_of (action.Fill a place named) = 1
+
+-- the function that an action names: it calls it, starts a thread there, or gives a pointer to it
+abbrev pub named_function : Action → Option ℕ
+named_function (action.Func f) = Some f
+named_function (action.Call f args) = Some f
+named_function (action.Create f a) = Some f
+named_function (action.Value number ty) = None
+named_function (action.Null ty) = None
+named_function action.SelfId = None
+named_function (action.Root r) = None
+named_function (action.Text r) = None
+named_function (action.Field a member) = None
+named_function (action.Index a b into) = None
+named_function (action.Read a raw) = None
+named_function (action.Write a b raw) = None
+named_function (action.SlotRead s) = None
+named_function (action.SlotWrite s a) = None
+named_function (action.Unary op a) = None
+named_function (action.Binary op a b) = None
+named_function (action.Compute args ty equal) = None
+named_function (action.Convert a ty) = None
+named_function (action.Branch a) = None
+named_function (action.Switch a cases) = None
+named_function action.Skip = None
+named_function (action.PointerCall a args) = None
+named_function (action.Return a) = None
+named_function (action.StoreId a) = None
+named_function (action.Join a) = None
+named_function (action.Detach a) = None
+named_function action.ExitThread = None
+named_function action.ExitProcess = None
+named_function (action.Lock a) = None
+named_function (action.Unlock a) = None
+named_function (action.Release cond mutex) = None
+named_function (action.Retake a) = None
+named_function (action.Init a) = None
+named_function (action.Destroy a) = None
+named_function (action.Signal a) = None
+named_function (action.Allocate ty count zero root) = None
+named_function (action.Free a) = None
+named_function (action.Scan a) = None
+named_function (action.Fill a place named) = None
+
+-- a root whose parts are cells: a text's can't be written, and a function has none
+abbrev pub holds_cells : RootKind → Bool
+holds_cells Global = true
+holds_cells Static = true
+holds_cells Local = true
+holds_cells (Heap one) = true
+holds_cells Text = false
+holds_cells Argv = true
+holds_cells Args = true
+holds_cells FunctionRoot = false
 
 module _ (program : Program) where
   abbrev pub IsSite : ℕ → Owner → Type 0
@@ -62,49 +158,6 @@ module _ (program : Program) where
   -- the cell is a part of its object, and may begin with its value
   abbrev pub IsInitial : Initial → Type 0
   IsInitial initial = (t : ℕ) × HasPart initial.root initial.path t × MayBegin t initial.value
-
-  -- how many successors a point has where it isn't an exit: of a Branch two, of a Switch one a case and one more, of a Create one where it
-  -- made a thread and one where it failed; none where the thread ends (C99 6.8; POSIX pthread_create, pthread_exit)
-  abbrev pub ways_of : Action → ℕ
-  ways_of (action.Branch a) = 2
-  ways_of (action.Switch a cases) = suc (length cases)
-  ways_of (action.Create f a) = 2
-  ways_of action.ExitThread = 0
-  ways_of action.ExitProcess = 0
-  ways_of (action.Value number ty) = 1
-  ways_of (action.Null ty) = 1
-  ways_of (action.Func f) = 1
-  ways_of action.SelfId = 1
-  ways_of (action.Root r) = 1
-  ways_of (action.Text r) = 1
-  ways_of (action.Field a member) = 1
-  ways_of (action.Index a b into) = 1
-  ways_of (action.Read a raw) = 1
-  ways_of (action.Write a b raw) = 1
-  ways_of (action.SlotRead s) = 1
-  ways_of (action.SlotWrite s a) = 1
-  ways_of (action.Unary op a) = 1
-  ways_of (action.Binary op a b) = 1
-  ways_of (action.Compute args ty equal) = 1
-  ways_of (action.Convert a ty) = 1
-  ways_of action.Skip = 1
-  ways_of (action.Call f args) = 1
-  ways_of (action.PointerCall a args) = 1
-  ways_of (action.Return a) = 1
-  ways_of (action.StoreId a) = 1
-  ways_of (action.Join a) = 1
-  ways_of (action.Detach a) = 1
-  ways_of (action.Lock a) = 1
-  ways_of (action.Unlock a) = 1
-  ways_of (action.Release cond mutex) = 1
-  ways_of (action.Retake a) = 1
-  ways_of (action.Init a) = 1
-  ways_of (action.Destroy a) = 1
-  ways_of (action.Signal a) = 1
-  ways_of (action.Allocate ty count zero root) = 1
-  ways_of (action.Free a) = 1
-  ways_of (action.Scan a) = 1
-  ways_of (action.Fill a place named) = 1
 
   -- the entry of a function does nothing, stands in it, and is nobody's successor
   pub record IsEntry (f p : ℕ) : Type 0 where
@@ -149,17 +202,6 @@ module _ (program : Program) where
   IsArgument Args t = (char n : ℕ) × IsForm program.types t (Array char n) × IsForm program.types char (Int Char)
   IsArgument FunctionRoot t = ⊤
 
-  -- a root whose parts are cells: a text's can't be written, and a function has none
-  abbrev pub holds_cells : RootKind → Bool
-  holds_cells Global = true
-  holds_cells Static = true
-  holds_cells Local = true
-  holds_cells (Heap one) = true
-  holds_cells Text = false
-  holds_cells Argv = true
-  holds_cells Args = true
-  holds_cells FunctionRoot = false
-
   -- the place is a part of the object of such a root
   pub record IsPartOfObject (place : Place) : Type 0 where
     pub root : Root
@@ -192,6 +234,10 @@ module _ (program : Program) where
     pub returns : (p f e : ℕ) (a : Option ℕ) → action_at program p ≡ Some (Return a) → function_at program p ≡ Some f → exit_of program f ≡ Some e → next_of program p ≡ e ∷ []
     -- each other point of a function has as many successors as its action asks for
     pub ways : (p f : ℕ) (action : Action) → action_at program p ≡ Some action → function_at program p ≡ Some f → f < length program.functions → (IsExitOfOne p → ⊥) → length (next_of program p) ≡ ways_of action
+    -- a wait takes the mutex again that it gave back, before anything else (POSIX pthread_cond_wait)
+    pub waits : (p q cond mutex : ℕ) → action_at program p ≡ Some (Release cond mutex) → IsNext program p q → action_at program q ≡ Some (Retake mutex)
+    -- `main` begins at the start of the program alone: no point calls it, starts a thread there, or takes its address
+    pub mains : (p : ℕ) (action : Action) → action_at program p ≡ Some action → named_function action ≡ Some program.main → ⊥
     -- live is what is reached
     pub live : (p : ℕ) → (live_at program p ≡ true) ↔ IsReached program.points program.functions p
     -- A text's bytes are there, and so is each cell that an initialiser of static storage names. It may begin with its value, and a point writes each pointer.

@@ -163,7 +163,7 @@ module _ (table : Table) (roots : List Root) where
 -- ---- of a program with these types and roots
 
 module _ (program : Program) where
-  kinds : (kind : RootKind) → holds_cells program kind ≡ has_cells kind
+  kinds : (kind : RootKind) → holds_cells kind ≡ has_cells kind
   kinds Global = refl
   kinds Static = refl
   kinds Local = refl

@@ -7,6 +7,7 @@ use Rattle.lk_facts.specs.Lowered.{IsEntry, IsExitOfOne}
 use Rattle.lk_facts.specs.Program.{action_at, function_at, entry_of, exit_of, function_of_kind}
 use Rattle.lk_facts.specs.Reach.{IsNext}
 use Rattle.lk_facts.specs.declared.action.Action.{Action}
+use Rattle.lk_facts.specs.declared.action.Action.TheVariants.{Release}
 use Rattle.lk_facts.specs.declared.point.Point.{Point}
 use Rattle.lk_facts.specs.declared.program.Program.{Program}
 use Rattle.lk_sets.specs.Ids.{has_id}
@@ -58,6 +59,8 @@ module _ (program : Program) where
     entries = is_entry points functions;
     exits = λ f e is. (functions f (exit_function f e is)).exit e is;
     returns = λ p f e a at stands is. ((points p (stands_within p f stands)).goes f stands (exit_function f e is)).returns e a at is;
+    waits = λ p q cond mutex at next. (points p (point_within p (Release cond mutex) at)).waits q cond mutex at next;
+    mains = λ p action at named. (points p (point_within p action at)).mains action at named;
     ways = λ p f action at stands less none.
         let exit = read_at (λ function. function.exit) program.functions f less in
         ((points p (stands_within p f stands)).goes f stands less).ways exit.0 action at exit.1 (λ same. none (f, subst (λ e. exit_of program f ≡ Some e) (sym same) exit.1));
@@ -73,6 +76,8 @@ module _ (program : Program) where
   points_kept keeps p within = record {
     operands = keeps.operands p;
     successors = keeps.successors p;
+    waits = keeps.waits p;
+    mains = keeps.mains p;
     goes = λ f stands less. record {
       entry = λ e is next. (keeps.entries f e is).first p next;
       returns = λ e a at is. keeps.returns p f e a at stands is;

@@ -1,11 +1,11 @@
 -- What is asked of one point, of one function and of one root, so that control goes as `KeepWays` says. Only the private calls of this crate speak of it.
 use Rattle.std.specs.Prelude.{◌≡◌, ◌<◌, ℕ, [], ◌∷◌, Option, Some, length}
 use Rattle.lk_facts.specs.InRange.{AllOperands}
-use Rattle.lk_facts.specs.Lowered.{IsExit, ways_of}
+use Rattle.lk_facts.specs.Lowered.{IsExit, named_function, ways_of}
 use Rattle.lk_facts.specs.Program.{action_at, next_of, function_at, entry_of, exit_of, root_of_function, function_of_root}
 use Rattle.lk_facts.specs.Reach.{IsNext}
 use Rattle.lk_facts.specs.declared.action.Action.{Action}
-use Rattle.lk_facts.specs.declared.action.Action.TheVariants.{Return, Skip}
+use Rattle.lk_facts.specs.declared.action.Action.TheVariants.{Release, Retake, Return, Skip}
 use Rattle.lk_facts.specs.declared.program.Program.{Program}
 
 module _ (program : Program) where
@@ -27,7 +27,15 @@ module _ (program : Program) where
 
   -- unless it is the exit of the function it has as many successors as its action asks for
   abbrev pub HasWays : (f p : ℕ) → Type 0
-  HasWays f p = (e : ℕ) (action : Action) → action_at program p ≡ Some action → exit_of program f ≡ Some e → (p ≡ e → ⊥) → length (next_of program p) ≡ ways_of program action
+  HasWays f p = (e : ℕ) (action : Action) → action_at program p ≡ Some action → exit_of program f ≡ Some e → (p ≡ e → ⊥) → length (next_of program p) ≡ ways_of action
+
+  -- a wait takes the mutex again that it gave back, before anything else (POSIX pthread_cond_wait)
+  abbrev pub Retakes : ℕ → Type 0
+  Retakes p = (q cond mutex : ℕ) → action_at program p ≡ Some (Release cond mutex) → IsNext program p q → action_at program q ≡ Some (Retake mutex)
+
+  -- it doesn't call main, start a thread there, or take its address
+  abbrev pub AvoidsMain : ℕ → Type 0
+  AvoidsMain p = (action : Action) → action_at program p ≡ Some action → named_function action ≡ Some program.main → ⊥
 
   -- from a point of the function
   pub record GoesOn (f p : ℕ) : Type 0 where
@@ -38,6 +46,8 @@ module _ (program : Program) where
   pub record KeepsPoint (p : ℕ) : Type 0 where
     pub operands : HasOwnOperands p
     pub successors : HasOwnSuccessors p
+    pub waits : Retakes p
+    pub mains : AvoidsMain p
     pub goes : (f : ℕ) → function_at program p ≡ Some f → f < length program.functions → GoesOn f p
 
   -- ---- of a function and of a root

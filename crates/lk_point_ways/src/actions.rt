@@ -2,7 +2,6 @@
 ghost use Rattle.std.specs.Prelude.{◌≡◌, ◌↔◌, ℕ, IsTrue, Option};
 ghost use Rattle.lk_facts.specs.Lowered.{ways_of};
 ghost use Rattle.lk_facts.specs.declared.action.Action.TheVariants.{Return, Skip};
-ghost use Rattle.lk_facts.specs.declared.program.Program.{Program};
 
 use lk_facts::Action;
 
@@ -102,7 +101,7 @@ pub(crate) fn is_return(action: &Action) -> bool
 
 /// Whether a point with the action, where it is no exit, has so many successors.
 pub(crate) fn has_ways(action: &Action, ways: usize) -> bool
-    ensures { (program : Program) → IsTrue result ↔ (ways ≡ ways_of program action.now) }
+    ensures { IsTrue result ↔ (ways ≡ ways_of action.now) }
 {
     match action {
         Action::ExitThread | Action::ExitProcess => ways == 0,

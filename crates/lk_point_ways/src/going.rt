@@ -3,7 +3,9 @@ ghost use Rattle.std.specs.Prelude.{◌≡◌, ◌↔◌, ◌<◌, ◌∷◌, []
 ghost use Rattle.lk_point_ways.specs.Kept as kept;
 
 use crate::actions::{has_ways, is_return};
+use crate::naming::avoids_main;
 use crate::standing::{has_own_operands, has_own_successors};
+use crate::waiting::retakes;
 use lk_facts::Points;
 
 /// Whether a point leads nowhere but to one point.
@@ -51,7 +53,7 @@ fn goes_on(points: &Points, function: u32, p: u32) -> bool
         && has_its_ways(points, function, p)
 }
 
-/// Whether control goes on from a point inside its function.
+/// Whether control goes on from a point inside its function, a wait takes its mutex again, and nothing leads to `main`.
 fn keeps_point(points: &Points, p: u32) -> bool
     requires { p < length points.now.points }
     ensures { IsTrue result ↔ kept.KeepsPoint points.now p }
@@ -59,6 +61,8 @@ fn keeps_point(points: &Points, p: u32) -> bool
     let function = points.function(p);
     has_own_operands(points, p)
         && has_own_successors(points, p)
+        && retakes(points, p)
+        && avoids_main(points, p)
         && (function >= points.functions() || goes_on(points, function, p))
 }
 

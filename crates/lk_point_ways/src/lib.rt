@@ -5,6 +5,8 @@ mod actions;
 mod ends;
 mod going;
 mod keep;
+mod naming;
 mod standing;
+mod waiting;
 
 pub use keep::keep_ways;

@@ -7,7 +7,7 @@ pub returns-else-p-exit : goal.returns-else-p-exit
 returns-else-p-exit c =
     let program = c.args.points.now in (
       (λ holds e action at is apart.
-          ap length (sym c.next.ensures.value) ∙ (c.has_ways.ensures program).0 holds ∙ ap (ways_of program) (same_Some _ _ (sym c.action.ensures.value ∙ at))),
+          ap length (sym c.next.ensures.value) ∙ c.has_ways.ensures.0 holds ∙ ap ways_of (same_Some _ _ (sym c.action.ensures.value ∙ at))),
       (λ keeps.
-          (c.has_ways.ensures program).1 (ap length c.next.ensures.value ∙ keeps c.exit.result c.action.result.now c.action.ensures.value c.exit.ensures.value (λ same. c.if-p-exit.false same))),
+          c.has_ways.ensures.1 (ap length c.next.ensures.value ∙ keeps c.exit.result c.action.result.now c.action.ensures.value c.exit.ensures.value (λ same. c.if-p-exit.false same))),
     )
