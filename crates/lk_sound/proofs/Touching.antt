@@ -92,7 +92,7 @@ module _ (program : Program) (labels : LabelTable) (es : List Edge) (ok : IsAnal
       by (Some point) e h = slice_get_within program.points a point e
 
   -- the label of what a point's value points to is the one that the table gives
-  target_number : (a l : ℕ) (y : LabelName) → target program a y → Named l y → target_at labels a ≡ Some l
+  pub target_number : (a l : ℕ) (y : LabelName) → target program a y → Named l y → target_at labels a ≡ Some l
   target_number a l y is named =
       let known = value_point a is.1.ty is.1.has in
       let there = element_at labels.targets a (subst (λ n. a < n) (sym ok.labelled.points) known) in
@@ -105,7 +105,7 @@ module _ (program : Program) (labels : LabelTable) (es : List Edge) (ok : IsAnal
           ap Some (ok.labelled.different k l y (subst (Named k) same at.4) named)
 
   -- the table knows the label of a place for an origin
-  origin_known : (l r : ℕ) (path : List CellStep) (x : LabelName) → Named l x → IsPlaceAt program r path x → is_origin_at labels l ≡ true
+  pub origin_known : (l r : ℕ) (path : List CellStep) (x : LabelName) → Named l x → IsPlaceAt program r path x → is_origin_at labels l ≡ true
   origin_known l r path x named place =
       let entry = element_at labels.entries l (subst (λ n. l < n) ok.few_labels.named (slice_get_within labels.names l x named)) in
       let is : IsOrigin program x = (r, place.ty, place.holder, place.of, place.within) in

@@ -82,7 +82,7 @@ pub record IsAccessSound (program : Program) (labels : LabelTable) (flow : Flow)
   pub location : (n : ℕ) → HasLocation program s cell n → origin ≡ n
   pub all : flow.all label origin ≡ true
 
--- Soundness (i). It is asked of each thread that is about to touch a cell, whether its step is defined or not.
+-- Soundness of cells (LOCKSMITH: label flow). It is asked of each thread that is about to touch a cell, whether its step is defined or not.
 abbrev pub CellsAreSound : Type 0
 CellsAreSound =
     (program : Program) (labels : LabelTable) (es : List Edge) (flow : Flow) → IsAnalysed program labels es → IsClosed es labels flow → (s : State) → Reached program s →

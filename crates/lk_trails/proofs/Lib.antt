@@ -1,0 +1,14 @@
+pub mod Counted
+pub mod Counting
+pub mod Dropping
+pub mod FramesOf
+pub mod Holding
+pub mod ItemsRise
+pub mod Linking
+pub mod Meaning
+pub mod Members
+pub mod Onces
+pub mod Parting
+pub mod Pasts
+pub mod RacesRise
+pub mod Statements
