@@ -1,0 +1,4 @@
+pub mod Owners
+pub mod Safe
+pub mod Soundness
+pub mod Steps
