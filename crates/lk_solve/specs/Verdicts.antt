@@ -4,7 +4,7 @@ use Rattle.lk_facts.specs.Analysis.{AreVerdictsOf}
 use Rattle.lk_facts.specs.EdgeRules.{AreEdges}
 use Rattle.lk_facts.specs.Facts.{basis_of, facts_of}
 use Rattle.lk_facts.specs.LabelRules.{AreLabels}
-use Rattle.lk_facts.specs.Labels.{LabelTable}
+use Rattle.lk_facts.specs.Labels.{LabelTable, AreLabelsInRange}
 use Rattle.lk_facts.specs.Origins.{OriginTable, flow_of}
 use Rattle.lk_facts.specs.PathTables.{IsFlowOf}
 use Rattle.lk_facts.specs.declared.edge.Edge.{Edge}
@@ -25,6 +25,7 @@ pub record HasFlow (program : Program) (labels : LabelTable) (origins : OriginTa
 pub record HasVerdicts (program : Program) (verdicts : List Verdict) : Type 0 where
   pub labels : LabelTable
   pub are_labels : AreLabels program labels
+  pub in_range : AreLabelsInRange labels
   pub origins : OriginTable
   pub flow : HasFlow program labels origins
   pub follow : AreVerdictsOf (basis_of (facts_of program labels origins)) verdicts

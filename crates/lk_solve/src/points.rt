@@ -52,7 +52,7 @@ fn verdicts_by(
 /// The verdict of each location of a program, in their order. Each location and lock place is a node of the program's types.
 ///
 /// `TooManyLabels` comes exactly where the program has more than 65,536 labels, unless memory ends first: where verdicts
-/// are answered, it has no more. `NoMemory` is its other fault.
+/// are answered, it has no more. `NoMemory` is its other fault. Targets of labels are in range, as `count` says of them.
 pub fn verdicts_of(alloc: Global, points: &Points) -> Result<Vec<Verdict>, SolveFault>
     requires { ArePlaceNodes points.now }
     ensures ok { IfOk result (λ found. HasVerdicts points.now found.items) }
@@ -60,6 +60,7 @@ pub fn verdicts_of(alloc: Global, points: &Points) -> Result<Vec<Verdict>, Solve
     ensures few { OnOk result (HasMoreLabels points.now 65536 → ⊥) }
 {
     let labels = labels(alloc, points)?;
+    labels.count();
     let origins = flow(alloc, points, &labels)?;
     let found = verdicts_by(alloc, points, &labels, &origins)?;
     Ok(found)

@@ -19,6 +19,7 @@ use Rattle.lk_join.specs.Program.{IsLinked}
 use Rattle.lk_lex.specs.declared.token.Token.{Token}
 use Rattle.lk_lower_expr.specs.Programs.{IsMadeOf}
 use Rattle.lk_lower_unit.specs.PointNumbers.{HasMorePoints}
+use Rattle.lk_safe.specs.Soundness.{HasNoOtherRaces}
 use Rattle.lk_solve.specs.Verdicts.{HasVerdicts}
 use Rattle.lk_sources.specs.Accepting.{IsAccepted, IsCheckedSource, Refuses, units_of}
 use Rattle.lk_sources.specs.Numbers.{numbered}
@@ -85,8 +86,8 @@ module _ (sources : code.Accepted) (units : List TypedUnit) (typed : AreTyped so
   told_at_main whole code (Unread line) (refusal, is, tells) why = absurd tells
 
   shown : (whole : Whole) → IsLinked units sources.externs.items whole → (points : Points) → (HasMorePoints whole 65536 → ⊥) → IsMadeOf whole points → IsLowered points → (verdicts : List Verdict) → HasVerdicts points verdicts →
-      (HasMoreLabels points 65536 → ⊥) → (answer : Answer) → ShowsVerdicts sources.files points verdicts answer → Analyses sources answer
-  shown whole joined points few made lowered verdicts has few_labels (Report text ends) (text_is, status_is) = (
+      (HasMoreLabels points 65536 → ⊥) → HasNoOtherRaces points verdicts → (answer : Answer) → ShowsVerdicts sources.files points verdicts answer → Analyses sources answer
+  shown whole joined points few made lowered verdicts has few_labels safe (Report text ends) (text_is, status_is) = (
     verdicts,
     record {
       whole = whole;
@@ -96,16 +97,17 @@ module _ (sources : code.Accepted) (units : List TypedUnit) (typed : AreTyped so
       made = made;
       lowered = lowered;
       few_labels = few_labels;
+      safe = safe;
       verdicts_are = has;
       text_is = text_is;
     },
     status_is,
   )
-  shown whole joined points few made lowered verdicts has few_labels (Refusal line) shows = absurd shows
-  shown whole joined points few made lowered verdicts has few_labels (Unread line) shows = absurd shows
+  shown whole joined points few made lowered verdicts has few_labels safe (Refusal line) shows = absurd shows
+  shown whole joined points few made lowered verdicts has few_labels safe (Unread line) shows = absurd shows
 
   of_whole : (whole : Whole) → IsLinked units sources.externs.items whole → (answer : Answer) → JudgesWhole sources.files whole answer → Analyses sources answer
-  of_whole whole joined answer (has_points points few made lowered (judged.shows verdicts has few_labels shows)) = shown whole joined points few made lowered verdicts has few_labels answer shows
+  of_whole whole joined answer (has_points points few made lowered (judged.shows verdicts has few_labels safe shows)) = shown whole joined points few made lowered verdicts has few_labels safe answer shows
   of_whole whole joined answer (has_points points few made lowered (judged.too_many more tells)) =
       told_at_main whole TooManyLabels answer tells (λ refusal is. too_many_labels whole (whole_of whole joined) few (of_points points made lowered more) is)
   of_whole whole joined answer (judged.too_many_points more tells) =

@@ -1,3 +1,4 @@
 pub mod AnswerLemmas
 pub mod OneOutcome
 pub mod RunLemmas
+pub mod SafeReports

@@ -13,6 +13,7 @@ use Rattle.lk_lower_expr.specs.Programs.{IsMadeOf, HasMorePlaces}
 use Rattle.lk_lower_parts.specs.Mains.{spot_of_main}
 use Rattle.lk_lower_unit.specs.PointNumbers.{HasMorePoints}
 use Rattle.lk_report.specs.Report.{report_text}
+use Rattle.lk_safe.specs.Soundness.{HasNoOtherRaces}
 use Rattle.lk_solve.specs.Verdicts.{HasVerdicts}
 use Rattle.lk_sources.specs.declared.accepting.Accepted as code
 use Rattle.lk_sources.specs.Accepting.{units_of}
@@ -45,6 +46,8 @@ pub record IsAnalysed (sources : code.Accepted) (text : List ℕ) (verdicts : Li
   pub lowered : IsLowered points
   pub few_labels : HasMoreLabels points 65536 → ⊥
   pub verdicts_are : HasVerdicts points verdicts
+  -- no state that a run of the program reaches has a race at a location that isn't called suspect
+  pub safe : HasNoOtherRaces points verdicts
   pub text_is : text ≡ report_text sources.files points verdicts
 
 -- a refusal with this code at the name of main in its definition, which tells no name

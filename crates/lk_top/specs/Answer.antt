@@ -15,6 +15,7 @@ use Rattle.lk_join.specs.Program.{IsLinked}
 use Rattle.lk_lower_expr.specs.Programs.{IsMadeOf, HasMorePlaces}
 use Rattle.lk_lower_unit.specs.PointNumbers.{HasMorePoints}
 use Rattle.lk_report.specs.Report.{report_text}
+use Rattle.lk_safe.specs.Soundness.{HasNoOtherRaces}
 use Rattle.lk_solve.specs.Verdicts.{HasVerdicts}
 use Rattle.lk_typed.specs.Env.{Name}
 use Rattle.lk_tree.specs.Numbers.{numbered}
@@ -73,7 +74,7 @@ TypesSource source typed = (externs : List Name) → IsCheckedOf externs source.
 
 -- what points come to: they have their verdicts, or too many labels
 pub data JudgesPoints (files : List (List ℕ)) (whole : Whole) (points : Points) (shown : Answer) : Type 0 where
-  shows : (verdicts : List Verdict) → HasVerdicts points verdicts → (HasMoreLabels points 65536 → ⊥) → ShowsVerdicts files points verdicts shown → JudgesPoints files whole points shown
+  shows : (verdicts : List Verdict) → HasVerdicts points verdicts → (HasMoreLabels points 65536 → ⊥) → HasNoOtherRaces points verdicts → ShowsVerdicts files points verdicts shown → JudgesPoints files whole points shown
   too_many : HasMoreLabels points 65536 → TellsAtMain files whole TooManyLabels shown → JudgesPoints files whole points shown
 
 -- what a program comes to: it has points, or too many of them, or of their places

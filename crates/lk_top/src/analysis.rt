@@ -1,6 +1,7 @@
 //! What accepted sources come to: the program that they make, its points, and what is reported of these.
 ghost use Rattle.std.specs.List.{AllZip};
 ghost use Rattle.std.specs.Prelude.{◌≡◌, [], All, IfOk};
+ghost use Rattle.lk_facts.specs.Lowered.{IsLowered};
 ghost use Rattle.lk_graph.specs.Single.{ArePlaceNodes};
 ghost use Rattle.lk_sources.specs.Accepting.{IsCheckedSource};
 ghost use Rattle.lk_top.specs.Answer.{Analyses, JudgesPoints, JudgesUnits, JudgesWhole, ShowsVerdicts, Tells, TellsAtMain};
@@ -17,6 +18,7 @@ use lk_link::are_sources;
 use lk_lower_parts::{LowerFault, main_spot};
 use lk_lower_unit::lower;
 use lk_report::{are_there, can_be_named, report};
+use lk_safe::verdicts_are_safe;
 use lk_solve::{SolveFault, verdicts_of};
 use lk_sources::{Accepted, AcceptedSource};
 use lk_typed::{TypedUnit, Whole};
@@ -102,16 +104,21 @@ fn told(
     Ok(Answer::Report { text, status })
 }
 
-/// What a program of these points comes to.
+/// What a program of these points comes to. What `count` and `is_table` say of them is asked for soundness: no run has a race at
+/// a location that isn't called suspect.
 fn judge_points(
     alloc: Global,
     files: &Files,
     whole: &Whole,
     points: &Points,
 ) -> Result<Answer, NoMemory>
-    requires { ArePlaceNodes points.now }
+    requires places { ArePlaceNodes points.now }
+    requires lowered { IsLowered points.now }
     ensures { IfOk result (JudgesPoints files.now whole.now points.now) }
 {
+    points.count();
+    points.types().is_table();
+    verdicts_are_safe();
     match verdicts_of(alloc, points) {
         Ok(verdicts) => {
             let answer = told(alloc, files, points, &verdicts)?;

@@ -54,8 +54,9 @@ pub fn run<F: Shelf, S: Sink, E: Sink>(
     out: &mut S,
     err: &mut E,
 ) -> Status
-    // Verdicts: the output has the whole report. It comes only if no count of faults rises. Sources of the subset are
-    // reported, but for want of memory.
+    // Verdicts: the output has the whole report, and no run of the program that the sources make comes to a race at a
+    // location that this doesn't call suspect (`IsAnalysed`). It comes only if no count of faults rises. Sources of the
+    // subset are reported, but for want of memory.
     ensures reports { IsTrue (is_report result) → ForSome (F.held shelf.old) (λ held.
         Reports (map string_bytes words.now) held (sunk S.gone S.faults out.old out.new) result) }
     ensures reports_quietly { IsTrue (is_report result) → (F.faults shelf.new ≡ F.faults shelf.old)

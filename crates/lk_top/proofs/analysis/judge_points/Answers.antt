@@ -1,13 +1,19 @@
 use Rattle.std.proofs.Common.{Err, ap, subst}
 use Rattle.lk_top.specs.Answer.{ShowsVerdicts, shows, too_many}
+use Rattle.lk_top.proofs.SafeReports.{no_other_races}
 use Rattle.lk_top.proofs.analysis.judge_points.Goals as goal
+use Rattle.lk_types.specs.Building.{IsTable}
 
 pub returns-in_ok-answer-in-Ok : goal.returns-in_ok-answer-in-Ok
 returns-in_ok-answer-in-Ok c =
     let files = c.args.files.now in
     let points = c.args.points.now in
+    let verdicts = c.in-Ok.verdicts.items in
     let answer = c.in_ok-answer-in-Ok.answer in
-    shows c.in-Ok.verdicts.items c.in-Ok.ensures.ok c.in-Ok.ensures.few (subst (λ vs. ShowsVerdicts files points vs answer) c.deref.ensures.value c.in_ok-answer-in-Ok.ensures)
+    let table = subst IsTable c.types.ensures c.is_table.ensures in
+    shows verdicts c.in-Ok.ensures.ok c.in-Ok.ensures.few
+    (no_other_races c.verdicts_are_safe.ensures points verdicts c.count.ensures.in_range table c.requires.lowered c.in-Ok.ensures.ok)
+    (subst (λ vs. ShowsVerdicts files points vs answer) c.deref.ensures.value c.in_ok-answer-in-Ok.ensures)
 
 pub returns-in_ok-answer-in-Err-TooManyLabels : goal.returns-in_ok-answer-in-Err-TooManyLabels
 returns-in_ok-answer-in-Err-TooManyLabels c =
