@@ -1,5 +1,7 @@
-//! The answers of steps, as texts.
+//! The answers to the lines of a schedule, as texts.
 
+use crate::analysed::Analysed;
+use crate::race::Race;
 use crate::words::{action_word, cause_word};
 use lk_base::{CellStep, NoMemory, Spot};
 use lk_cells::State;
@@ -27,20 +29,31 @@ fn cell_text(alloc: Global, cell: &Cell) -> Result<String, NoMemory> {
     Ok(text)
 }
 
-/// Appends the cell that a step touched, and its location where it has one.
+/// Appends the cell that a step touched.
 fn push_touched(
     alloc: Global,
     text: &mut String,
     cell: &Cell,
     writes: bool,
-    location: Option<u32>,
 ) -> Result<(), NoMemory> {
     let cell = cell_text(alloc, cell)?;
     text.push_str(if writes { " writes " } else { " reads " })?;
     text.push_str(cell.as_str())?;
-    if let Some(number) = location {
-        let place = format!(in alloc; " at {number}")?;
-        text.push_str(place.as_str())?;
+    Ok(())
+}
+
+/// Appends the location of the cell that the step of a point touched, and a word where the analysis doesn't foresee that.
+fn push_location(
+    alloc: Global,
+    text: &mut String,
+    program: &Analysed,
+    point: u32,
+    location: u32,
+) -> Result<(), NoMemory> {
+    let place = format!(in alloc; " at {location}")?;
+    text.push_str(place.as_str())?;
+    if !program.foresees(point, location) {
+        text.push_str(" unforeseen")?;
     }
     Ok(())
 }
@@ -59,34 +72,32 @@ fn point_text(alloc: Global, points: &Points, point: u32) -> Result<String, NoMe
 /// What a thread did that moved, where the cell that it touched was written or read.
 fn moved_text(
     alloc: Global,
-    points: &Points,
+    program: &Analysed,
     state: &State,
     event: &Event,
     writes: bool,
 ) -> Result<String, NoMemory> {
-    let mut text = point_text(alloc, points, event.point)?;
-    if let Some(cell) = &event.touched {
-        push_touched(
-            alloc,
-            &mut text,
-            cell,
-            writes,
-            location(points, state, cell),
-        )?;
+    let mut text = point_text(alloc, &program.points, event.point)?;
+    let Some(cell) = &event.touched else {
+        return Ok(text);
+    };
+    push_touched(alloc, &mut text, cell, writes)?;
+    if let Some(number) = location(&program.points, state, cell) {
+        push_location(alloc, &mut text, program, event.point, number)?;
     }
     Ok(text)
 }
 
 /// What came of a step, where the cell that it touched was written or read.
-pub(crate) fn answer_of(
+pub(crate) fn step_text(
     alloc: Global,
-    points: &Points,
+    program: &Analysed,
     stepped: &Stepped,
     writes: bool,
 ) -> Result<String, NoMemory> {
     let word = match stepped {
         Stepped::Moved(state, event) => {
-            let text = moved_text(alloc, points, state, event, writes)?;
+            let text = moved_text(alloc, program, state, event, writes)?;
             return Ok(text);
         }
         Stepped::Undefined(_, why) => cause_word(*why),
@@ -97,5 +108,15 @@ pub(crate) fn answer_of(
         Stepped::NoMemory(_) => "no memory",
     };
     let text = String::from_str(alloc, word)?;
+    Ok(text)
+}
+
+/// Whether two threads race, and where.
+pub(crate) fn race_text(alloc: Global, race: Race) -> Result<String, NoMemory> {
+    let text = match race {
+        Race::Absent => String::from_str(alloc, "none")?,
+        Race::At(location) => format!(in alloc; "at {location}")?,
+        Race::WithoutLocation => String::from_str(alloc, "without a location")?,
+    };
     Ok(text)
 }

@@ -1,6 +1,9 @@
 //! The steps of a trace.
 
-use crate::answer::answer_of;
+use crate::analysed::{Analysed, analyse};
+use crate::answer::{race_text, step_text};
+use crate::race::race_of;
+use crate::schedule::{Asked, parse_line};
 use crate::source::points_of;
 use anyhow::{Context, Result};
 use lk_base::{NoMemory, Seq};
@@ -9,32 +12,13 @@ use lk_cases::is_case;
 use lk_cells::State;
 use lk_facts::Points;
 use lk_meaning::{Stepped, touch};
-use lk_sound::step;
+use lk_safe::step;
 use std::alloc::Global;
 use std::rt::Files;
 use std::{fs, mem};
 
 /// How many objects and threads a state of a trace has at most.
 const MOST: usize = 1000;
-
-/// A step of a schedule, and the answer that is expected.
-#[derive(Clone, Copy)]
-struct Planned<'a> {
-    thread: u32,
-    word: u64,
-    answer: &'a str,
-}
-
-/// Reads a step of a schedule.
-fn parse_step(line: &str) -> Result<Planned<'_>> {
-    let (thread, behind) = line.split_once(' ').context("a step without a word")?;
-    let (word, answer) = behind.split_once(' ').context("a step without an answer")?;
-    Ok(Planned {
-        thread: thread.parse()?,
-        word: word.parse()?,
-        answer,
-    })
-}
 
 /// A state without objects and threads.
 fn nothing(alloc: Global) -> State {
@@ -67,31 +51,48 @@ fn will_write(points: &Points, state: &State, thread: u32) -> Result<bool, NoMem
 /// Performs a step, and answers what comes of it.
 fn advance(
     alloc: Global,
-    points: &Points,
+    program: &Analysed,
     state: &mut State,
-    planned: Planned<'_>,
+    thread: u32,
+    word: u64,
 ) -> Result<String, NoMemory> {
     if state.objects.len() > MOST || state.threads.len() > MOST {
         return Err(NoMemory);
     }
-    let writes = will_write(points, state, planned.thread)?;
+    let writes = will_write(&program.points, state, thread)?;
     let now = mem::replace(state, nothing(alloc));
-    let stepped = step(alloc, points, now, planned.thread, planned.word);
-    let answer = answer_of(alloc, points, &stepped, writes)?;
+    let stepped = step(alloc, &program.points, now, thread, word);
+    let answer = step_text(alloc, program, &stepped, writes)?;
     *state = left(stepped);
     Ok(answer)
 }
 
-/// Performs the step of a line of a schedule, and prints its answer where that isn't the one expected.
+/// The answer to a line of a schedule, which performs its step where it asks for one.
+fn answer_to(
+    alloc: Global,
+    program: &Analysed,
+    state: &mut State,
+    asked: Asked,
+) -> Result<String, NoMemory> {
+    match asked {
+        Asked::Step { thread, word } => advance(alloc, program, state, thread, word),
+        Asked::Race(first, second) => {
+            let race = race_of(&program.points, state, first, second)?;
+            race_text(alloc, race)
+        }
+    }
+}
+
+/// Answers a line of a schedule, and prints the answer where that isn't the one expected.
 fn comes_so<R: AllocGlobal + Print>(
     rt: &R,
     name: &str,
-    points: &Points,
+    program: &Analysed,
     state: &mut State,
     line: &str,
 ) -> Result<bool> {
-    let planned = parse_step(line).context(format_args!("the step {line:?}"))?;
-    let answer = advance(rt.alloc(), points, state, planned)?;
+    let planned = parse_line(line).context(format_args!("the line {line:?}"))?;
+    let answer = answer_to(rt.alloc(), program, state, planned.asked)?;
     let same = answer.as_str() == planned.answer;
     if !same {
         println!(rt; "{name}: {line}: {answer}")?;
@@ -99,17 +100,17 @@ fn comes_so<R: AllocGlobal + Print>(
     Ok(same)
 }
 
-/// Performs the steps of a schedule, and answers whether each comes as expected.
+/// Answers the lines of a schedule, and tells whether each answer is the one expected.
 fn come_so<R: AllocGlobal + Print>(
     rt: &R,
     name: &str,
-    points: &Points,
+    program: &Analysed,
     state: &mut State,
     steps: &str,
 ) -> Result<bool> {
     let mut all = true;
     for line in steps.lines().filter(|line| is_case(line)) {
-        let same = comes_so(rt, name, points, state, line)?;
+        let same = comes_so(rt, name, program, state, line)?;
         all = all && same;
     }
     Ok(all)
@@ -124,9 +125,10 @@ pub(crate) fn run_trace<R: Files + AllocGlobal + Print>(
     let alloc = rt.alloc();
     let source = format!(in alloc; "{name}.c")?;
     let points = points_of(rt, source.as_str())?.context("no program")?;
+    let program = analyse(alloc, points)?.context("no labels")?;
     let steps = fs::read_to_string(rt, format!(in alloc; "{name}.steps")?.as_str())?;
-    let mut state = first_state(alloc, &points, args)?;
-    come_so(rt, name, &points, &mut state, steps.as_str())
+    let mut state = first_state(alloc, &program.points, args)?;
+    come_so(rt, name, &program, &mut state, steps.as_str())
 }
 
 /// The first state, where main has these arguments.
