@@ -39,7 +39,7 @@ use Rattle.lk_trails.specs.Trails.{Left, Trail, HasCreation, IsBirth, whole}
 use Rattle.lk_trails.specs.Trails.HasCreation.{here as created_here, beyond}
 use Rattle.lk_trails.specs.Trails.IsBirth.{first as first_birth, later as later_birth}
 use Rattle.lk_values.specs.declared.cell.Cell.{Cell}
-use Rattle.lk_trails.proofs.Statements.{Accessing, IsRacingItem, RacingItemsRise}
+use Rattle.lk_trails.proofs.Statements.{Accessing, IsRacingItem, RacesRise}
 
 -- ---- whole trails
 
@@ -63,10 +63,6 @@ module _ (basis : Basis) (es : List Edge) (tables : Tables) (owned : Owned basis
 
   whole_held : (born : List Left) (own : Trail) → IsBirth born → AreHeld basis es tables.held owned own → AreHeld basis es tables.held owned (whole born own)
   whole_held born own birth is = record { at = is.at; kept = birth_kept birth own.left is.kept }
-
--- racing items rise along trails of a program that was lowered
-abbrev pub ItemsRise : Type 1
-ItemsRise = (basis : Basis) → IsLowered basis.program → (es : List Edge) (tables : Tables) → RacingItemsRise basis es tables
 
 module _ (basis : Basis) (es : List Edge) (follows : IsFollowed basis es) (tables : Tables) (contexts : Contexts) (s : State) (sound : IsSound basis.program basis.labels es contexts s)
     (safe : IsSafe basis es tables.held contexts s) where
@@ -157,7 +153,7 @@ module _ (basis : Basis) (es : List Edge) (follows : IsFollowed basis es) (table
     one_writes true b h = inl refl
     one_writes false b h = inr h
 
-    both : ItemsRise → AreClosedTables basis tables → (race : Race basis.program s at) → HasLocation basis.program s at o → IsFound basis tables s race.first o × IsFound basis tables s race.second o
+    both : RacesRise → AreClosedTables basis tables → (race : Race basis.program s at) → HasLocation basis.program s at o → IsFound basis tables s race.first o × IsFound basis tables s race.second o
     both rise closed race location =
         let one = side race.first race.first_writes race.first_touches in
         let two = side race.second race.second_writes race.second_touches in
@@ -175,7 +171,7 @@ module _ (basis : Basis) (es : List Edge) (follows : IsFollowed basis es) (table
         (is_location basis es ok contexts s sound at o location) one.is_origin one.accessing two.accessing past writes in
         (found race.first race.first_writes one items.0, found race.second race.second_writes two items.1)
 
-pub races_are_found : ReachedIsSafe → ItemsRise → RacesAreFound
+pub races_are_found : ReachedIsSafe → RacesRise → RacesAreFound
 races_are_found reach rise basis es follows tables closed s reached at race o location =
     let found = reach basis es follows tables.held closed.lock_sets s reached in
     let touched : Touched = record { cell = at; writes = race.first_writes } in

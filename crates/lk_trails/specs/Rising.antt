@@ -1,4 +1,4 @@
--- What the rules close, and what rises along trails: the items of accesses, and the racing items of two that have parted.
+-- The tables of an analysis after its flow, and that they are closed under the rules: lock sets, items and racing items.
 use Rattle.std.specs.Prelude.{◌≡◌, ℕ, Bool, true}
 use Rattle.lk_facts.specs.Analysis.{held_table}
 use Rattle.lk_facts.specs.Basis.{Basis}
