@@ -2,6 +2,7 @@
 use Rattle.std.proofs.Common.{ℕ, ◌≡◌, ◌<◌, List, [], ◌++◌, length, take, drop, Option, None, Some, refl, sym, ap, ◌∙◌, append_assoc, append-nil, arith, length-append, subst}
 use Rattle.std.proofs.lemmas.List.{take-append-drop}
 use Rattle.std.proofs.Math.Seq.{take-append_seam}
+use Rattle.std.specs.Io.KnownBytes.{Appends, Keeps}
 use Rattle.lk_io.specs.Sink.{Takes, TakesPart}
 
 -- the front of the bytes went and the rest is left
@@ -45,3 +46,10 @@ Went-part {before} {now} {next} {bytes} {rest} went same some = record {
   short = omega (arith, ap length went.whole, length-append went.front rest);
   taken = rw same (subst (Takes before now) (sym (ap (take (length went.front)) went.whole ∙ take-append_seam went.front rest)) went.taken);
 }
+
+-- a stream took bytes, and kept what it held then
+pub appends_kept : (a b c : Option (List ℕ)) (bs : List ℕ) → Appends a b bs → Keeps b c → Appends a c bs
+appends_kept None b c bs p q = tt
+appends_kept (Some x) None c bs p q = absurd p
+appends_kept (Some x) (Some y) None bs p q = absurd q
+appends_kept (Some x) (Some y) (Some z) bs p q = q ∙ p
