@@ -1,9 +1,11 @@
 //! What the points of static initialisers point to (C99 6.6, 9), read back from a point to the object.
-ghost use Rattle.std.specs.Prelude.{◌≡◌, ◌<◌, ℕ, IfSome, length, neg_ℤ, true};
-ghost use Rattle.lk_facts.specs.Initials.{GivesAddress, GivesFunction, IsNumber};
+ghost use Rattle.std.specs.Prelude.{◌≡◌, ◌↔◌, ◌<◌, ℕ, ℤ, IfSome, IsTrue, MatchOption, Some, length};
+ghost use Rattle.lk_facts.specs.InRange.{IsInRange};
+ghost use Rattle.lk_facts.specs.Initials.{GivesFunction, IsNumber};
 ghost use Rattle.lk_facts.specs.declared.action.Action.TheVariants.{Binary, Index};
 ghost use Rattle.lk_point_statics.specs.Asking.{IsAskedFor};
-ghost use Rattle.lk_point_statics.specs.Backwards.{Leads, Meets};
+ghost use Rattle.lk_point_statics.specs.Backwards.{Leads, Meets, MeetsAlone, NoneLeads};
+ghost use Rattle.lk_point_statics.specs.Near.{GivesNear};
 
 use crate::wanted::Wanted;
 use lk_arith::Op;
@@ -13,7 +15,8 @@ use lk_facts::{Action, Points};
 /// The number that a point gives, where it gives one.
 fn number_at(points: &Points, p: u32) -> Option<i128>
     requires { p < length points.now.points }
-    ensures { IfSome result (IsNumber points.now p) }
+    ensures number { IfSome result (IsNumber points.now p) }
+    ensures only { (n : ℤ) → IsNumber points.now p n → result ≡ Some n }
 {
     if let Action::Value { number, .. } = points.action(p) {
         Some(*number)
@@ -25,28 +28,27 @@ fn number_at(points: &Points, p: u32) -> Option<i128>
 /// The pointer that an Index moves by what the point `b` gives, or to whose element of that index it leads.
 fn before_index<'a>(points: &Points, wanted: &Wanted<'a>, b: u32, into: bool) -> Option<Wanted<'a>>
     requires { b < length points.now.points }
-    ensures { IfSome result (λ from. (a : ℕ) → Leads points.now (Index a b into) a from wanted.now) }
+    ensures { MatchOption result ((a : ℕ) → NoneLeads points.now (Index a b into) wanted.now)
+        (λ from. (a : ℕ) → Leads points.now (Index a b into) a from wanted.now) }
 {
     let number = number_at(points, b)?;
     if into {
         wanted.before_element(number)
     } else {
-        wanted.before_move(number)
+        wanted.before_move(number, false)
     }
 }
 
 /// The pointer to which a Binary adds what the point `b` gives, or from which it subtracts that.
 fn before_sum<'a>(points: &Points, wanted: &Wanted<'a>, op: Op, b: u32) -> Option<Wanted<'a>>
     requires { b < length points.now.points }
-    ensures { IfSome result (λ from. (a : ℕ) → Leads points.now (Binary op a b) a from wanted.now) }
+    ensures { MatchOption result ((a : ℕ) → NoneLeads points.now (Binary op a b) wanted.now)
+        (λ from. (a : ℕ) → Leads points.now (Binary op a b) a from wanted.now) }
 {
     let number = number_at(points, b)?;
     match op {
-        Op::Add => wanted.before_move(number),
-        Op::Subtract => {
-            let back = negated(number)?;
-            wanted.before_move(back)
-        }
+        Op::Add => wanted.before_move(number, false),
+        Op::Subtract => wanted.before_move(number, true),
         Op::Multiply
         | Op::Divide
         | Op::Remainder
@@ -64,13 +66,6 @@ fn before_sum<'a>(points: &Points, wanted: &Wanted<'a>, op: Op, b: u32) -> Optio
     }
 }
 
-/// A number with the other sign, where there is one.
-fn negated(number: i128) -> Option<i128>
-    ensures { IfSome result (λ back. back ≡ neg_ℤ number) }
-{
-    number.checked_neg()
-}
-
 /// A point, and the pointer that it is asked to give.
 #[derive(Clone, Copy)]
 struct Asked<'a> {
@@ -84,7 +79,7 @@ impl<'a> Asked<'a> {
     /// Whether the point gives the pointer by itself: to the object of a root.
     fn is_met(&self, points: &Points) -> bool
         requires { self.now.point < length points.now.points }
-        ensures { result ≡ true → Meets points.now self.now.wanted self.now.point }
+        ensures { IsTrue result ↔ MeetsAlone points.now self.now.wanted self.now.point }
     {
         let action = points.action(self.point);
         if let Action::Root(root) = action {
@@ -99,7 +94,8 @@ impl<'a> Asked<'a> {
     /// What the operand of the point is asked to give, so that the point gives the pointer.
     fn operand(&self, points: &Points) -> Option<Asked<'a>>
         requires { self.now.point < length points.now.points }
-        ensures { IfSome result (IsAskedFor points.now self.now) }
+        ensures { MatchOption result (Meets points.now self.now.wanted self.now.point
+            → MeetsAlone points.now self.now.wanted self.now.point) (IsAskedFor points.now self.now) }
     {
         let action = points.action(self.point);
         if let Action::Convert { a, .. } = action {
@@ -110,12 +106,18 @@ impl<'a> Asked<'a> {
             return Some(Asked { point: *a, wanted });
         }
         if let Action::Index { a, b, into } = action {
-            let wanted = before_index(points, &self.wanted, *b, *into)?;
-            return Some(Asked { point: *a, wanted });
+            let moved = before_index(points, &self.wanted, *b, *into)?;
+            return Some(Asked {
+                point: *a,
+                wanted: moved,
+            });
         }
         if let Action::Binary { op, a, b } = action {
-            let wanted = before_sum(points, &self.wanted, *op, *b)?;
-            return Some(Asked { point: *a, wanted });
+            let summed = before_sum(points, &self.wanted, *op, *b)?;
+            return Some(Asked {
+                point: *a,
+                wanted: summed,
+            });
         }
         None
     }
@@ -130,7 +132,7 @@ pub(crate) fn gives_address(
     past: bool,
 ) -> bool
     requires { p < length points.now.points }
-    ensures { result ≡ true → GivesAddress points.now p root path.now past }
+    ensures { IsTrue result ↔ GivesNear points.now p root path.now past }
 {
     let mut asked = Asked {
         point: p,
@@ -151,7 +153,7 @@ pub(crate) fn gives_address(
 /// Whether a point gives the pointer to a function.
 pub(crate) fn gives_function(points: &Points, p: u32, f: u32) -> bool
     requires { p < length points.now.points }
-    ensures { result ≡ true → GivesFunction points.now p f }
+    ensures { IsTrue result ↔ GivesFunction points.now p f }
 {
     let mut point = p;
     for _turn in 0..points.count() {

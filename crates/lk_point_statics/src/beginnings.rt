@@ -1,5 +1,5 @@
 //! What cells begin with, by their types.
-ghost use Rattle.std.specs.Prelude.{◌≡◌, ◌<◌, ◌⊎◌, ℕ, IfSome, length, true};
+ghost use Rattle.std.specs.Prelude.{◌≡◌, ◌↔◌, ◌<◌, ◌⊎◌, ℕ, IfSome, IsTrue, Some, length};
 ghost use Rattle.lk_facts.specs.InRange.{IsInitialInRange, IsInitialValueInRange, sizes_of};
 ghost use Rattle.lk_facts.specs.Lowered.{IsInitial, MayBegin};
 ghost use Rattle.lk_facts.specs.Program.{root_of_function};
@@ -16,7 +16,7 @@ use lk_types::{CType, TypeId, TypeTable};
 /// Whether a type is of integers, and the number one of its values.
 fn is_number_of(points: &Points, number: i128, t: TypeId) -> bool
     requires { IsKnown points.now.types t }
-    ensures { result ≡ true → IsNumberOf points.now number t }
+    ensures { IsTrue result ↔ IsNumberOf points.now number t }
 {
     if let CType::Int(kind) = points.types().get(t) {
         is_value(*kind, number)
@@ -29,6 +29,7 @@ fn is_number_of(points: &Points, number: i128, t: TypeId) -> bool
 fn target_of(types: &TypeTable, t: TypeId) -> Option<TypeId>
     requires { IsKnown types.now t }
     ensures target { IfSome result (λ u. IsForm types.now t (Pointer u)) }
+    ensures only { (u : ℕ) → IsForm types.now t (Pointer u) → result ≡ Some u }
     ensures known { IfSome result (IsKnown types.now) }
 {
     if let CType::Pointer(target) = types.get(t) {
@@ -42,8 +43,8 @@ fn target_of(types: &TypeTable, t: TypeId) -> Option<TypeId>
 fn is_type_of(points: &Points, function: u32, t: TypeId) -> bool
     requires known { IsKnown points.now.types t }
     requires function { function < length points.now.functions }
-    ensures { result ≡ true → (form : ℕ) × ((r : ℕ) × (root_of_function points.now function ≡ Some r)
-        × IsRootType points.now r form) × IsAlike points.now.types.types t form }
+    ensures { IsTrue result ↔ ((form : ℕ) × ((r : ℕ) × (root_of_function points.now function ≡ Some r)
+        × IsRootType points.now r form) × IsAlike points.now.types.types t form) }
 {
     let form = points.root(points.function_root(function)).ty;
     points.types().are_alike(t, form)
@@ -52,7 +53,7 @@ fn is_type_of(points: &Points, function: u32, t: TypeId) -> bool
 /// Whether a type is that of mutexes or of condition variables.
 fn is_ready_made(types: &TypeTable, t: TypeId) -> bool
     requires { IsKnown types.now t }
-    ensures { result ≡ true → IsForm types.now t Mutex ⊎ IsForm types.now t Cond }
+    ensures { IsTrue result ↔ (IsForm types.now t Mutex ⊎ IsForm types.now t Cond) }
 {
     matches!(types.get(t), CType::Mutex | CType::Cond)
 }
@@ -61,7 +62,7 @@ fn is_ready_made(types: &TypeTable, t: TypeId) -> bool
 fn may_begin(points: &Points, t: TypeId, value: &InitialValue) -> bool
     requires known { IsKnown points.now.types t }
     requires in_range { IsInitialValueInRange (sizes_of points.now) value.now }
-    ensures { result ≡ true → MayBegin points.now t value.now }
+    ensures { IsTrue result ↔ MayBegin points.now t value.now }
 {
     if let InitialValue::Number(number) = value {
         return is_number_of(points, *number, t);
@@ -82,10 +83,10 @@ fn may_begin(points: &Points, t: TypeId, value: &InitialValue) -> bool
 /// Whether a cell that an initialiser names is a part of its object, and may begin with its value.
 pub(crate) fn is_initial(points: &Points, initial: &Initial) -> bool
     requires { IsInitialInRange (sizes_of points.now) initial.now }
-    ensures { result ≡ true → IsInitial points.now initial.now }
+    ensures { IsTrue result ↔ IsInitial points.now initial.now }
 {
-    let Some(t) = part_of(points, initial.root, initial.path.list()) else {
-        return false;
-    };
-    may_begin(points, t, &initial.value)
+    match part_of(points, initial.root, initial.path.list()) {
+        Some(t) => may_begin(points, t, &initial.value),
+        None => false,
+    }
 }

@@ -1,5 +1,5 @@
 //! The parts of objects, by their types.
-ghost use Rattle.std.specs.Prelude.{◌<◌, IfSome, length};
+ghost use Rattle.std.specs.Prelude.{◌≡◌, ◌<◌, ℕ, IfSome, Some, length};
 ghost use Rattle.lk_facts.specs.Lowered.{HasPart};
 ghost use Rattle.lk_facts.specs.Typed.{HasPartAt};
 ghost use Rattle.lk_types.specs.Table.{IsKnown};
@@ -13,6 +13,7 @@ use lk_types::{CType, TypeId, TypeTable};
 fn part_at(types: &TypeTable, t: TypeId, step: &CellStep) -> Option<TypeId>
     requires { IsKnown types.now t }
     ensures leads { IfSome result (LeadsTo types.now t step.now) }
+    ensures only { (u : ℕ) → LeadsTo types.now t step.now u → result ≡ Some u }
     ensures known { IfSome result (IsKnown types.now) }
 {
     match (types.get(t), step) {
@@ -43,6 +44,7 @@ fn part_at(types: &TypeTable, t: TypeId, step: &CellStep) -> Option<TypeId>
 fn part_along(types: &TypeTable, t: TypeId, path: &[CellStep]) -> Option<TypeId>
     requires { IsKnown types.now t }
     ensures part { IfSome result (HasPartAt types.now t path.now) }
+    ensures only { (u : ℕ) → HasPartAt types.now t path.now u → result ≡ Some u }
     ensures known { IfSome result (IsKnown types.now) }
 {
     let mut reached = t;
@@ -59,6 +61,7 @@ fn part_along(types: &TypeTable, t: TypeId, path: &[CellStep]) -> Option<TypeId>
 pub(crate) fn part_of(points: &Points, root: u32, path: &[CellStep]) -> Option<TypeId>
     requires { root < length points.now.roots }
     ensures part { IfSome result (HasPart points.now root path.now) }
+    ensures only { (u : ℕ) → HasPart points.now root path.now u → result ≡ Some u }
     ensures known { IfSome result (IsKnown points.now.types) }
 {
     part_along(points.types(), points.root(root).ty, path)

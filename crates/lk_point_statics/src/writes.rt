@@ -1,7 +1,8 @@
 //! The points of no function that write the pointers with which cells of static storage begin (C99 6.7.8, 4).
-ghost use Rattle.std.specs.Prelude.{◌≡◌, ◌<◌, ◌≤◌, All, IfOk, IfSome, OnOk, length, true};
+ghost use Rattle.std.specs.Prelude.{◌≡◌, ◌↔◌, ◌<◌, ◌≤◌, ◌+◌, IfOk, IfSome, IsTrue, MatchOption, OnOk, Some, length};
 ghost use Rattle.lk_facts.specs.InRange.{IsInRange};
-ghost use Rattle.lk_point_statics.specs.Writing.{AreWritten, GivesValue, IsBegun, IsStaticWrite, needs_write as needs};
+ghost use Rattle.lk_point_statics.specs.Writing.{AreStaticWrites, AreWritesBefore, AreWritten, Begins, BeginsAt, GivesValue, IsBegun, IsStaticWrite, NoneBegins, WritesAt, needs_write as needs};
+ghost use Rattle.lk_point_statics.specs.declared.writes.StaticWrite.{StaticWrite as Write};
 
 use crate::addresses::{gives_address, gives_function};
 use lk_base::NoMemory;
@@ -20,7 +21,8 @@ pub(crate) struct StaticWrite {
 /// What a point writes, where it is one of no function.
 fn write_at(points: &Points, p: u32) -> Option<StaticWrite>
     requires { p < length points.now.points }
-    ensures { IfSome result (IsStaticWrite points.now) }
+    ensures is { IfSome result (IsStaticWrite points.now) }
+    ensures only { (write : Write) → WritesAt points.now p write → result ≡ Some write }
 {
     if points.function(p) != points.functions() {
         return None;
@@ -37,16 +39,29 @@ fn write_at(points: &Points, p: u32) -> Option<StaticWrite>
     })
 }
 
+/// Puts what a point of no function writes behind what those before it write.
+fn push_write(points: &Points, p: u32, writes: &mut Vec<StaticWrite>) -> Result<(), NoMemory>
+    requires p { p < length points.now.points }
+    requires writes { AreWritesBefore points.now p writes.old.items }
+    ensures { OnOk result (AreWritesBefore points.now (p + 1) writes.new.items) }
+{
+    match write_at(points, p) {
+        Some(write) => {
+            writes.push(write)?;
+            Ok(())
+        }
+        None => Ok(()),
+    }
+}
+
 /// What the points of no function write, in their order.
 pub(crate) fn static_writes(alloc: Global, points: &Points) -> Result<Vec<StaticWrite>, NoMemory>
-    ensures writes { IfOk result (λ writes. All (IsStaticWrite points.now) writes.items) }
+    ensures writes { IfOk result (λ writes. AreStaticWrites points.now writes.items) }
     ensures in_range { OnOk result (IsInRange points.now) }
 {
     let mut writes = Vec::new(alloc);
     for p in 0..points.count() {
-        if let Some(write) = write_at(points, p) {
-            writes.push(write)?;
-        }
+        push_write(points, p, &mut writes)?;
     }
     Ok(writes)
 }
@@ -54,7 +69,7 @@ pub(crate) fn static_writes(alloc: Global, points: &Points) -> Result<Vec<Static
 /// Whether a point gives the pointer with which a cell begins. It need not for another value.
 fn gives_value(points: &Points, p: u32, value: &InitialValue) -> bool
     requires { p < length points.now.points }
-    ensures { result ≡ true → GivesValue points.now p value.now }
+    ensures { IsTrue result ↔ GivesValue points.now p value.now }
 {
     match value {
         InitialValue::Number(_) | InitialValue::Null | InitialValue::Ready => true,
@@ -67,10 +82,9 @@ fn gives_value(points: &Points, p: u32, value: &InitialValue) -> bool
 
 impl StaticWrite {
     /// Whether it writes the pointer with which a cell begins.
-    #[tactic(auto, using(crate::proofs::Beginning::written_by))]
     fn begins(self, points: &Points, initial: &Initial) -> bool
         requires { IsStaticWrite points.now self }
-        ensures { result ≡ true → IsBegun points.now initial.now }
+        ensures { IsTrue result ↔ Begins points.now initial.now self }
     {
         gives_address(
             points,
@@ -82,6 +96,16 @@ impl StaticWrite {
     }
 }
 
+/// Whether the write at a place writes the pointer with which a cell begins.
+fn begins_at(points: &Points, writes: &[StaticWrite], place: usize, initial: &Initial) -> bool
+    requires writes { AreStaticWrites points.now writes.now }
+    requires place { place < length writes.now }
+    ensures { IsTrue result ↔ BeginsAt points.now initial.now writes.now place }
+{
+    let write = writes[place];
+    write.begins(points, initial)
+}
+
 /// The place of a write among those from one place up to another that writes the pointer with which a cell begins.
 fn write_among(
     points: &Points,
@@ -90,13 +114,14 @@ fn write_among(
     end: usize,
     initial: &Initial,
 ) -> Option<usize>
-    requires writes { All (IsStaticWrite points.now) writes.now }
+    requires writes { AreStaticWrites points.now writes.now }
     requires end { end ≤ length writes.now }
     ensures within { IfSome result (λ place. place < length writes.now) }
-    ensures begun { IfSome result (λ _. IsBegun points.now initial.now) }
+    ensures begun { MatchOption result (NoneBegins points.now initial.now writes.now first end)
+        (λ _. IsBegun points.now initial.now) }
 {
     for place in first..end {
-        if writes[place].begins(points, initial) {
+        if begins_at(points, writes, place, initial) {
             return Some(place);
         }
     }
@@ -110,10 +135,11 @@ fn write_of(
     from: usize,
     initial: &Initial,
 ) -> Option<usize>
-    requires writes { All (IsStaticWrite points.now) writes.now }
+    requires writes { AreStaticWrites points.now writes.now }
     requires from { from ≤ length writes.now }
     ensures within { IfSome result (λ place. place < length writes.now) }
-    ensures begun { IfSome result (λ _. IsBegun points.now initial.now) }
+    ensures begun { MatchOption result (NoneBegins points.now initial.now writes.now 0 (length writes.now))
+        (λ _. IsBegun points.now initial.now) }
 {
     match write_among(points, writes, from, writes.len(), initial) {
         Some(place) => Some(place),
@@ -139,10 +165,10 @@ fn after_write(
     from: usize,
     initial: &Initial,
 ) -> Option<usize>
-    requires writes { All (IsStaticWrite points.now) writes.now }
+    requires writes { AreStaticWrites points.now writes.now }
     requires from { from ≤ length writes.now }
     ensures within { IfSome result (λ place. place ≤ length writes.now) }
-    ensures begun { IfSome result (λ _. IsBegun points.now initial.now) }
+    ensures begun { MatchOption result (IsBegun points.now initial.now → ⊥) (λ _. IsBegun points.now initial.now) }
 {
     if !needs_write(&initial.value) {
         return Some(from);
@@ -154,8 +180,8 @@ fn after_write(
 /// Whether each pointer with which a cell of static storage begins is among what points write. Both stand in the order of
 /// the text, so that the search for one goes on behind the one before.
 pub(crate) fn are_written(points: &Points, writes: &[StaticWrite]) -> bool
-    requires { All (IsStaticWrite points.now) writes.now }
-    ensures { result ≡ true → AreWritten points.now }
+    requires { AreStaticWrites points.now writes.now }
+    ensures { IsTrue result ↔ AreWritten points.now }
 {
     let mut next = 0;
     for initial in points.initials() {

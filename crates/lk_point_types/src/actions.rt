@@ -1,7 +1,8 @@
 //! What the actions of points take and give.
-ghost use Rattle.std.specs.Prelude.{◌<◌, ◌⊎◌, IsTrue, length};
+ghost use Rattle.std.specs.Prelude.{◌↔◌, ◌<◌, ◌⊎◌, IsTrue, length};
 ghost use Rattle.lk_facts.specs.InRange.{IsActionInRange, sizes_of};
 ghost use Rattle.lk_facts.specs.Typed.{GivesInt, GivesNone, IsTyped, PointsToForm};
+ghost use Rattle.lk_point_types.specs.Each.{FillsItsPlace};
 ghost use Rattle.lk_types.specs.declared.c_type.CType.TheVariants.{Cond, Mutex};
 
 use crate::calls::{are_two_threads, calls_function, calls_pointer, is_start_routine};
@@ -19,7 +20,7 @@ use lk_facts::{Action, Points};
 /// Whether a point gives a pointer to a mutex or to a condition variable.
 fn points_to_lock(points: &Points, a: u32) -> bool
     requires { a < length points.now.points }
-    ensures { IsTrue result → PointsToForm points.now a Mutex ⊎ PointsToForm points.now a Cond }
+    ensures { IsTrue result ↔ (PointsToForm points.now a Mutex ⊎ PointsToForm points.now a Cond) }
 {
     points_to_mutex(points, a) || points_to_cond(points, a)
 }
@@ -27,7 +28,7 @@ fn points_to_lock(points: &Points, a: u32) -> bool
 /// Whether a point gives an `int` or nothing.
 fn gives_int_or_none(points: &Points, p: u32) -> bool
     requires { p < length points.now.points }
-    ensures { IsTrue result → GivesInt points.now p ⊎ GivesNone points.now p }
+    ensures { IsTrue result ↔ (GivesInt points.now p ⊎ GivesNone points.now p) }
 {
     gives_int(points, p) || gives_none(points, p)
 }
@@ -37,7 +38,8 @@ fn gives_int_or_none(points: &Points, p: u32) -> bool
 pub(crate) fn is_typed(points: &Points, p: u32, f: u32, action: &Action) -> bool
     requires p { p < length points.now.points }
     requires action { IsActionInRange (sizes_of points.now) action.now }
-    ensures { IsTrue result → IsTyped points.now p f action.now }
+    requires filled { FillsItsPlace points.now action.now }
+    ensures { IsTrue result ↔ IsTyped points.now p f action.now }
 {
     match action {
         Action::Value { number, ty } => {

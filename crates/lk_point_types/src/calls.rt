@@ -1,5 +1,5 @@
 //! The arguments and the values of calls (C99 6.5.2.2).
-ghost use Rattle.std.specs.Prelude.{◌<◌, IsTrue, All, length};
+ghost use Rattle.std.specs.Prelude.{◌↔◌, ◌<◌, IsTrue, All, length};
 ghost use Rattle.lk_facts.specs.Typed.{
   AreGiven,
   AreTwoThreads,
@@ -20,7 +20,7 @@ use lk_types::{CType, TypeId};
 fn are_given(points: &Points, args: &[u32], types: &[TypeId]) -> bool
     requires args { All (λ a. a < length points.now.points) args.now }
     requires types { All (IsKnown points.now.types) types.now }
-    ensures { IsTrue result → AreGiven points.now args.now types.now }
+    ensures { IsTrue result ↔ AreGiven points.now args.now types.now }
 {
     if args.len() != types.len() {
         return false;
@@ -36,7 +36,7 @@ fn are_given(points: &Points, args: &[u32], types: &[TypeId]) -> bool
 /// Whether the two operands of a `pthread_equal` are thread ids.
 pub(crate) fn are_two_threads(points: &Points, args: &[u32]) -> bool
     requires { All (λ a. a < length points.now.points) args.now }
-    ensures { IsTrue result → AreTwoThreads points.now args.now }
+    ensures { IsTrue result ↔ AreTwoThreads points.now args.now }
 {
     let [a, b] = args else {
         return false;
@@ -49,7 +49,7 @@ pub(crate) fn is_call(points: &Points, function: &CType, args: &[u32], p: u32) -
     requires function { HasKnown points.now.types function.now }
     requires args { All (λ a. a < length points.now.points) args.now }
     requires p { p < length points.now.points }
-    ensures { IsTrue result → IsCall points.now function.now args.now p }
+    ensures { IsTrue result ↔ IsCall points.now function.now args.now p }
 {
     match function {
         CType::Function { result, params, .. } => {
@@ -83,8 +83,8 @@ pub(crate) fn calls_function(points: &Points, f: u32, args: &[u32], p: u32) -> b
     requires f { f < length points.now.functions }
     requires args { All (λ a. a < length points.now.points) args.now }
     requires p { p < length points.now.points }
-    ensures { IsTrue result →
-        (form : Form) × IsFunctionType points.now f form × IsCall points.now form args.now p }
+    ensures { IsTrue result ↔
+        ((form : Form) × IsFunctionType points.now f form × IsCall points.now form args.now p) }
 {
     is_call(points, function_type(points, f), args, p)
 }
@@ -95,8 +95,8 @@ pub(crate) fn calls_pointer(points: &Points, a: u32, args: &[u32], p: u32) -> bo
     requires a { a < length points.now.points }
     requires args { All (λ a. a < length points.now.points) args.now }
     requires p { p < length points.now.points }
-    ensures { IsTrue result →
-        (form : Form) × PointsToForm points.now a form × IsCall points.now form args.now p }
+    ensures { IsTrue result ↔
+        ((form : Form) × PointsToForm points.now a form × IsCall points.now form args.now p) }
 {
     match target_form(points, a) {
         Some(function) => is_call(points, function, args, p),
@@ -107,7 +107,7 @@ pub(crate) fn calls_pointer(points: &Points, a: u32, args: &[u32], p: u32) -> bo
 /// Whether a function takes and returns a `void *`, as one at which a thread can start (POSIX pthread_create).
 pub(crate) fn is_start_routine(points: &Points, f: u32) -> bool
     requires { f < length points.now.functions }
-    ensures { IsTrue result → IsStartRoutine points.now f }
+    ensures { IsTrue result ↔ IsStartRoutine points.now f }
 {
     let types = points.types();
     match function_type(points, f) {

@@ -1,5 +1,5 @@
 //! What reads and writes cells and slots takes and gives.
-ghost use Rattle.std.specs.Prelude.{◌≡◌, ◌<◌, IsTrue, IfSome, length, Some, ℕ};
+ghost use Rattle.std.specs.Prelude.{◌↔◌, ◌≡◌, ◌<◌, IsTrue, IfSome, length, Some, ℕ};
 ghost use Rattle.lk_facts.specs.Typed.{
   Gives,
   GivesScalar,
@@ -18,6 +18,7 @@ use lk_types::{CType, TypeId, TypeTable};
 fn member_of(types: &TypeTable, s: TypeId, member: u32) -> Option<TypeId>
     requires { IsKnown types.now s }
     ensures member { IfSome result (IsMember types.now s member) }
+    ensures only { (t : ℕ) → IsMember types.now s member t → result ≡ Some t }
     ensures known { IfSome result (IsKnown types.now) }
 {
     match types.get(s) {
@@ -41,18 +42,28 @@ fn member_of(types: &TypeTable, s: TypeId, member: u32) -> Option<TypeId>
     }
 }
 
+/// Whether a point gives a pointer to a member of a struct type.
+fn points_to_member(points: &Points, s: TypeId, member: u32, p: u32) -> bool
+    requires s { IsKnown points.now.types s }
+    requires p { p < length points.now.points }
+    ensures { IsTrue result ↔
+        ((t : ℕ) × IsMember points.now.types s member t × PointsTo points.now p t) }
+{
+    match member_of(points.types(), s, member) {
+        Some(t) => points_to(points, p, t),
+        None => false,
+    }
+}
+
 /// Whether a pointer to a struct gives one to a member of it (C99 6.5.2.3).
 pub(crate) fn is_field(points: &Points, a: u32, member: u32, p: u32) -> bool
     requires a { a < length points.now.points }
     requires p { p < length points.now.points }
-    ensures { IsTrue result →
-        (s t : ℕ) × PointsTo points.now a s × IsMember points.now.types s member t × PointsTo points.now p t }
+    ensures { IsTrue result ↔
+        ((s t : ℕ) × PointsTo points.now a s × IsMember points.now.types s member t × PointsTo points.now p t) }
 {
-    let Some(s) = target(points, a) else {
-        return false;
-    };
-    match member_of(points.types(), s, member) {
-        Some(t) => points_to(points, p, t),
+    match target(points, a) {
+        Some(s) => points_to_member(points, s, member, p),
         None => false,
     }
 }
@@ -61,8 +72,8 @@ pub(crate) fn is_field(points: &Points, a: u32, member: u32, p: u32) -> bool
 pub(crate) fn is_read(points: &Points, a: u32, p: u32) -> bool
     requires a { a < length points.now.points }
     requires p { p < length points.now.points }
-    ensures { IsTrue result →
-        (t : ℕ) × PointsTo points.now a t × Gives points.now p t × GivesScalar points.now p }
+    ensures { IsTrue result ↔
+        ((t : ℕ) × PointsTo points.now a t × Gives points.now p t × GivesScalar points.now p) }
 {
     match target(points, a) {
         Some(t) => gives(points, p, t) && gives_scalar(points, p),
@@ -74,8 +85,8 @@ pub(crate) fn is_read(points: &Points, a: u32, p: u32) -> bool
 pub(crate) fn is_write(points: &Points, a: u32, b: u32) -> bool
     requires a { a < length points.now.points }
     requires b { b < length points.now.points }
-    ensures { IsTrue result →
-        (t : ℕ) × PointsTo points.now a t × Gives points.now b t × GivesScalar points.now b }
+    ensures { IsTrue result ↔
+        ((t : ℕ) × PointsTo points.now a t × Gives points.now b t × GivesScalar points.now b) }
 {
     match target(points, a) {
         Some(t) => gives(points, b, t) && gives_scalar(points, b),
@@ -103,7 +114,7 @@ pub(crate) fn slot_type(points: &Points, f: u32, slot: u32) -> Option<TypeId>
 /// Whether a point gives a value of the type of a slot.
 pub(crate) fn gives_slot(points: &Points, f: u32, slot: u32, a: u32) -> bool
     requires { a < length points.now.points }
-    ensures { IsTrue result → (t : ℕ) × IsSlot points.now f slot t × Gives points.now a t }
+    ensures { IsTrue result ↔ ((t : ℕ) × IsSlot points.now f slot t × Gives points.now a t) }
 {
     match slot_type(points, f, slot) {
         Some(t) => gives(points, a, t),
@@ -114,7 +125,7 @@ pub(crate) fn gives_slot(points: &Points, f: u32, slot: u32, a: u32) -> bool
 /// Whether what a return takes is the result of its function (C99 6.8.6.4, 6.9.1).
 pub(crate) fn is_return(points: &Points, f: u32, a: Option<u32>) -> bool
     requires { IfSome a (λ a. a < length points.now.points) }
-    ensures { IsTrue result → IsReturn points.now f a }
+    ensures { IsTrue result ↔ IsReturn points.now f a }
 {
     match a {
         Some(a) => f < points.functions() && gives(points, a, points.result(f)),

@@ -1,5 +1,6 @@
 //! The forms of types.
-ghost use Rattle.std.specs.Prelude.{◌<◌, IsTrue, IfSome, Some};
+ghost use Rattle.std.specs.Prelude.{◌≡◌, ◌↔◌, ◌<◌, ℕ, IsTrue, IfSome, Some};
+ghost use Rattle.lk_base.specs.declared.kind.Kind.{Kind as KindIs};
 ghost use Rattle.lk_facts.specs.Typed.{IsForm, IsObjectType};
 ghost use Rattle.lk_types.specs.Table.{IsKnown, HasKnown};
 ghost use Rattle.lk_types.specs.declared.c_type.CType.TheVariants.{Int, Pointer};
@@ -19,7 +20,8 @@ pub(crate) fn form(types: &TypeTable, t: TypeId) -> &CType
 /// The kind of an integer type (C99 6.2.5).
 pub(crate) fn kind_of(types: &TypeTable, t: TypeId) -> Option<Kind>
     requires { IsKnown types.now t }
-    ensures { IfSome result (λ kind. IsForm types.now t (Int kind)) }
+    ensures form { IfSome result (λ kind. IsForm types.now t (Int kind)) }
+    ensures only { (kind : KindIs) → IsForm types.now t (Int kind) → result ≡ Some kind }
 {
     match form(types, t) {
         CType::Int(kind) => Some(*kind),
@@ -39,6 +41,7 @@ pub(crate) fn kind_of(types: &TypeTable, t: TypeId) -> Option<Kind>
 pub(crate) fn target_of(types: &TypeTable, t: TypeId) -> Option<TypeId>
     requires { IsKnown types.now t }
     ensures form { IfSome result (λ target. IsForm types.now t (Pointer target)) }
+    ensures only { (target : ℕ) → IsForm types.now t (Pointer target) → result ≡ Some target }
     ensures known { IfSome result (IsKnown types.now) }
 {
     match form(types, t) {
@@ -58,7 +61,7 @@ pub(crate) fn target_of(types: &TypeTable, t: TypeId) -> Option<TypeId>
 /// Whether a type is one of objects: not `void`, and not that of a function (C99 6.2.5).
 pub(crate) fn is_object(types: &TypeTable, t: TypeId) -> bool
     requires { IsKnown types.now t }
-    ensures { IsTrue result → IsObjectType types.now t }
+    ensures { IsTrue result ↔ IsObjectType types.now t }
 {
     match form(types, t) {
         CType::Void | CType::Function { .. } => false,

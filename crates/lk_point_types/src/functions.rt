@@ -1,5 +1,5 @@
 //! The parameters and the results of functions (C99 6.9.1).
-ghost use Rattle.std.specs.Prelude.{◌≡◌, ◌<◌, IsTrue, IfSome, All, length, Some, ℕ};
+ghost use Rattle.std.specs.Prelude.{◌↔◌, ◌≡◌, ◌<◌, IsTrue, IfSome, All, length, Some, ℕ};
 ghost use Rattle.lk_facts.specs.InRange.{IsHolderInRange, sizes_of};
 ghost use Rattle.lk_facts.specs.Typed.{IsFunctionTyped, IsHolderIn, IsHolderType};
 ghost use Rattle.lk_types.specs.Table.{IsKnown};
@@ -29,7 +29,7 @@ pub(crate) fn held_type(points: &Points, holder: Holder) -> Option<TypeId>
 /// Whether a holder is a slot or an object of a function's frame.
 fn is_holder_in(points: &Points, f: u32, holder: Holder) -> bool
     requires { IsHolderInRange (sizes_of points.now) holder }
-    ensures { IsTrue result → IsHolderIn points.now f holder }
+    ensures { IsTrue result ↔ IsHolderIn points.now f holder }
 {
     match holder {
         Holder::Root(r) => is_local_of(points, f, r),
@@ -42,7 +42,7 @@ fn is_holder_in(points: &Points, f: u32, holder: Holder) -> bool
 fn is_held(points: &Points, f: u32, holder: Holder, t: TypeId) -> bool
     requires holder { IsHolderInRange (sizes_of points.now) holder }
     requires known { IsKnown points.now.types t }
-    ensures { IsTrue result → IsHeld points.now f holder t }
+    ensures { IsTrue result ↔ IsHeld points.now f holder t }
 {
     match held_type(points, holder) {
         Some(is) => is_holder_in(points, f, holder) && points.types().are_alike(is, t),
@@ -54,7 +54,7 @@ fn is_held(points: &Points, f: u32, holder: Holder, t: TypeId) -> bool
 fn are_held(points: &Points, f: u32, holders: &[Holder], types: &[TypeId]) -> bool
     requires holders { All (IsHolderInRange (sizes_of points.now)) holders.now }
     requires types { All (IsKnown points.now.types) types.now }
-    ensures { IsTrue result → AreHeld points.now f holders.now types.now }
+    ensures { IsTrue result ↔ AreHeld points.now f holders.now types.now }
 {
     if holders.len() != types.len() {
         return false;
@@ -70,7 +70,7 @@ fn are_held(points: &Points, f: u32, holders: &[Holder], types: &[TypeId]) -> bo
 /// Whether the parameters and the result of a function have the types of its root.
 pub(crate) fn is_function_typed(points: &Points, f: u32) -> bool
     requires { f < length points.now.functions }
-    ensures { IsTrue result → IsFunctionTyped points.now f }
+    ensures { IsTrue result ↔ IsFunctionTyped points.now f }
 {
     match function_type(points, f) {
         CType::Function { result, params, .. } => {

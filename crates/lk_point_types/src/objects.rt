@@ -1,5 +1,5 @@
 //! Pointers to the objects of roots.
-ghost use Rattle.std.specs.Prelude.{◌≡◌, ◌<◌, IsTrue, IfSome, length, Some, ℕ};
+ghost use Rattle.std.specs.Prelude.{◌↔◌, ◌≡◌, ◌<◌, IsTrue, IfSome, length, Some, ℕ};
 ghost use Rattle.lk_facts.specs.Program.{root_at, root_of_function};
 ghost use Rattle.lk_facts.specs.Typed.{
   IsAllocated,
@@ -19,7 +19,7 @@ use lk_types::{CType, TypeId};
 
 /// Whether a number is there, and is this one.
 pub(crate) fn is_at(there: Option<u32>, number: u32) -> bool
-    ensures { IsTrue result → there ≡ Some number }
+    ensures { IsTrue result ↔ (there ≡ Some number) }
 {
     match there {
         Some(is) => is == number,
@@ -30,9 +30,9 @@ pub(crate) fn is_at(there: Option<u32>, number: u32) -> bool
 /// Whether a root stands for an object of a function's frame.
 pub(crate) fn is_local_of(points: &Points, f: u32, r: u32) -> bool
     requires { r < length points.now.roots }
-    ensures { IsTrue result →
-        (root : RootIs) × (root_at points.now r ≡ Some root) × (root.kind ≡ Local) ×
-        (root.function ≡ Some f) }
+    ensures { IsTrue result ↔
+        ((root : RootIs) × (root_at points.now r ≡ Some root) × (root.kind ≡ Local) ×
+        (root.function ≡ Some f)) }
 {
     let root = points.root(r);
     matches!(root.kind, RootKind::Local) && is_at(root.function, f)
@@ -41,7 +41,7 @@ pub(crate) fn is_local_of(points: &Points, f: u32, r: u32) -> bool
 /// Whether a root stands for an object of static storage, or for one of a function's frame (C99 6.2.4).
 pub(crate) fn is_object_in(points: &Points, f: u32, r: u32) -> bool
     requires { r < length points.now.roots }
-    ensures { IsTrue result → IsObjectIn points.now f r }
+    ensures { IsTrue result ↔ IsObjectIn points.now f r }
 {
     let root = points.root(r);
     match root.kind {
@@ -59,7 +59,7 @@ pub(crate) fn is_object_in(points: &Points, f: u32, r: u32) -> bool
 pub(crate) fn points_to_root(points: &Points, p: u32, r: u32) -> bool
     requires p { p < length points.now.points }
     requires r { r < length points.now.roots }
-    ensures { IsTrue result → (t : ℕ) × IsRootType points.now r t × PointsTo points.now p t }
+    ensures { IsTrue result ↔ ((t : ℕ) × IsRootType points.now r t × PointsTo points.now p t) }
 {
     points_to(points, p, points.root(r).ty)
 }
@@ -68,9 +68,9 @@ pub(crate) fn points_to_root(points: &Points, p: u32, r: u32) -> bool
 pub(crate) fn points_to_function(points: &Points, p: u32, f: u32) -> bool
     requires p { p < length points.now.points }
     requires f { f < length points.now.functions }
-    ensures { IsTrue result →
-        (r t : ℕ) × (root_of_function points.now f ≡ Some r) × IsRootType points.now r t ×
-        PointsTo points.now p t }
+    ensures { IsTrue result ↔
+        ((r t : ℕ) × (root_of_function points.now f ≡ Some r) × IsRootType points.now r t ×
+        PointsTo points.now p t) }
 {
     points_to_root(points, p, points.function_root(f))
 }
@@ -79,7 +79,7 @@ pub(crate) fn points_to_function(points: &Points, p: u32, f: u32) -> bool
 /// count (C99 7.20.3).
 pub(crate) fn is_allocated(points: &Points, p: u32, r: u32, t: TypeId, count: Option<u32>) -> bool
     requires { r < length points.now.roots }
-    ensures { IsTrue result → IsAllocated points.now p r t count }
+    ensures { IsTrue result ↔ IsAllocated points.now p r t count }
 {
     let root = points.root(r);
     match (root.kind, count) {
@@ -118,7 +118,7 @@ pub(crate) fn is_allocated(points: &Points, p: u32, r: u32, t: TypeId, count: Op
 /// Whether the number of the elements of an allocation is a `size_t` (C99 7.20.3).
 pub(crate) fn is_count(points: &Points, count: Option<u32>) -> bool
     requires { IfSome count (λ n. n < length points.now.points) }
-    ensures { IsTrue result → IsCount points.now count }
+    ensures { IsTrue result ↔ IsCount points.now count }
 {
     match count {
         Some(n) => gives_kind(points, n, Kind::ULong),

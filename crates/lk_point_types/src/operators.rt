@@ -1,9 +1,11 @@
 //! The operands and the values of operators and conversions (C99 6.3, 6.5).
-ghost use Rattle.std.specs.Prelude.{◌<◌, IsTrue, length, ℕ, ◌⊎◌};
+ghost use Rattle.std.specs.Prelude.{◌≡◌, ◌↔◌, ◌<◌, IfSome, IsTrue, Some, length, ℕ, ◌⊎◌};
+ghost use Rattle.lk_base.specs.declared.kind.Kind.{Kind as KindIs};
 ghost use Rattle.lk_facts.specs.Typed.{
   AreAlike,
   Compares,
   ComparesNumbers,
+  GivesForm,
   GivesNumber,
   GivesPointer,
   IsBinary,
@@ -15,6 +17,7 @@ ghost use Rattle.lk_facts.specs.Typed.{
   PointsTo,
   PointsToForm,
 };
+ghost use Rattle.lk_types.specs.Table.{IsKnown};
 ghost use Rattle.lk_types.specs.declared.c_type.CType.TheVariants.{Array, Int};
 
 use crate::readers::{
@@ -23,14 +26,14 @@ use crate::readers::{
 use lk_arith::{Op, UnaryOp};
 use lk_base::Kind;
 use lk_facts::Points;
-use lk_types::CType;
+use lk_types::{CType, TypeId};
 
 /// Whether both operands and the value are numbers of one kind.
 fn are_alike(points: &Points, a: u32, b: u32, p: u32) -> bool
     requires a { a < length points.now.points }
     requires b { b < length points.now.points }
     requires p { p < length points.now.points }
-    ensures { IsTrue result → AreAlike points.now a b p }
+    ensures { IsTrue result ↔ AreAlike points.now a b p }
 {
     match number(points, a) {
         Some(kind) => gives_kind(points, b, kind) && gives_kind(points, p, kind),
@@ -43,7 +46,7 @@ fn moves(points: &Points, a: u32, b: u32, p: u32) -> bool
     requires a { a < length points.now.points }
     requires b { b < length points.now.points }
     requires p { p < length points.now.points }
-    ensures { IsTrue result → Moves points.now a b p }
+    ensures { IsTrue result ↔ Moves points.now a b p }
 {
     match target(points, a) {
         Some(t) => gives_number(points, b) && points_to(points, p, t),
@@ -56,7 +59,7 @@ fn compares(points: &Points, kind: Kind, a: u32, b: u32, p: u32) -> bool
     requires a { a < length points.now.points }
     requires b { b < length points.now.points }
     requires p { p < length points.now.points }
-    ensures { IsTrue result → Compares points.now kind a b p }
+    ensures { IsTrue result ↔ Compares points.now kind a b p }
 {
     match target(points, a) {
         Some(t) => points_to(points, b, t) && gives_kind(points, p, kind),
@@ -69,7 +72,7 @@ fn compares_numbers(points: &Points, a: u32, b: u32, p: u32) -> bool
     requires a { a < length points.now.points }
     requires b { b < length points.now.points }
     requires p { p < length points.now.points }
-    ensures { IsTrue result → ComparesNumbers points.now a b p }
+    ensures { IsTrue result ↔ ComparesNumbers points.now a b p }
 {
     match number(points, a) {
         Some(kind) => gives_kind(points, b, kind) && gives_int(points, p),
@@ -82,7 +85,7 @@ fn is_comparison(points: &Points, a: u32, b: u32, p: u32) -> bool
     requires a { a < length points.now.points }
     requires b { b < length points.now.points }
     requires p { p < length points.now.points }
-    ensures { IsTrue result → IsComparison points.now a b p }
+    ensures { IsTrue result ↔ IsComparison points.now a b p }
 {
     compares_numbers(points, a, b, p) || compares(points, Kind::Int, a, b, p)
 }
@@ -92,7 +95,7 @@ fn is_shift(points: &Points, a: u32, b: u32, p: u32) -> bool
     requires a { a < length points.now.points }
     requires b { b < length points.now.points }
     requires p { p < length points.now.points }
-    ensures { IsTrue result → IsShift points.now a b p }
+    ensures { IsTrue result ↔ IsShift points.now a b p }
 {
     match number(points, a) {
         Some(kind) => gives_number(points, b) && gives_kind(points, p, kind),
@@ -105,7 +108,7 @@ pub(crate) fn is_binary(points: &Points, op: Op, a: u32, b: u32, p: u32) -> bool
     requires a { a < length points.now.points }
     requires b { b < length points.now.points }
     requires p { p < length points.now.points }
-    ensures { IsTrue result → IsBinary points.now op a b p }
+    ensures { IsTrue result ↔ IsBinary points.now op a b p }
 {
     match op {
         Op::Multiply | Op::Divide | Op::Remainder | Op::And | Op::Xor | Op::Or => {
@@ -126,23 +129,64 @@ pub(crate) fn is_binary(points: &Points, op: Op, a: u32, b: u32, p: u32) -> bool
 /// Whether a point gives what `!`, `if` and loops take: a number or a pointer.
 pub(crate) fn is_tested(points: &Points, a: u32) -> bool
     requires { a < length points.now.points }
-    ensures { IsTrue result → GivesNumber points.now a ⊎ GivesPointer points.now a }
+    ensures { IsTrue result ↔ (GivesNumber points.now a ⊎ GivesPointer points.now a) }
 {
     gives_number(points, a) || gives_pointer(points, a)
+}
+
+/// Whether the operand and the value are numbers of one kind.
+fn keeps_kind(points: &Points, a: u32, p: u32) -> bool
+    requires a { a < length points.now.points }
+    requires p { p < length points.now.points }
+    ensures { IsTrue result ↔ ((k : KindIs) × GivesForm points.now a (Int k) × GivesForm points.now p (Int k)) }
+{
+    match number(points, a) {
+        Some(kind) => gives_kind(points, p, kind),
+        None => false,
+    }
 }
 
 /// Whether the operand and the value of a unary operator have types that it takes and gives (C99 6.5.3.3).
 pub(crate) fn is_unary(points: &Points, op: UnaryOp, a: u32, p: u32) -> bool
     requires a { a < length points.now.points }
     requires p { p < length points.now.points }
-    ensures { IsTrue result → IsUnary points.now op a p }
+    ensures { IsTrue result ↔ IsUnary points.now op a p }
 {
     match op {
-        UnaryOp::Plus | UnaryOp::Negate | UnaryOp::Complement => match number(points, a) {
-            Some(kind) => gives_kind(points, p, kind),
-            None => false,
-        },
+        UnaryOp::Plus | UnaryOp::Negate | UnaryOp::Complement => keeps_kind(points, a, p),
         UnaryOp::Not => is_tested(points, a) && gives_int(points, p),
+    }
+}
+
+/// The type of the elements of a form, where it is that of arrays.
+fn element_of(form: &CType) -> Option<TypeId>
+    ensures element { IfSome result (λ e. (n : ℕ) × (form.now ≡ Array e n)) }
+    ensures only { (e n : ℕ) → form.now ≡ Array e n → result ≡ Some e }
+{
+    match form {
+        CType::Array(element, _) => Some(*element),
+        CType::Void
+        | CType::Int(_)
+        | CType::ThreadId
+        | CType::Mutex
+        | CType::Cond
+        | CType::Pointer(_)
+        | CType::Struct(_)
+        | CType::Function { .. }
+        | CType::Opaque(_) => None,
+    }
+}
+
+/// The type of the elements of the array to which a point gives a pointer.
+fn target_element(points: &Points, a: u32) -> Option<TypeId>
+    requires { a < length points.now.points }
+    ensures element { IfSome result (λ e. (n : ℕ) × PointsToForm points.now a (Array e n)) }
+    ensures only { (e n : ℕ) → PointsToForm points.now a (Array e n) → result ≡ Some e }
+    ensures known { IfSome result (IsKnown points.now.types) }
+{
+    match target_form(points, a) {
+        Some(form) => element_of(form),
+        None => None,
     }
 }
 
@@ -151,26 +195,13 @@ fn is_element(points: &Points, a: u32, b: u32, p: u32) -> bool
     requires a { a < length points.now.points }
     requires b { b < length points.now.points }
     requires p { p < length points.now.points }
-    ensures { IsTrue result →
-        (e n : ℕ) × PointsToForm points.now a (Array e n) × GivesNumber points.now b ×
-        PointsTo points.now p e }
+    ensures { IsTrue result ↔
+        ((e n : ℕ) × PointsToForm points.now a (Array e n) × GivesNumber points.now b ×
+        PointsTo points.now p e) }
 {
-    match target_form(points, a) {
-        Some(CType::Array(element, _)) => {
-            gives_number(points, b) && points_to(points, p, *element)
-        }
-        Some(
-            CType::Void
-            | CType::Int(_)
-            | CType::ThreadId
-            | CType::Mutex
-            | CType::Cond
-            | CType::Pointer(_)
-            | CType::Struct(_)
-            | CType::Function { .. }
-            | CType::Opaque(_),
-        )
-        | None => false,
+    match target_element(points, a) {
+        Some(element) => gives_number(points, b) && points_to(points, p, element),
+        None => false,
     }
 }
 
@@ -179,7 +210,7 @@ pub(crate) fn is_index(points: &Points, into: bool, a: u32, b: u32, p: u32) -> b
     requires a { a < length points.now.points }
     requires b { b < length points.now.points }
     requires p { p < length points.now.points }
-    ensures { IsTrue result → IsIndex points.now into a b p }
+    ensures { IsTrue result ↔ IsIndex points.now into a b p }
 {
     if into {
         is_element(points, a, b, p)

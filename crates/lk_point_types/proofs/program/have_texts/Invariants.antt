@@ -1,5 +1,5 @@
 use Rattle.std.proofs.Common.{ℕ, ◌<◌}
-use Rattle.lk_point_types.proofs.WholeLemmas.{HasItsText}
+use Rattle.lk_point_types.specs.Each.{HasItsText}
 use Rattle.lk_point_types.proofs.program.have_texts.Given as goal
 
 abbrev pub invariant-loop-p : goal.invariant-loop-p

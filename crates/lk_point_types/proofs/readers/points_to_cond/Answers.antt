@@ -1,0 +1,6 @@
+use Rattle.lk_point_types.proofs.Found.{never}
+use Rattle.lk_types.specs.declared.c_type.CType.TheVariants.{Cond}
+use Rattle.lk_point_types.proofs.readers.points_to_cond.Goals as goal
+
+pub returns-in-None : goal.returns-in-None
+returns-in-None c = never (λ h. c.in-None.ensures.form Cond h)
