@@ -18,10 +18,11 @@ use Rattle.lk_typed.specs.Typings.{ForEach, IsResult, IsTyping, typing}
 use Rattle.lk_typed.specs.declared.typed.ExprType.{ExprType}
 use Rattle.lk_typed.specs.declared.typed.Typed.{Typed}
 use Rattle.lk_check_decl.specs.Breaches.{told}
+use Rattle.lk_found.specs.Findings.{IsFoundTyping}
+use Rattle.lk_found.specs.declared.found.Found.{Found}
 use Rattle.lk_check_walk.specs.Walking.{IsFurther, Judges}
-use Rattle.lk_check_walk.specs.Walks.{IsFoundTyping, Walks}
+use Rattle.lk_check_walk.specs.Walks.{Walks}
 use Rattle.lk_check_walk.specs.declared.checker.Checker.{Checker}
-use Rattle.lk_check_walk.specs.declared.found.Found.{Found}
 use Rattle.lk_check_unit.specs.Asking.{IsOperandFound, WalksOperand, value_in}
 use Rattle.lk_check_unit.specs.Bodies.{Asks, Grows, IsPlain}
 use Rattle.lk_check_unit.specs.declared.body.Asked.{Asked}

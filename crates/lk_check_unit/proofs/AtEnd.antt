@@ -12,9 +12,10 @@ use Rattle.lk_typed.specs.Sizes.{is_complete}
 use Rattle.lk_typed.specs.Typings.{structs_in}
 use Rattle.lk_rules.specs.Keeping.{Kept}
 use Rattle.lk_check_decl.specs.Breaches.{told}
-use Rattle.lk_check_walk.specs.Keepings.{KeepsAll}
+use Rattle.lk_found.specs.Keepings.{KeepsAll}
+use Rattle.lk_found.specs.Findings.{mark_at}
 use Rattle.lk_check_walk.specs.Specifying.{IsSame, KeepsAt}
-use Rattle.lk_check_walk.specs.Walks.{IsIn, Tells, kept_in, mark_at}
+use Rattle.lk_check_walk.specs.Walks.{IsIn, Tells, kept_in}
 use Rattle.lk_check_walk.specs.declared.checker.Checker.{Checker}
 use Rattle.lk_check_unit.specs.Later.{AreKnownPending, AsksAll, pending_codes, pending_rules}
 use Rattle.lk_check_unit.specs.declared.pending.Pending.{Pending}

@@ -32,11 +32,11 @@ use Rattle.lk_names.specs.declared.names.Mark.{Mark}
 use Rattle.lk_rules.proofs.Kept.{none_broken}
 use Rattle.lk_rules.proofs.Parts.{definitions_are_asked}
 use Rattle.lk_rules.specs.Keeping.{IsBroken, KeepsNodes}
-use Rattle.lk_check_walk.specs.Truth.{IsBegunAmong}
-use Rattle.lk_check_walk.proofs.States.{extend_both}
+use Rattle.lk_found.specs.Truth.{IsBegunAmong}
+use Rattle.lk_found.proofs.Environments.{extend_both}
+use Rattle.lk_found.specs.Declarators.{scope_told}
+use Rattle.lk_found.specs.Keepings.{KeepsAll, codes_at}
 use Rattle.lk_check_walk.proofs.Truth.{truth_behind, truth_still}
-use Rattle.lk_check_walk.specs.Declarators.{scope_told}
-use Rattle.lk_check_walk.specs.Keepings.{KeepsAll, codes_at}
 use Rattle.lk_check_walk.specs.Walking.{IsFurther}
 use Rattle.lk_check_walk.specs.Walks.{IsIn, Walks, kept_in}
 use Rattle.lk_check_walk.specs.declared.checker.Checker.{Checker}

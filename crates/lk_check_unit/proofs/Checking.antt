@@ -20,17 +20,18 @@ use Rattle.lk_rules.specs.Keeping.{KeepsNodes, none_kept}
 use Rattle.lk_typed.specs.Structs.{IsTagOf}
 use Rattle.lk_typed.specs.declared.unit.StructTag.{StructTag}
 use Rattle.lk_typed.specs.Units.IsNode.{node_of}
-use Rattle.lk_check_walk.specs.Keepings.{KeepsAll}
+use Rattle.lk_found.specs.Keepings.{KeepsAll}
+use Rattle.lk_found.specs.Recorded.{Recorded, nothing_recorded}
+use Rattle.lk_found.specs.Truth.{AddsTruth, IsSoInside, AddsTags, IsOfTag, NoTag}
+use Rattle.lk_found.specs.Uses.{AddsUses, IsOfUse, IsOfWord, taken_in, word_in}
+use Rattle.lk_found.specs.Findings.{IsOfExpression, IsOfInitialiser, IsOfName, IsOfTypeName, refusal_of}
 use Rattle.lk_check_walk.specs.Specifying.{IsSame}
-use Rattle.lk_check_walk.specs.Recorded.{Recorded, nothing_recorded}
-use Rattle.lk_check_walk.specs.Truth.{AddsTruth, IsSoInside, AddsTags, IsOfTag, NoTag}
-use Rattle.lk_check_walk.specs.Uses.{AddsUses, IsOfUse, IsOfWord, taken_in, word_in}
-use Rattle.lk_check_walk.specs.Walks.{IsIn, IsOfExpression, IsOfInitialiser, IsOfName, IsOfTypeName, TellsTruth, kept_in, recorded_in, refusal_of}
+use Rattle.lk_check_walk.specs.Walks.{IsIn, TellsTruth, kept_in, recorded_in}
 use Rattle.lk_check_walk.specs.declared.checker.Checker.{Checker}
 use Rattle.lk_check_walk.specs.declared.checker.Outside.{Outside}
-use Rattle.lk_predeclared.specs.Beginning.{IsOutsideOf}
 use Rattle.lk_check_walk.proofs.KeepsAll.{in_same}
 use Rattle.lk_check_walk.proofs.Truth.{truth_still}
+use Rattle.lk_predeclared.specs.Beginning.{IsOutsideOf}
 use Rattle.lk_check_unit.specs.Later.{AsksAll, WalksBut, pending_codes}
 use Rattle.lk_check_unit.specs.Sources.{AreTrue, AreUses, RecordsOf, TellsFirst, WalksExternals, externals_add}
 use Rattle.lk_check_unit.specs.declared.pending.Pending.{Pending}

@@ -42,20 +42,22 @@ use Rattle.lk_check_decl.specs.declared.initialisers.Target.{Target}
 use Rattle.lk_check_decl.specs.declared.words.Given.{Given}
 use Rattle.lk_check_decl.specs.declared.words.Scope.{Scope}
 use Rattle.lk_check_decl.specs.declared.words.Scope.TheVariants.{File, Block}
-use Rattle.lk_check_walk.specs.Truth.{IsBegunAmong, NoTag}
-use Rattle.lk_check_walk.proofs.States.{extend_both}
+use Rattle.lk_found.specs.Truth.{IsBegunAmong, NoTag}
+use Rattle.lk_found.proofs.Environments.{extend_both}
+use Rattle.lk_found.specs.Declarators.{codes_of_use, left_of, name_codes, use_codes}
+use Rattle.lk_found.specs.Keepings.{Codes, KeepsAll, codes_at}
+use Rattle.lk_found.specs.Specified.{breaches_in}
+use Rattle.lk_found.specs.Findings.{mark_at}
+use Rattle.lk_found.specs.declared.declarators.Asked.{Asked}
+use Rattle.lk_found.specs.declared.declarators.DeclaratorFound.{DeclaratorFound}
+use Rattle.lk_found.specs.declared.found.At.{At}
+use Rattle.lk_found.specs.declared.gathered.Specified.{Specified}
 use Rattle.lk_check_walk.proofs.Truth.{truth_same, truth_then}
-use Rattle.lk_check_walk.specs.Declarators.{FindsDeclarator, IsDeclared, codes_of_use, left_of, name_codes, use_codes}
-use Rattle.lk_check_walk.specs.Keepings.{Codes, KeepsAll, codes_at}
-use Rattle.lk_check_walk.specs.Specified.{breaches_in}
+use Rattle.lk_check_walk.specs.Declarators.{FindsDeclarator, IsDeclared}
 use Rattle.lk_check_walk.specs.Specifying.{IsSame, KeepsAt, Specifies}
 use Rattle.lk_check_walk.specs.Walking.{IsFurther, operand_in}
-use Rattle.lk_check_walk.specs.Walks.{IsIn, IsSound, StandsIn, Walks, kept_in, mark_at}
+use Rattle.lk_check_walk.specs.Walks.{IsIn, IsSound, StandsIn, Walks, kept_in}
 use Rattle.lk_check_walk.specs.declared.checker.Checker.{Checker}
-use Rattle.lk_check_walk.specs.declared.declarators.Asked.{Asked}
-use Rattle.lk_check_walk.specs.declared.declarators.DeclaratorFound.{DeclaratorFound}
-use Rattle.lk_check_walk.specs.declared.found.At.{At}
-use Rattle.lk_check_walk.specs.declared.gathered.Specified.{Specified}
 use Rattle.lk_check_unit.specs.Bodies.{IsPlain, WalksDeclaration}
 use Rattle.lk_check_unit.specs.Declaring.{DeclaresName, KeepsBut, PutsDeclared, PutsTypes, WaitsIn, listed, type_recorded}
 use Rattle.lk_check_unit.specs.InitDeclarators.{DeclaresAll, DeclaresOne, FindsName, HidesCodes, IsNamedAmong, IsToldBy, NameIsFound, PutsIfNamed, PutsPending, WalksNode}

@@ -11,7 +11,7 @@ use Rattle.lk_typed.specs.Initialisers.{designator_parts, designators_add, entri
 use Rattle.lk_typed.specs.NodeRules.{are_typed, has_type}
 use Rattle.lk_typed.specs.Nodes.{AnInitialiser, at}
 use Rattle.lk_check_decl.specs.declared.initialisers.Target.{Target}
-use Rattle.lk_check_walk.proofs.States.{extend_both}
+use Rattle.lk_found.proofs.Environments.{extend_both}
 use Rattle.lk_check_walk.proofs.Walking.{no_walk, then_walks}
 use Rattle.lk_check_walk.specs.Walks.{IsSound, Walks}
 use Rattle.lk_check_walk.specs.declared.checker.Checker.{Checker}

@@ -30,8 +30,8 @@ use Rattle.lk_rules.specs.Keeping.{KeepsCodes}
 use Rattle.lk_check_decl.specs.declared.switches.Switch.{Switch}
 use Rattle.lk_check_decl.specs.Breaches.{told}
 use Rattle.lk_check_decl.specs.Switches.{label_of, switch_of}
+use Rattle.lk_found.proofs.Environments.{extend_both}
 use Rattle.lk_check_walk.proofs.Gathers.{both_assoc}
-use Rattle.lk_check_walk.proofs.States.{extend_both}
 use Rattle.lk_check_walk.proofs.Walking.{no_walk}
 use Rattle.lk_check_walk.specs.Walks.{IsSound, Tells, Walks, kept_in}
 use Rattle.lk_check_walk.specs.declared.checker.Checker.{Checker}

@@ -24,20 +24,22 @@ use Rattle.lk_typed.specs.Stands.{Mark}
 use Rattle.lk_typed.specs.Told.{DeclaratorTold, Named, SpecifierTold}
 use Rattle.lk_typed.specs.Ty.{Ty}
 use Rattle.lk_rules.specs.Keeping.{Kept, KeepsCodes}
-use Rattle.lk_check_walk.specs.Truth.{IsBegunAmong, NoTag}
+use Rattle.lk_found.specs.Truth.{IsBegunAmong, NoTag}
+use Rattle.lk_found.specs.Declarators.{codes_of_use, left_of, name_codes}
+use Rattle.lk_found.specs.Keepings.{Codes, KeepsAll, codes_at}
+use Rattle.lk_found.specs.Specified.{breaches_in}
+use Rattle.lk_found.specs.Findings.{mark_at}
+use Rattle.lk_found.specs.declared.declarators.DeclaratorFound.{DeclaratorFound}
+use Rattle.lk_found.specs.declared.found.At.{At}
+use Rattle.lk_found.specs.declared.gathered.Specified.{Specified}
 use Rattle.lk_check_walk.proofs.GoingOn.{scope_known, type_same}
 use Rattle.lk_check_walk.proofs.WalkedForms.{scope_stays}
 use Rattle.lk_check_walk.proofs.Truth.{truth_still, told_still}
-use Rattle.lk_check_walk.specs.Declarators.{FindsDeclarator, IsDeclared, IsKnownFound, codes_of_use, left_of, name_codes}
-use Rattle.lk_check_walk.specs.Keepings.{Codes, KeepsAll, codes_at}
-use Rattle.lk_check_walk.specs.Specified.{breaches_in}
+use Rattle.lk_check_walk.specs.Declarators.{FindsDeclarator, IsDeclared, IsKnownFound}
 use Rattle.lk_check_walk.specs.Specifying.{AreSpecified, IsSame, KeepsAt, Specifies}
 use Rattle.lk_check_walk.specs.Walking.{IsFurther}
-use Rattle.lk_check_walk.specs.Walks.{IsSound, kept_in, mark_at, TellsTruth}
+use Rattle.lk_check_walk.specs.Walks.{IsSound, kept_in, TellsTruth}
 use Rattle.lk_check_walk.specs.declared.checker.Checker.{Checker}
-use Rattle.lk_check_walk.specs.declared.declarators.DeclaratorFound.{DeclaratorFound}
-use Rattle.lk_check_walk.specs.declared.found.At.{At}
-use Rattle.lk_check_walk.specs.declared.gathered.Specified.{Specified}
 use Rattle.lk_check_unit.specs.Bodies.{IsPlain}
 use Rattle.lk_check_unit.specs.Definitions.{FunctionIsNamed, Heads, IsFunctionName, IsHeaded, IsKnownHeaded, NamesFunction, behind_specifiers, specifiers_of, type_defined}
 use Rattle.lk_check_unit.specs.Later.{TellsNaming, TellsNamingOf}

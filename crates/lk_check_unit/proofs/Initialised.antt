@@ -25,11 +25,12 @@ use Rattle.lk_typed.specs.Typing.{Typing}
 use Rattle.lk_typed.specs.Typings.{structs_in}
 use Rattle.lk_check_decl.specs.Breaches.{told}
 use Rattle.lk_check_decl.specs.declared.initialisers.Target.{Target}
+use Rattle.lk_found.specs.Findings.{IsFoundTyping, mark_at}
+use Rattle.lk_found.specs.declared.found.At.{At}
+use Rattle.lk_found.specs.declared.found.Found.{Found}
 use Rattle.lk_check_walk.proofs.Walking.{no_walk}
-use Rattle.lk_check_walk.specs.Walks.{IsFoundTyping, IsSound, Tells, Walks, kept_in, mark_at}
+use Rattle.lk_check_walk.specs.Walks.{IsSound, Tells, Walks, kept_in}
 use Rattle.lk_check_walk.specs.declared.checker.Checker.{Checker}
-use Rattle.lk_check_walk.specs.declared.found.At.{At}
-use Rattle.lk_check_walk.specs.declared.found.Found.{Found}
 use Rattle.lk_rules.specs.Keeping.{KeepsCodes}
 use Rattle.lk_check_unit.specs.Bodies.{IsPlain}
 use Rattle.lk_check_unit.specs.Converting.{IsConvertedFound, WalksConverted}

@@ -9,7 +9,7 @@ use Rattle.lk_typed.specs.Nodes.{Node, Placed, at}
 use Rattle.lk_typed.specs.Stands.{IsIn, Mark}
 use Rattle.lk_rules.proofs.Kept.{HoldsHere, breach_both, broken_both, broken_in, codes_both, hiding_is_part, keeps_none, keeps_same, keeps_then, no_breach, no_fault, node_broken, node_faults, nodes_both, none_broken}
 use Rattle.lk_rules.specs.Keeping.{FaultAt, FaultIn, HasBreach, IsBroken, Kept, KeepsCodes, KeepsNodes}
-use Rattle.lk_check_walk.specs.Keepings.{BreaksEach, Codes, FaultOfEach, KeepsAll, OfEach, codes_at}
+use Rattle.lk_found.specs.Keepings.{BreaksEach, Codes, FaultOfEach, KeepsAll, OfEach, codes_at}
 
 -- ---- either
 

@@ -21,12 +21,13 @@ use Rattle.lk_typed.specs.declared.names.Declared.{Declared as CodeDeclared}
 use Rattle.lk_typed.specs.declared.names.Meaning.{Meaning}
 use Rattle.lk_tree.specs.declared.declaration.Init.{Init}
 use Rattle.lk_typed.specs.declared.unit.StructTag.{StructTag}
-use Rattle.lk_check_walk.specs.Recorded.{Recorded, with_declared}
-use Rattle.lk_check_walk.specs.Truth.{IsSoInside, IsOfTag, NoTag}
-use Rattle.lk_check_walk.specs.Walks.{IsDeclaredAs, IsOfName, TellsTruth, recorded_in, TellsOwn}
+use Rattle.lk_found.specs.Recorded.{Recorded, with_declared}
+use Rattle.lk_found.specs.Truth.{IsSoInside, IsOfTag, NoTag}
+use Rattle.lk_found.specs.Findings.{IsDeclaredAs, IsOfName}
+use Rattle.lk_found.specs.declared.records.DeclaredHere.{DeclaredHere}
+use Rattle.lk_found.proofs.Entries.{AreNodesOf, among_first, among_second, is_expression, nodes_of_node, put_is, so_among, so_still}
+use Rattle.lk_check_walk.specs.Walks.{TellsTruth, recorded_in, TellsOwn}
 use Rattle.lk_check_walk.specs.declared.checker.Checker.{Checker}
-use Rattle.lk_check_walk.specs.declared.records.DeclaredHere.{DeclaredHere}
-use Rattle.lk_check_walk.proofs.Entries.{AreNodesOf, among_first, among_second, is_expression, nodes_of_node, put_is, so_among, so_still}
 use Rattle.lk_check_walk.proofs.Truth.{declared_longer, name_longer, told_of_node, told_still, told_then}
 use Rattle.lk_check_unit.specs.Declaring.{IsRecordedAs, PutsDeclared, type_recorded}
 use Rattle.lk_check_unit.specs.InitDeclarators.{PutsIfNamed}

@@ -1,9 +1,8 @@
 -- Declared names: their codes are kept one after the other, and then they are in scope.
-use Rattle.std.specs.Prelude.{IfOk, OnOk}
+use Rattle.std.specs.Prelude.{IfOk, OnOk, IfSome, not, slice_get, ◌||◌, if◌then◌else◌}
 use Rattle.std.specs.declared.result.Result.{Result}
 use Rattle.std.proofs.lemmas.Option.{none-some}
 use Rattle.std.proofs.Common.{Ok, Err, ◌≡◌, ◌∙◌, ◌++◌, ◌⊎◌, inl, inr, ℕ, Bool, true, false, List, [], ◌∷◌, Option, Some, None, refl, sym, ap, subst}
-use Rattle.std.specs.Prelude.{IfSome, not, slice_get, ◌||◌, if◌then◌else◌}
 use Rattle.std.specs.HashSet.{contains_by}
 use Rattle.std.specs.Option.{option_map}
 use Rattle.lk_base.specs.declared.code.Code.{Code}
@@ -51,15 +50,16 @@ use Rattle.lk_check_decl.specs.declared.words.Given.{Given}
 use Rattle.lk_check_decl.specs.declared.words.Given.TheVariants.{Initialiser, Body}
 use Rattle.lk_check_decl.specs.declared.words.Scope.{Scope}
 use Rattle.lk_check_decl.specs.declared.words.Scope.TheVariants.{File, Block}
+use Rattle.lk_found.specs.Keepings.{KeepsAll, codes_at}
+use Rattle.lk_found.specs.Recorded.{Recorded}
+use Rattle.lk_found.specs.Structs.{AreListed}
+use Rattle.lk_found.specs.Findings.{mark_at}
+use Rattle.lk_found.specs.declared.found.At.{At}
 use Rattle.lk_check_walk.proofs.Recordings.{in_recorded, with_records}
-use Rattle.lk_check_walk.specs.Keepings.{KeepsAll, codes_at}
-use Rattle.lk_check_walk.specs.Recorded.{Recorded}
 use Rattle.lk_check_walk.specs.Specifying.{IsSame, KeepsAt}
-use Rattle.lk_check_walk.specs.Structs.{AreListed}
 use Rattle.lk_check_walk.specs.Walking.{IsFurther}
-use Rattle.lk_check_walk.specs.Walks.{IsIn, IsSound, Tells, kept_in, mark_at, recorded_in}
+use Rattle.lk_check_walk.specs.Walks.{IsIn, IsSound, Tells, kept_in, recorded_in}
 use Rattle.lk_check_walk.specs.declared.checker.Checker.{Checker}
-use Rattle.lk_check_walk.specs.declared.found.At.{At}
 use Rattle.lk_check_unit.specs.Declaring.{AsksComplete, AsksType, DeclaresName, IsHow, IsWaiting, KeepsBut, PutsDeclared, PutsName, PutsTypes, WaitsIn, complete_rules, declared_by, listed, meant_by, type_recorded}
 use Rattle.lk_check_unit.proofs.NamesTold.{puts_behind}
 use Rattle.lk_check_unit.specs.Later.{AreKnownPending, pending_codes, pending_rules}

@@ -11,13 +11,14 @@ use Rattle.lk_typed.specs.Expressions.{expr_word}
 use Rattle.lk_typed.specs.InitialiserRules.{Object}
 use Rattle.lk_typed.specs.Nodes.{AnInitialiser, at}
 use Rattle.lk_check_decl.specs.declared.initialisers.Target.{Target}
-use Rattle.lk_check_walk.specs.Recorded.{Recorded}
-use Rattle.lk_check_walk.specs.Walks.{IsIn, IsOfInitialiser, IsOfKind, IsSound, TellsTruth}
+use Rattle.lk_found.specs.Recorded.{Recorded}
+use Rattle.lk_found.specs.Findings.{IsOfInitialiser, IsOfKind}
+use Rattle.lk_found.specs.declared.records.InitialiserKind.{InitialiserKind}
+use Rattle.lk_found.specs.declared.records.InitialiserKind.TheVariants.{Value, Word}
+use Rattle.lk_found.proofs.Entries.{adds_put}
+use Rattle.lk_found.proofs.Lasting.{known_longer}
+use Rattle.lk_check_walk.specs.Walks.{IsIn, IsSound, TellsTruth}
 use Rattle.lk_check_walk.specs.declared.checker.Checker.{Checker}
-use Rattle.lk_check_walk.specs.declared.records.InitialiserKind.{InitialiserKind}
-use Rattle.lk_check_walk.specs.declared.records.InitialiserKind.TheVariants.{Value, Word}
-use Rattle.lk_check_walk.proofs.Entries.{adds_put}
-use Rattle.lk_check_walk.proofs.Lasting.{known_longer}
 use Rattle.lk_check_walk.proofs.Recordings.{sound_recorded, walks_recorded, with_records}
 use Rattle.lk_check_unit.specs.Bodies.{Grows}
 use Rattle.lk_check_unit.specs.Initialising.{IsNoWord, IsWord, WalksExpr, object_for}

@@ -25,10 +25,10 @@ use Rattle.lk_typed.specs.Typing.{Typing}
 use Rattle.lk_typed.specs.Typings.{ForEach, IsResult, IsTyping}
 use Rattle.lk_typed.specs.declared.typed.Typed.{Typed}
 use Rattle.lk_check_decl.specs.Breaches.{told}
+use Rattle.lk_found.specs.declared.found.Found.{Found}
 use Rattle.lk_check_walk.proofs.Walking.{no_walk}
 use Rattle.lk_check_walk.specs.Walks.{IsSound, Walks}
 use Rattle.lk_check_walk.specs.declared.checker.Checker.{Checker}
-use Rattle.lk_check_walk.specs.declared.found.Found.{Found}
 use Rattle.lk_check_unit.specs.Bodies.{WalksReturn}
 use Rattle.lk_check_unit.specs.Converting.{IsConvertedFound, IsReturnCode, WalksConverted, conversion_rules, given_rules}
 use Rattle.lk_check_unit.proofs.Asked.{result_found}

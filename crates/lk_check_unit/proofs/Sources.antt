@@ -13,9 +13,9 @@ use Rattle.lk_typed.specs.Nodes.{AnExternal, Placed, at}
 use Rattle.lk_rules.proofs.Kept.{none_broken}
 use Rattle.lk_rules.specs.Keeping.{IsBroken}
 use Rattle.lk_check_decl.specs.declared.words.Scope.TheVariants.{File}
-use Rattle.lk_check_walk.proofs.States.{extend_both}
+use Rattle.lk_found.proofs.Environments.{extend_both}
+use Rattle.lk_found.specs.Keepings.{Codes, KeepsAll, codes_at}
 use Rattle.lk_check_walk.proofs.Truth.{truth_of_node}
-use Rattle.lk_check_walk.specs.Keepings.{Codes, KeepsAll, codes_at}
 use Rattle.lk_check_walk.specs.Walks.{IsSound, Walks, kept_in}
 use Rattle.lk_check_walk.specs.declared.checker.Checker.{Checker}
 use Rattle.lk_check_unit.specs.Bodies.{Grows, IsPlain}

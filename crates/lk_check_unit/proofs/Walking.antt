@@ -18,11 +18,11 @@ use Rattle.lk_names.specs.InScope.{InScope, IsKnownScope, env_in}
 use Rattle.lk_names.specs.declared.names.Mark.{Mark}
 use Rattle.lk_rules.proofs.Kept.{codes_are_kept_behind_parts}
 use Rattle.lk_rules.specs.Keeping.{KeepsCodes, KeepsNodes}
+use Rattle.lk_found.proofs.Environments.{extend_nothing}
+use Rattle.lk_found.proofs.Entries.{is_expression}
+use Rattle.lk_found.specs.Structs.{AreListed}
 use Rattle.lk_check_walk.proofs.Gathers.{both_nothing}
-use Rattle.lk_check_walk.proofs.States.{extend_nothing}
-use Rattle.lk_check_walk.proofs.Entries.{is_expression}
 use Rattle.lk_check_walk.proofs.Truth.{truth_behind, truth_of_node, truth_still}
-use Rattle.lk_check_walk.specs.Structs.{AreListed}
 use Rattle.lk_check_walk.specs.Walks.{IsIn, IsSound, Walks, kept_in, recorded_in}
 use Rattle.lk_check_walk.specs.declared.checker.Checker.{Checker}
 use Rattle.lk_check_unit.specs.Scoping.{Enters, Leaves}

@@ -23,9 +23,9 @@ use Rattle.lk_typed.specs.Statements.{StmtTeller, StmtTold, adding, all_in_turn,
 use Rattle.lk_typed.specs.Ty.{Ty}
 use Rattle.lk_check_decl.specs.Breaches.{told}
 use Rattle.lk_check_decl.specs.Switches.{label_of, switch_of}
+use Rattle.lk_found.specs.declared.found.At.{At}
 use Rattle.lk_check_walk.specs.Walks.{IsIn, IsSound, Walks}
 use Rattle.lk_check_walk.specs.declared.checker.Checker.{Checker}
-use Rattle.lk_check_walk.specs.declared.found.At.{At}
 use Rattle.lk_check_unit.specs.declared.body.Asked.{Asked}
 use Rattle.lk_check_unit.specs.declared.body.Body.{Body}
 

@@ -17,9 +17,10 @@ use Rattle.lk_typed.specs.Meaning.{meaning}
 use Rattle.lk_typed.specs.Nodes.{AnExpression, at}
 use Rattle.lk_typed.specs.Parts.{to_result}
 use Rattle.lk_typed.specs.Ty.{Ty}
-use Rattle.lk_check_walk.specs.Walks.{IsFoundTyping, Walks}
+use Rattle.lk_found.specs.Findings.{IsFoundTyping}
+use Rattle.lk_found.specs.declared.found.Found.{Found}
+use Rattle.lk_check_walk.specs.Walks.{Walks}
 use Rattle.lk_check_walk.specs.declared.checker.Checker.{Checker}
-use Rattle.lk_check_walk.specs.declared.found.Found.{Found}
 use Rattle.lk_check_unit.specs.Bodies.{IsPlain}
 
 abbrev pub role_of : Option Ty → Role

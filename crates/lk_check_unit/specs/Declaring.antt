@@ -24,14 +24,15 @@ use Rattle.lk_check_decl.specs.declared.names.NameUse.{NameUse}
 use Rattle.lk_check_decl.specs.declared.words.Given.{Given}
 use Rattle.lk_check_decl.specs.declared.words.Scope.{Scope}
 use Rattle.lk_check_decl.specs.declared.words.Scope.TheVariants.{File}
-use Rattle.lk_check_walk.specs.Keepings.{Codes, KeepsAll, codes_at}
+use Rattle.lk_found.specs.Keepings.{Codes, KeepsAll, codes_at}
+use Rattle.lk_found.specs.Recorded.{with_declared}
+use Rattle.lk_found.specs.Findings.{IsDeclaredAs}
+use Rattle.lk_found.specs.declared.found.At.{At}
+use Rattle.lk_found.specs.declared.records.DeclaredHere.{DeclaredHere}
 use Rattle.lk_check_walk.specs.Moves.{GoesOn, Grows}
 use Rattle.lk_check_walk.specs.Specifying.{KeepsAt}
-use Rattle.lk_check_walk.specs.Recorded.{with_declared}
-use Rattle.lk_check_walk.specs.Walks.{IsDeclaredAs, IsIn, kept_in, recorded_in}
+use Rattle.lk_check_walk.specs.Walks.{IsIn, kept_in, recorded_in}
 use Rattle.lk_check_walk.specs.declared.checker.Checker.{Checker}
-use Rattle.lk_check_walk.specs.declared.found.At.{At}
-use Rattle.lk_check_walk.specs.declared.records.DeclaredHere.{DeclaredHere}
 use Rattle.lk_check_unit.specs.Later.{pending_codes, pending_rules}
 use Rattle.lk_check_unit.specs.declared.declared.How.{How}
 use Rattle.lk_check_unit.specs.declared.declared.NameFound.{NameFound}

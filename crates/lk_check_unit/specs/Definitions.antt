@@ -26,9 +26,9 @@ use Rattle.lk_typed.specs.Ty.{Ty}
 use Rattle.lk_names.specs.Growing.{InLeftScope, IsKnownLeft, IsMarkOf}
 use Rattle.lk_names.specs.declared.names.Mark.{Mark}
 use Rattle.lk_rules.specs.Keeping.{Kept}
-use Rattle.lk_check_walk.specs.Truth.{IsBegunAmong}
-use Rattle.lk_check_walk.specs.Declarators.{name_codes, scope_told}
-use Rattle.lk_check_walk.specs.Keepings.{Codes, KeepsAll, codes_at}
+use Rattle.lk_found.specs.Truth.{IsBegunAmong}
+use Rattle.lk_found.specs.Declarators.{name_codes, scope_told}
+use Rattle.lk_found.specs.Keepings.{Codes, KeepsAll, codes_at}
 use Rattle.lk_check_walk.specs.Walks.{IsIn, Walks, kept_in}
 use Rattle.lk_check_walk.specs.declared.checker.Checker.{Checker}
 use Rattle.lk_check_unit.specs.Bodies.{IsPlain}

@@ -25,10 +25,10 @@ use Rattle.lk_check_decl.specs.Twins.{scope_of}
 use Rattle.lk_check_decl.specs.declared.initialisers.Target.{Target}
 use Rattle.lk_check_decl.specs.declared.words.Scope.{Scope}
 use Rattle.lk_check_decl.specs.declared.words.Scope.TheVariants.{Block}
-use Rattle.lk_check_walk.specs.Declarators.{name_codes}
+use Rattle.lk_found.specs.Declarators.{name_codes}
+use Rattle.lk_found.specs.declared.gathered.Specified.{Specified}
 use Rattle.lk_check_walk.specs.Walks.{IsIn, Walks, recorded_in}
 use Rattle.lk_check_walk.specs.declared.checker.Checker.{Checker}
-use Rattle.lk_check_walk.specs.declared.gathered.Specified.{Specified}
 use Rattle.lk_check_unit.specs.Bodies.{IsPlain}
 use Rattle.lk_check_unit.specs.Declaring.{KeepsBut, PutsDeclared}
 use Rattle.lk_check_unit.specs.Initialising.{object_for}

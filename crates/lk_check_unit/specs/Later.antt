@@ -14,12 +14,13 @@ use Rattle.lk_typed.specs.Stands.{IsIn as IsAmong}
 use Rattle.lk_typed.specs.Ty.{Ty}
 use Rattle.lk_rules.specs.Keeping.{Kept}
 use Rattle.lk_typed.specs.declared.unit.StructTag.{StructTag}
-use Rattle.lk_check_walk.specs.Keepings.{Codes, KeepsAll, codes_at}
-use Rattle.lk_check_walk.specs.Moves.{KeepsBegun}
-use Rattle.lk_check_walk.specs.Truth.{IsSoInside, NoTag}
-use Rattle.lk_check_walk.specs.Walks.{IsDeclaredAs, IsIn, IsOfName, IsSound, kept_in, mark_at, TellsTruth, TellsOwn}
+use Rattle.lk_found.specs.Keepings.{Codes, KeepsAll, codes_at}
+use Rattle.lk_found.specs.Begun.{KeepsBegun}
+use Rattle.lk_found.specs.Truth.{IsSoInside, NoTag}
+use Rattle.lk_found.specs.Findings.{IsDeclaredAs, IsOfName, mark_at}
+use Rattle.lk_found.specs.declared.records.DeclaredHere.{DeclaredHere}
+use Rattle.lk_check_walk.specs.Walks.{IsIn, IsSound, kept_in, TellsTruth, TellsOwn}
 use Rattle.lk_check_walk.specs.declared.checker.Checker.{Checker}
-use Rattle.lk_check_walk.specs.declared.records.DeclaredHere.{DeclaredHere}
 use Rattle.lk_check_unit.specs.declared.pending.Pending.{Pending}
 
 -- these nodes are walked, but for these codes, in whatever order others are kept

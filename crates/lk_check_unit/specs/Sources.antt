@@ -20,11 +20,11 @@ use Rattle.lk_typed.specs.declared.entity.Use.{Use}
 use Rattle.lk_check_decl.specs.declared.words.Scope.TheVariants.{File}
 use Rattle.lk_typed.specs.Structs.{IsTagOf}
 use Rattle.lk_typed.specs.declared.unit.StructTag.{StructTag}
-use Rattle.lk_check_walk.specs.Recorded.{Recorded}
-use Rattle.lk_check_walk.specs.Truth.{IsSoInside}
-use Rattle.lk_check_walk.specs.Structs.{AreListed}
-use Rattle.lk_check_walk.specs.Uses.{HasUses, IsOfUse, IsOfWord, taken_in, word_in}
-use Rattle.lk_check_walk.specs.Walks.{IsOfExpression, IsOfInitialiser, IsOfName, IsOfTypeName, refusal_of}
+use Rattle.lk_found.specs.Recorded.{Recorded}
+use Rattle.lk_found.specs.Truth.{IsSoInside}
+use Rattle.lk_found.specs.Structs.{AreListed}
+use Rattle.lk_found.specs.Uses.{HasUses, IsOfUse, IsOfWord, taken_in, word_in}
+use Rattle.lk_found.specs.Findings.{IsOfExpression, IsOfInitialiser, IsOfName, IsOfTypeName, refusal_of}
 use Rattle.lk_check_walk.specs.declared.checker.Checked.{Checked}
 use Rattle.lk_check_walk.specs.declared.checker.Checker.{Checker}
 use Rattle.lk_predeclared.specs.Beginning.{IsOutsideOf}

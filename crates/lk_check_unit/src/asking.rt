@@ -15,7 +15,8 @@ ghost use Rattle.lk_check_unit.specs.Bodies.{Asks, Grows, IsKnownResult, IsPlain
 use crate::body::{Asked, Body};
 use lk_base::{Kind, NoMemory};
 use lk_check_decl::{condition_code, dropped_code, switch_code};
-use lk_check_walk::{Checker, Stands};
+use lk_check_walk::Checker;
+use lk_found::Stands;
 use lk_tree::Expr;
 use lk_typed::{Constant, ExprType, Role, Typed, kind_of, value};
 use lk_types::TypeTable;

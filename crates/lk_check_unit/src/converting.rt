@@ -5,7 +5,7 @@ ghost use Rattle.lk_typed.specs.Meaning.{meaning, meaning_of, IsKnownType};
 ghost use Rattle.lk_typed.specs.Names.{role_in, IsKnownRole};
 ghost use Rattle.lk_check_unit.specs.Converting.{role_of};
 
-use lk_check_walk::Stands;
+use lk_found::Stands;
 use lk_typed::{ExprType, Role};
 use lk_types::TypeId;
 

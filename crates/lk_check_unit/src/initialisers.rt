@@ -12,7 +12,8 @@ use crate::seen::{braces_code, found_code, part_of, target_type, word_code};
 use crate::written::{braces_of, text_of, word_type};
 use lk_base::{Code, NoMemory};
 use lk_check_decl::Target;
-use lk_check_walk::{At, Checker, InitialiserKind};
+use lk_check_walk::Checker;
+use lk_found::{At, InitialiserKind};
 use lk_tree::{Entry, Expr, Init, InitList};
 use lk_types::TypeId;
 

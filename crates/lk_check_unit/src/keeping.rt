@@ -5,7 +5,8 @@ ghost use Rattle.lk_check_walk.specs.Walks.{Tells};
 ghost use Rattle.lk_check_unit.specs.Bodies.{at_stmt, name_told};
 
 use lk_base::{Code, NoMemory};
-use lk_check_walk::{At, Checker};
+use lk_check_walk::Checker;
+use lk_found::At;
 use lk_tree::{Stmt, StmtForm};
 
 /// Keeps the code of a statement, where there is one: that of a label and of a `goto` tells its name.

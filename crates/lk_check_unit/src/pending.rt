@@ -1,6 +1,6 @@
 //! Tentative definitions (C99 6.9.2, 2).
 
-use lk_check_walk::At;
+use lk_found::At;
 use lk_types::TypeId;
 
 /// An object of which is asked at the end of the source whether its type is complete.

@@ -10,15 +10,15 @@ ghost use Rattle.lk_typed.specs.Typing.{Typing};
 ghost use Rattle.lk_typed.specs.Typings.{structs_in, HasKnownFields, IsOperand, IsTyping};
 ghost use Rattle.lk_check_decl.specs.Breaches.{told};
 ghost use Rattle.lk_check_decl.specs.Initialisers.{braces_of, IsKnownSeen, IsSeen};
-ghost use Rattle.lk_check_walk.specs.Addresses.{kept_of};
-ghost use Rattle.lk_check_walk.specs.Judging.{HasOperand};
+ghost use Rattle.lk_found.specs.Addresses.{kept_of};
+ghost use Rattle.lk_found.specs.Judging.{HasOperand};
 ghost use Rattle.lk_check_unit.specs.Initialising.{braces_rules, object_for, object_type, seen_rules};
 ghost use Rattle.lk_check_unit.specs.Initialising.{typed_rules, typed_seen, word_seen, IsInitCode};
 ghost use Rattle.lk_check_unit.specs.Initialising.{IsKnownTarget};
 
 use lk_base::Code;
 use lk_check_decl::{Braces, Seen, Target, entry_target, expression_code, list_code};
-use lk_check_walk::{Address, Found, is_address, value_address};
+use lk_found::{Address, Found, is_address, value_address};
 use lk_typed::{Constant, ExprType, Members, Typed, convert_code, value};
 use lk_types::{TypeId, TypeTable};
 

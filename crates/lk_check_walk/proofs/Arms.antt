@@ -8,7 +8,7 @@ use Rattle.lk_types.specs.Table.{Table, IsKnown}
 use Rattle.lk_types.proofs.GrowLemmas.{longer_then}
 use Rattle.lk_tree.specs.declared.expression.DeclaratorForm.TheOpen.{ExprForm-F}
 use Rattle.lk_tree.specs.declared.expression.Expr.{Expr}
-use Rattle.lk_tree.specs.declared.expression.ExprForm.{ExprForm, out-ExprForm, roll-ExprForm, out-roll-ExprForm}
+use Rattle.lk_tree.specs.declared.expression.ExprForm.{out-ExprForm}
 use Rattle.lk_tree.specs.declared.expression.TypeName.{TypeName}
 use Rattle.lk_tree.specs.declared.operators.AssignOperator.{AssignOperator}
 use Rattle.lk_tree.specs.declared.operators.BinaryOperator.{BinaryOperator}
@@ -25,27 +25,22 @@ use Rattle.lk_typed.specs.Ty.{Ty, is_function}
 use Rattle.lk_typed.specs.Typing.{Judged, Named, Typing}
 use Rattle.lk_names.specs.InScope.{env_in}
 use Rattle.lk_rules.specs.Laws.{name_found}
-use Rattle.lk_check_walk.specs.Arguments.{IsGiven, JudgesArguments, added_by, arguments_placed, found_of, function_in, nodes_of}
-use Rattle.lk_check_walk.specs.Judging.{HasKnownType, HasOperand}
+use Rattle.lk_found.specs.Arguments.{IsGiven, added_by, arguments_placed, found_of, function_in, nodes_of}
+use Rattle.lk_found.specs.Judging.{HasKnownType, HasOperand}
+use Rattle.lk_found.specs.Findings.{IsFound, IsFoundType, IsFoundTyping, JudgedForm}
+use Rattle.lk_found.specs.declared.arguments.Given.{Given}
+use Rattle.lk_found.specs.declared.found.Found.{Found}
+use Rattle.lk_found.specs.declared.found.Stands.{Stands}
+use Rattle.lk_found.specs.declared.found.TypeFound.{TypeFound}
+use Rattle.lk_found.proofs.Argued.{given_elsewhere}
+use Rattle.lk_found.proofs.Lasting.{found_elsewhere, found_longer, found_operand}
+use Rattle.lk_found.proofs.Forms.{Layer, form_in, in_role}
+use Rattle.lk_check_walk.specs.Arguments.{JudgesArguments}
 use Rattle.lk_check_walk.specs.Walking.{AreJudged, IsFormJudged, IsFurther, Judges, JudgesForm, JudgesSides, JudgesTwo, NamesType, behind_operand, operand_in}
-use Rattle.lk_check_walk.specs.Walks.{IsFound, IsFoundType, IsFoundTyping, IsIn, IsSound, JudgedForm, Settles, StandsIn, Walks}
-use Rattle.lk_check_walk.specs.declared.arguments.Given.{Given}
+use Rattle.lk_check_walk.specs.Walks.{IsIn, IsSound, Settles, StandsIn, Walks}
 use Rattle.lk_check_walk.specs.declared.checker.Checker.{Checker}
-use Rattle.lk_check_walk.specs.declared.found.Found.{Found}
-use Rattle.lk_check_walk.specs.declared.found.Stands.{Stands}
-use Rattle.lk_check_walk.specs.declared.found.TypeFound.{TypeFound}
-use Rattle.lk_check_walk.proofs.Argued.{given_elsewhere}
 use Rattle.lk_check_walk.proofs.Further.{role_further}
-use Rattle.lk_check_walk.proofs.Lasting.{found_elsewhere, found_longer, found_operand}
-use Rattle.lk_check_walk.proofs.Walking.{Layer, form_in, in_any_role, judged_as, no_walk, parts_of_layer, then_walks, walks_in}
-
--- an expression of a form is of its layer
-pub layer_is : (e : Expr) (f : ExprForm) (layer : Layer) → e.form ≡ f → roll-ExprForm layer ≡ f → out-ExprForm e.form ≡ layer
-layer_is e f layer is rolls = ap out-ExprForm (is ∙ sym rolls) ∙ out-roll-ExprForm layer
-
--- the environment of a part that stands as something else
-abbrev pub in_role : Env → Role → Env
-in_role env role = record env { role = role }
+use Rattle.lk_check_walk.proofs.Walking.{in_any_role, judged_as, no_walk, parts_of_layer, then_walks, walks_in}
 
 pub stands_inside : (checker : Checker) (stands inner : Stands) (env : Env) (role : Role) → StandsIn checker stands env → role_in checker.types inner.role ≡ role → inner.in_size ≡ stands.in_size →
     StandsIn checker inner (in_role env role)

@@ -25,29 +25,31 @@ use Rattle.lk_rules.proofs.Kept.{codes_are_kept_behind_parts}
 use Rattle.lk_rules.proofs.Layered.{items_follow_their_parts}
 use Rattle.lk_rules.specs.Keeping.{KeepsCodes}
 use Rattle.lk_rules.specs.NodeLaws.{has_type_if_there}
+use Rattle.lk_names.specs.InScope.{InScope}
+use Rattle.lk_types.specs.Building.{IsLonger}
+use Rattle.lk_types.proofs.GrowLemmas.{longer_then}
+use Rattle.lk_typed.specs.Names.{role_in}
+use Rattle.lk_typed.specs.declared.role.Role.TheVariants.{Operand}
+use Rattle.lk_found.proofs.Gathering.{or_false}
+use Rattle.lk_found.proofs.Keepings.{unnamed_none}
+use Rattle.lk_found.proofs.Environments.{extend_both}
+use Rattle.lk_found.specs.Keepings.{AreUnnamed}
+use Rattle.lk_found.specs.Findings.{IsFoundTyping, mark_at}
+use Rattle.lk_found.specs.declared.found.At.{At}
+use Rattle.lk_found.specs.declared.found.Found.{Found}
+use Rattle.lk_found.specs.declared.found.Stands.{Stands}
 use Rattle.lk_check_walk.proofs.Arms.{somewhere}
-use Rattle.lk_check_walk.proofs.Gathers.{or_assoc, or_false, stands_behind}
-use Rattle.lk_check_walk.proofs.Keepings.{unnamed_none}
-use Rattle.lk_check_walk.proofs.States.{extend_both}
+use Rattle.lk_check_walk.proofs.Gathers.{or_assoc, stands_behind}
 use Rattle.lk_check_walk.proofs.Walking.{no_walk, then_walks}
 use Rattle.lk_check_walk.specs.Counting.{AreItems, Counts, CountsAll, IsItem, IsSettled}
-use Rattle.lk_check_walk.specs.Keepings.{AreUnnamed}
 use Rattle.lk_check_walk.specs.Moves.{GoesOn, Grows}
 use Rattle.lk_check_walk.specs.Specifying.{IsSame}
 use Rattle.lk_check_walk.proofs.KeepsAll.{in_same}
 use Rattle.lk_check_walk.proofs.Truth.{truth_of_node, truth_still}
-use Rattle.lk_names.specs.InScope.{InScope}
-use Rattle.lk_types.specs.Building.{IsLonger}
-use Rattle.lk_types.proofs.GrowLemmas.{longer_then}
 use Rattle.lk_check_walk.specs.Walking.{IsJudged, operand_in}
-use Rattle.lk_check_walk.specs.Walks.{IsFoundTyping, IsIn, IsSound, StandsIn, Walks, kept_in, mark_at}
+use Rattle.lk_check_walk.specs.Walks.{IsIn, IsSound, StandsIn, Walks, kept_in}
 use Rattle.lk_check_walk.specs.declared.checker.Checker.{Checker}
 use Rattle.lk_check_walk.specs.declared.enumerators.ItemFound.{ItemFound}
-use Rattle.lk_check_walk.specs.declared.found.At.{At}
-use Rattle.lk_check_walk.specs.declared.found.Found.{Found}
-use Rattle.lk_check_walk.specs.declared.found.Stands.{Stands}
-use Rattle.lk_typed.specs.Names.{role_in}
-use Rattle.lk_typed.specs.declared.role.Role.TheVariants.{Operand}
 
 -- ---- one behind others
 

@@ -1,19 +1,14 @@
 -- The arms of the walk over a specifier.
-use Rattle.std.proofs.Common.{◌≡◌, ◌∙◌, ◌++◌, ℕ, zero, suc, arith, Bool, true, false, List, [], ◌∷◌, Option, Some, None, map, refl, sym, ap, subst}
-use Rattle.std.specs.Prelude.{◌||◌, ◌<◌, not, length, if◌then◌else◌, slice_get, slice_set}
-use Rattle.std.proofs.lemmas.Bool.{false≢true}
-use Rattle.std.proofs.lemmas.List.{length-set}
-use Rattle.std.proofs.lemmas.Option.{slice_get_within}
+use Rattle.std.proofs.Common.{◌≡◌, ◌∙◌, ◌++◌, ℕ, Bool, List, [], ◌∷◌, Option, Some, None, map, refl, sym, ap, subst}
+use Rattle.std.specs.Prelude.{if◌then◌else◌, slice_get}
 use Rattle.std.proofs.lemmas.List.{append-nil}
 use Rattle.lk_types.specs.Building.{IsLonger}
-use Rattle.lk_types.specs.Table.{Table, is_empty}
+use Rattle.lk_types.specs.Table.{Table}
 use Rattle.lk_types.proofs.GrowLemmas.{longer_same, longer_then}
 use Rattle.lk_tree.specs.declared.expression.Item.{Item}
 use Rattle.lk_tree.specs.declared.expression.Member.{Member}
-use Rattle.lk_tree.specs.declared.expression.Specifier.{Specifier, out-Specifier, out-roll-Specifier, roll-Specifier}
-use Rattle.lk_tree.specs.declared.specifiers.Storage.{Storage}
-use Rattle.lk_tree.specs.declared.specifiers.TypeWord.{TypeWord}
-use Rattle.lk_typed.specs.Env.{AnEnumTag, Additions, Completes, Env, Faulty, Known, Name, both, extend, nothing}
+use Rattle.lk_tree.specs.declared.expression.Specifier.{Specifier, out-Specifier}
+use Rattle.lk_typed.specs.Env.{AnEnumTag, Additions, Completes, Env, Name, both, extend, nothing}
 use Rattle.lk_typed.specs.Expressions.{item_found, member_found, specifier_found}
 use Rattle.lk_typed.specs.Faults.{Breach}
 use Rattle.lk_typed.specs.HolderRules.{one_tag_rules, optional_tag_rules}
@@ -22,38 +17,38 @@ use Rattle.lk_typed.specs.Parts.{items_parts, members_parts, specifier_parts}
 use Rattle.lk_typed.specs.Redeclared.{DefinesEnum, DefinesStruct, may_use}
 use Rattle.lk_typed.specs.Structs.{struct_begun}
 use Rattle.lk_typed.specs.Telling.{of_specifier}
-use Rattle.lk_typed.specs.Told.{MemberTold, SpecifierTold, before_first, enum_defined, items_hold_sizeof, items_in_turn, known_or_faulty, members_in_turn, members_made, no_specifier, of_type_alone, steps, struct_begins, struct_defined, struct_meant_by, tag_additions, tag_found, then_specifier}
+use Rattle.lk_typed.specs.Told.{MemberTold, SpecifierTold, before_first, enum_defined, items_hold_sizeof, items_in_turn, members_in_turn, members_made, of_type_alone, steps, struct_begins, struct_defined, struct_meant_by, tag_additions, tag_found, then_specifier}
 use Rattle.lk_typed.specs.Ty.{Struct, Ty, int}
-use Rattle.lk_typed.specs.Typings.{field_in}
-use Rattle.lk_typed.specs.declared.members.Field.{Field as CodeField}
-use Rattle.lk_typed.specs.declared.members.Members.{Members as CodeMembers}
-use Rattle.lk_typed.specs.declared.members.Members.TheVariants as code
 use Rattle.lk_typed.specs.declared.members.Members.TheVariants.{Begun}
 use Rattle.lk_typed.specs.declared.unit.StructTag.{StructTag}
 use Rattle.lk_rules.proofs.Kept.{nothing_is_kept}
 use Rattle.lk_rules.proofs.Layered.{specifiers_follow_their_forms}
 use Rattle.lk_rules.specs.Keeping.{KeepsNodes}
 use Rattle.lk_rules.specs.LayerLaws.{SpecifierTree, specifier_parts_told}
-use Rattle.lk_check_walk.proofs.Gathers.{both_assoc, or_false, stands_behind}
+use Rattle.lk_names.specs.InScope.{InScope}
+use Rattle.lk_found.proofs.Environments.{extend_both}
+use Rattle.lk_found.specs.MembersOf.{AreMembers}
+use Rattle.lk_found.specs.Begun.{KeepsBegun, definition_begun}
+use Rattle.lk_found.specs.Specified.{IsGathered}
+use Rattle.lk_found.specs.Specifying.{IsTagUse, KeepsOthersBegun, PutsType}
+use Rattle.lk_found.specs.Truth.{IsBegunBy, NoTag}
+use Rattle.lk_found.specs.declared.fields.MembersFound.{MembersFound}
+use Rattle.lk_found.specs.declared.gathered.Gathered.{Gathered}
+use Rattle.lk_found.proofs.Defines.{typed_put}
+use Rattle.lk_check_walk.proofs.Gathers.{both_assoc, stands_behind}
 use Rattle.lk_check_walk.proofs.KeepsAll.{sound_same}
 use Rattle.lk_check_walk.proofs.NamedTypes.{gathered_stays}
-use Rattle.lk_names.specs.InScope.{InScope}
-use Rattle.lk_check_walk.proofs.States.{extend_both}
 use Rattle.lk_check_walk.proofs.Walking.{no_walk, walks_as, walks_then}
 use Rattle.lk_check_walk.proofs.Truth.{begun_told, told_still, truth_same}
 use Rattle.lk_check_walk.specs.Counting.{CountsAll}
-use Rattle.lk_check_walk.specs.MembersOf.{AreMembers, FindsAll}
-use Rattle.lk_check_walk.specs.Moves.{GoesOn, Grows, GrowsAlone, KeepsBegun, RecordsTag, definition_begun}
+use Rattle.lk_check_walk.specs.MembersOf.{FindsAll}
+use Rattle.lk_check_walk.specs.Moves.{GoesOn, Grows, GrowsAlone, RecordsTag}
 use Rattle.lk_check_walk.specs.Naming.{IsSpecifierPut}
-use Rattle.lk_check_walk.specs.Specified.{AreOthers, IsGathered}
-use Rattle.lk_check_walk.specs.Specifying.{AreGathered, BeginsStruct, IsSame, IsTagUse, KeepsOthersBegun, PutsType}
+use Rattle.lk_check_walk.specs.Specifying.{AreGathered, BeginsStruct, IsSame}
 use Rattle.lk_check_walk.specs.Walking.{IsFurther, operand_in}
-use Rattle.lk_check_walk.specs.Truth.{IsBegunBy, NoTag}
 use Rattle.lk_check_walk.specs.Walks.{IsIn, IsSound, StandsIn, TellsOwn, Walks, WalksOwn, kept_in, recorded_in}
 use Rattle.lk_check_walk.specs.declared.checker.Checker.{Checker}
 use Rattle.lk_check_walk.specs.declared.defining.BegunStruct.{BegunStruct}
-use Rattle.lk_check_walk.specs.declared.fields.MembersFound.{MembersFound}
-use Rattle.lk_check_walk.specs.declared.gathered.Gathered.{Gathered}
 
 -- ---- walks that keep no code
 
@@ -115,35 +110,6 @@ word_gathered at_end checker env told before after none sound is put = record {
   gathered = λ others codes gathered. subst (IsGathered checker.types after (then_specifier others told)) (sym (append-nil codes)) (put others codes gathered);
 }
 
-pub storage_put : (table : Table) (g : Gathered) (others : SpecifierTold) (codes : List Breach) (word : Storage) →
-    IsGathered table g (record others { storages = others.storages ++ word ∷ [] }) codes → IsGathered table g (then_specifier others (record no_specifier { storages = word ∷ [] })) codes
-storage_put table g others codes word is = record {
-  storages = is.storages;
-  words = is.words ∙ sym (append-nil others.words);
-  types = subst (AreOthers table g.others) (sym (append-nil others.types)) is.types;
-  holds_sizeof = is.holds_sizeof ∙ sym (or_false others.holds_sizeof);
-  breaches = is.breaches;
-}
-
-pub word_put : (table : Table) (g : Gathered) (others : SpecifierTold) (codes : List Breach) (word : TypeWord) →
-    IsGathered table g (record others { words = others.words ++ word ∷ [] }) codes → IsGathered table g (then_specifier others (record no_specifier { words = word ∷ [] })) codes
-word_put table g others codes word is = record {
-  storages = is.storages ∙ sym (append-nil others.storages);
-  words = is.words;
-  types = subst (AreOthers table g.others) (sym (append-nil others.types)) is.types;
-  holds_sizeof = is.holds_sizeof ∙ sym (or_false others.holds_sizeof);
-  breaches = is.breaches;
-}
-
-pub nothing_put : (table : Table) (g : Gathered) (others : SpecifierTold) (codes : List Breach) → IsGathered table g others codes → IsGathered table g (then_specifier others no_specifier) codes
-nothing_put table g others codes is = record {
-  storages = is.storages ∙ sym (append-nil others.storages);
-  words = is.words ∙ sym (append-nil others.words);
-  types = subst (AreOthers table g.others) (sym (append-nil others.types)) is.types;
-  holds_sizeof = is.holds_sizeof ∙ sym (or_false others.holds_sizeof);
-  breaches = is.breaches;
-}
-
 -- a name of a type, at which a struct may begin
 pub begun_gathered : (begun : Option (Option Name)) (at_end : Env) (old new : Checker) (env : Env) (told : SpecifierTold) (broken : List Breach) (before after : Gathered) → IsFurther old new →
     kept_in new ≡ kept_in old → RecordsTag old new env begun → IsSpecifierPut old new env before after told broken → AreGathered (IsBegunBy begun env) at_end old new env told broken [] before after
@@ -158,19 +124,6 @@ pub named_gathered : (at_end : Env) (old new : Checker) (env : Env) (told : Spec
 named_gathered at_end old new env told broken before after further kept same put = record {
   walks = grow_walks NoTag at_end old new env told.additions further kept (truth_same at_end old new same) put.behind;
   gathered = put.gathered;
-}
-
--- ---- one more type, behind nodes in which a sizeof may stand
-
-typed_put : (table : Table) (g : Gathered) (others : SpecifierTold) (codes : List Breach) (more : Additions) (t : Option Ty) (holds : Bool) →
-    IsGathered table g (record others { types = others.types ++ t ∷ []; holds_sizeof = others.holds_sizeof || holds }) codes →
-    IsGathered table g (then_specifier others (record (of_type_alone more t) { holds_sizeof = holds })) codes
-typed_put table g others codes more t holds is = record {
-  storages = is.storages ∙ sym (append-nil others.storages);
-  words = is.words ∙ sym (append-nil others.words);
-  types = is.types;
-  holds_sizeof = is.holds_sizeof;
-  breaches = is.breaches;
 }
 
 -- the code of the tag, then nodes, then the type
@@ -252,59 +205,8 @@ module _ (at_end : Env) (old middle new : Checker) (in_size : Bool) (env : Env) 
       (subst (λ b. PutsType middle.types new.types between after (enum_type b) (items_hold_sizeof (map item_found is) env before_first)) use_of.may
       (subst (PutsType middle.types new.types between after (enum_type admitted)) all.holds_sizeof type)) whole
 
--- ---- what has begun
-
-abbrev is_begun : Option CodeMembers → Bool
-is_begun None = false
-is_begun (Some code.NotYet) = false
-is_begun (Some code.Begun) = true
-is_begun (Some (code.Known fields)) = false
-is_begun (Some code.Faulty) = false
-
-pub not_yet_begun : (o : Option CodeMembers) → o ≡ Some code.NotYet → o ≡ Some code.Begun → ⊥
-not_yet_begun o not_yet begun = false≢true (ap is_begun (sym not_yet ∙ begun))
-
--- ---- the members that a struct has in the end
-
-pub faulty_by : (table : Table) (b : Bool) (fields : List CodeField) → (not b || is_empty fields) ≡ true → (if b then known_or_faulty (map (field_in table) fields) else Faulty) ≡ Faulty
-faulty_by table true [] is = refl
-faulty_by table true (f ∷ fs) is = absurd (false≢true is)
-faulty_by table false fields is = refl
-
-pub known_by : (table : Table) (b : Bool) (fields : List CodeField) → (not b || is_empty fields) ≡ false →
-    (if b then known_or_faulty (map (field_in table) fields) else Faulty) ≡ Known (map (field_in table) fields)
-known_by table true [] is = absurd (false≢true (sym is))
-known_by table true (f ∷ fs) is = refl
-known_by table false fields is = absurd (false≢true (sym is))
-
-pub made_of_members : (table : Table) (found : MembersFound) (told : MemberTold) → AreMembers table found told →
-    members_made told ≡ (if found.is_sound then known_or_faulty (map (field_in table) found.fields.items) else Faulty)
-made_of_members table found told are =
-    ap (λ b. if b then known_or_faulty told.fields else Faulty) (sym are.sound) ∙ ap (λ fs. if found.is_sound then known_or_faulty fs else Faulty) (sym are.fields)
-
-set_there : {X : Type 0} (xs : List X) (s r : ℕ) (x : X) → (s ≡ r → ⊥) → slice_get (slice_set xs s x) r ≡ slice_get xs r
-set_there [] s r x apart = refl
-set_there (y ∷ xs) zero zero x apart = absurd (apart refl)
-set_there (y ∷ xs) zero (suc r) x apart = refl
-set_there (y ∷ xs) (suc s) zero x apart = refl
-set_there (y ∷ xs) (suc s) (suc r) x apart = set_there xs s r x (λ same. apart (ap suc same))
-
--- a struct that comes to an end is begun no more, all others are
-pub others_stay : (xs : List CodeMembers) (s : ℕ) (m : CodeMembers) (new : List CodeMembers) → new ≡ slice_set xs s m → KeepsOthersBegun s xs new
-others_stay xs s m new is t apart begun = ap (λ ms. slice_get ms t) is ∙ set_there xs s t m (λ same. apart (sym same)) ∙ begun
-
-pub within_still : (xs : List CodeMembers) (s : ℕ) (m : CodeMembers) (new : List CodeMembers) → new ≡ slice_set xs s m → slice_get xs s ≡ Some code.Begun → s < length new
-within_still xs s m new is begun = subst (λ (ms : List CodeMembers). s < length ms) (sym is) (let within = slice_get_within xs s code.Begun begun in omega (arith, within, length-set xs s m))
-
 pub grows_then : (a b c : Checker) → Grows a b → Grows b c → Grows a c
 grows_then a b c f g = record { longer = longer_then a.types b.types c.types f.longer g.longer; sound = g.sound; outside = g.outside ∙ f.outside; kept = g.kept ∙ f.kept; records = g.records ∙ f.records }
-
-pub int_flipped : (b : Bool) → (if not b then None else Some int) ≡ (if b then Some int else None)
-int_flipped true = refl
-int_flipped false = refl
-
-pub spec_layer : (s f : Specifier) (layer : SpecifierTree) → s ≡ f → roll-Specifier layer ≡ f → out-Specifier s ≡ layer
-spec_layer s f layer is rolls = ap out-Specifier (is ∙ sym rolls) ∙ out-roll-Specifier layer
 
 pub further_refl : (checker : Checker) → IsSound checker → IsFurther checker checker
 further_refl checker sound = record { longer = longer_same checker.types; sound = sound; outside = refl; begun = λ s begun. begun }

@@ -34,30 +34,34 @@ use Rattle.lk_rules.proofs.Layered.{member_declarators_follow_their_forms, membe
 use Rattle.lk_rules.proofs.Parts.{members_are_asked, types_of_parts_in_turn}
 use Rattle.lk_rules.specs.Keeping.{KeepsCodes, KeepsNodes}
 use Rattle.lk_rules.specs.LayerLaws.{MemberDeclaratorTree, member_declarator_parts_told}
-use Rattle.lk_check_walk.specs.Truth.{IsBegunAmong, NoTag}
+use Rattle.lk_found.specs.Truth.{IsBegunAmong, NoTag}
+use Rattle.lk_found.proofs.FieldsGrow.{members_grow}
+use Rattle.lk_found.proofs.Gathering.{or_false}
+use Rattle.lk_found.proofs.Shaping.{known_stays}
+use Rattle.lk_found.specs.Declarators.{KeepsUse, left_of}
+use Rattle.lk_found.specs.Keepings.{KeepsEach}
+use Rattle.lk_found.specs.MembersOf.{AreMembers, HasFields, found_of, member_codes, member_of, width_told}
+use Rattle.lk_found.specs.Specified.{breaches_in}
+use Rattle.lk_found.specs.Findings.{mark_at}
+use Rattle.lk_found.specs.declared.declarators.Asked.{Asked}
+use Rattle.lk_found.specs.declared.declarators.DeclaratorFound.{DeclaratorFound}
+use Rattle.lk_found.specs.declared.fields.MembersFound.{MembersFound}
+use Rattle.lk_found.specs.declared.found.At.{At}
+use Rattle.lk_found.specs.declared.found.Found.{Found}
+use Rattle.lk_found.specs.declared.gathered.Specified.{Specified}
 use Rattle.lk_check_walk.proofs.Counts.{operand_holds, operand_typed, operand_walks}
-use Rattle.lk_check_walk.proofs.FieldsGrow.{members_grow}
-use Rattle.lk_check_walk.proofs.Gathers.{both_assoc, both_nothing, or_assoc, or_false, stands_behind}
+use Rattle.lk_check_walk.proofs.Gathers.{both_assoc, both_nothing, or_assoc, stands_behind}
 use Rattle.lk_check_walk.proofs.Inside.{use_kept}
 use Rattle.lk_check_walk.proofs.KeepsAll.{in_same, sound_same}
 use Rattle.lk_check_walk.proofs.NamedTypes.{type_stays}
-use Rattle.lk_check_walk.proofs.Shaping.{known_stays}
 use Rattle.lk_check_walk.proofs.Walking.{no_walk, then_walks, walks_then}
 use Rattle.lk_check_walk.proofs.Truth.{truth_still, told_of_node, told_still}
-use Rattle.lk_check_walk.specs.Declarators.{IsDeclared, KeepsUse, left_of}
-use Rattle.lk_check_walk.specs.Keepings.{KeepsEach}
-use Rattle.lk_check_walk.specs.MembersOf.{AreAll, AreDeclared, AreFound, AreMembers, DeclaresField, DeclaresMember, DeclaresMembers, DeclaresWidth, FindsAll, FindsMember, HasFields, PutsMember, found_of, member_codes, member_of, width_told}
-use Rattle.lk_check_walk.specs.Specified.{breaches_in}
+use Rattle.lk_check_walk.specs.Declarators.{IsDeclared}
+use Rattle.lk_check_walk.specs.MembersOf.{AreAll, AreDeclared, AreFound, DeclaresField, DeclaresMember, DeclaresMembers, DeclaresWidth, FindsAll, FindsMember, PutsMember}
 use Rattle.lk_check_walk.specs.Specifying.{AreSpecified, IsSame, KeepsAt}
 use Rattle.lk_check_walk.specs.Walking.{IsFurther, IsJudged, operand_in}
-use Rattle.lk_check_walk.specs.Walks.{IsIn, IsSound, StandsIn, Walks, kept_in, mark_at}
+use Rattle.lk_check_walk.specs.Walks.{IsIn, IsSound, StandsIn, Walks, kept_in}
 use Rattle.lk_check_walk.specs.declared.checker.Checker.{Checker}
-use Rattle.lk_check_walk.specs.declared.declarators.Asked.{Asked}
-use Rattle.lk_check_walk.specs.declared.declarators.DeclaratorFound.{DeclaratorFound}
-use Rattle.lk_check_walk.specs.declared.fields.MembersFound.{MembersFound}
-use Rattle.lk_check_walk.specs.declared.found.At.{At}
-use Rattle.lk_check_walk.specs.declared.found.Found.{Found}
-use Rattle.lk_check_walk.specs.declared.gathered.Specified.{Specified}
 
 -- ---- what members tell together
 

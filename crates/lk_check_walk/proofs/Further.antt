@@ -10,13 +10,13 @@ use Rattle.lk_typed.specs.Typings.{IsOperand}
 use Rattle.lk_typed.specs.declared.role.Role.{Role}
 use Rattle.lk_typed.specs.declared.role.Role.TheVariants as role
 use Rattle.lk_typed.specs.declared.typed.Typed.{Typed}
-use Rattle.lk_check_walk.specs.Judging.{HasKnownType, HasOperand}
+use Rattle.lk_found.specs.Judging.{HasKnownType, HasOperand}
+use Rattle.lk_found.specs.declared.found.Found.{Found}
+use Rattle.lk_found.specs.declared.found.TypeFound.{TypeFound}
+use Rattle.lk_found.proofs.Lasting.{expr_type_longer, known_longer, operand_longer, type_known_longer}
 use Rattle.lk_check_walk.specs.Walking.{IsFurther}
 use Rattle.lk_check_walk.specs.Walks.{IsSound}
 use Rattle.lk_check_walk.specs.declared.checker.Checker.{Checker}
-use Rattle.lk_check_walk.specs.declared.found.Found.{Found}
-use Rattle.lk_check_walk.specs.declared.found.TypeFound.{TypeFound}
-use Rattle.lk_check_walk.proofs.Lasting.{expr_type_longer, known_longer, operand_longer, type_known_longer}
 
 pub no_further : (checker : Checker) → IsSound checker → IsFurther checker checker
 no_further checker sound = record { longer = longer_same checker.types; sound = sound; outside = refl; begun = λ s begun. begun }

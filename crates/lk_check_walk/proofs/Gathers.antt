@@ -19,17 +19,18 @@ use Rattle.lk_typed.specs.Structs.StandsAmong.{first, later}
 use Rattle.lk_typed.specs.Told.{SpecifierTold, no_specifier, then_specifier}
 use Rattle.lk_typed.specs.Ty.{Ty}
 use Rattle.lk_typed.specs.declared.unit.StructTag.{StructTag}
+use Rattle.lk_found.proofs.Environments.{extend_both, extend_nothing}
+use Rattle.lk_found.specs.Specified.{IsGathered, IsSpecified}
+use Rattle.lk_found.specs.Truth.{IsBegunAmong, IsBegunBy, NoTag}
+use Rattle.lk_found.specs.declared.gathered.Gathered.{Gathered}
+use Rattle.lk_found.specs.declared.gathered.Specified.{Specified}
+use Rattle.lk_found.proofs.Gathering.{or_false}
 use Rattle.lk_check_walk.proofs.Arms.{somewhere}
-use Rattle.lk_check_walk.proofs.States.{extend_both, extend_nothing}
 use Rattle.lk_check_walk.proofs.Walking.{no_walk, walks_as, walks_then}
-use Rattle.lk_check_walk.specs.Specified.{IsGathered, IsSpecified}
 use Rattle.lk_check_walk.specs.Specifying.{AreGathered, AreSpecified, Gathers, Specifies}
 use Rattle.lk_check_walk.specs.Walking.{IsFurther, operand_in}
-use Rattle.lk_check_walk.specs.Truth.{IsBegunAmong, IsBegunBy, NoTag}
 use Rattle.lk_check_walk.specs.Walks.{IsIn, IsSound, StandsIn, WalksOwn}
 use Rattle.lk_check_walk.specs.declared.checker.Checker.{Checker}
-use Rattle.lk_check_walk.specs.declared.gathered.Gathered.{Gathered}
-use Rattle.lk_check_walk.specs.declared.gathered.Specified.{Specified}
 
 -- ---- any walk
 
@@ -64,10 +65,6 @@ both_nothing a = same_additions (append-nil a.declared) (append-nil a.tags) (app
 pub or_assoc : (a b c : Bool) → ((a || b) || c) ≡ (a || (b || c))
 or_assoc true b c = refl
 or_assoc false b c = refl
-
-pub or_false : (a : Bool) → (a || false) ≡ a
-or_false true = refl
-or_false false = refl
 
 then_assoc : (a b c : SpecifierTold) → then_specifier (then_specifier a b) c ≡ then_specifier a (then_specifier b c)
 then_assoc a b c =

@@ -15,19 +15,20 @@ use Rattle.lk_typed.specs.declared.members.Members.{Members}
 use Rattle.lk_names.proofs.KnownScopes.{known_left_stays}
 use Rattle.lk_names.specs.Growing.{InLeftScope, IsKnownLeft}
 use Rattle.lk_names.specs.InScope.{InScope}
-use Rattle.lk_check_walk.proofs.Shaping.{known_stays, layers_known, passed_stays}
+use Rattle.lk_found.proofs.Shaping.{known_stays, layers_known, passed_stays}
+use Rattle.lk_found.specs.Shaped.{IsKnownAt, IsKnownLeft as IsKnownType}
+use Rattle.lk_found.specs.Shapes.{IsElementIn}
+use Rattle.lk_found.specs.Structs.{listed}
+use Rattle.lk_found.specs.Walked.{HasLayer}
+use Rattle.lk_found.specs.declared.shapes.LayerAt.{LayerAt}
+use Rattle.lk_found.specs.declared.shapes.Left.{Left}
+use Rattle.lk_found.specs.declared.walked.Walked.{Walked}
 use Rattle.lk_check_walk.specs.Moves.{Grows, Puts}
-use Rattle.lk_check_walk.specs.Shaped.{IsKnownAt, IsKnownLeft as IsKnownType}
-use Rattle.lk_check_walk.specs.Shapes.{IsElementIn}
 use Rattle.lk_check_walk.specs.Specifying.{IsSame}
-use Rattle.lk_check_walk.specs.Structs.{listed}
-use Rattle.lk_check_walk.specs.Walked.{HasLayer, IsKnownWalked}
+use Rattle.lk_check_walk.specs.Walked.{IsKnownWalked}
 use Rattle.lk_check_walk.specs.Walking.{IsFurther, operand_in}
 use Rattle.lk_check_walk.specs.Walks.{IsIn, IsSound, StandsIn}
 use Rattle.lk_check_walk.specs.declared.checker.Checker.{Checker}
-use Rattle.lk_check_walk.specs.declared.shapes.LayerAt.{LayerAt}
-use Rattle.lk_check_walk.specs.declared.shapes.Left.{Left}
-use Rattle.lk_check_walk.specs.declared.walked.Walked.{Walked}
 
 -- ---- further
 

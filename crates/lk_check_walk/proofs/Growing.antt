@@ -7,7 +7,7 @@ use Rattle.lk_typed.specs.Meaning.{IsReady}
 use Rattle.lk_names.proofs.Environments.{environment_stays}
 use Rattle.lk_names.proofs.KnownScopes.{known_stays}
 use Rattle.lk_names.specs.InScope.{InScope, IsKnownScope, env_in}
-use Rattle.lk_check_walk.specs.Structs.{HasMembers, listed}
+use Rattle.lk_found.specs.Structs.{HasMembers, listed}
 use Rattle.lk_check_walk.specs.Walks.{IsIn, IsSound}
 use Rattle.lk_check_walk.specs.declared.checker.Checker.{Checker}
 

@@ -8,11 +8,13 @@ use Rattle.lk_typed.specs.Faults.{Breach, breach}
 use Rattle.lk_typed.specs.Stands.{Mark}
 use Rattle.lk_rules.proofs.Kept.{codes_are_kept_in_turn, the_lesser_is_kept}
 use Rattle.lk_rules.specs.Keeping.{Kept, KeepsCodes, keep}
-use Rattle.lk_check_walk.specs.Keepings.{Codes, KeepsEach, codes_at}
+use Rattle.lk_found.specs.Keepings.{Codes, KeepsEach, codes_at}
+use Rattle.lk_found.specs.Findings.{mark_at}
+use Rattle.lk_found.specs.declared.found.At.{At}
+use Rattle.lk_found.proofs.Keepings.{no_codes}
 use Rattle.lk_check_walk.specs.Specifying.{IsSame, KeepsAt}
-use Rattle.lk_check_walk.specs.Walks.{IsIn, IsSound, Tells, kept_in, mark_at}
+use Rattle.lk_check_walk.specs.Walks.{IsIn, IsSound, Tells, kept_in}
 use Rattle.lk_check_walk.specs.declared.checker.Checker.{Checker}
-use Rattle.lk_check_walk.specs.declared.found.At.{At}
 use Rattle.lk_check_walk.proofs.States.{same_in}
 
 -- ---- states that differ by what is kept alone
@@ -39,11 +41,6 @@ sound_same old new same sound = record {
 
 pub known_same : (old new : Checker) (t : Option ℕ) → IsSame old new → IfSome t (IsKnown old.types) → IfSome t (IsKnown new.types)
 known_same old new t same known = subst (λ table. IfSome t (IsKnown table)) (sym same.types) known
-
--- ---- codes
-
-pub no_codes : (kept : Kept) (mark : Mark) → KeepsCodes kept mark [] kept
-no_codes kept mark = the_lesser_is_kept kept mark None
 
 pub told_one : (old new : Checker) (at : At) (b : Breach) → Tells old new at (Some b) → KeepsAt old new at (b ∷ [])
 told_one old new at b tells = subst (KeepsCodes (kept_in old) (mark_at at) (b ∷ [])) (sym tells.kept) (the_lesser_is_kept (kept_in old) (mark_at at) (Some b))

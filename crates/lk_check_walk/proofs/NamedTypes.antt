@@ -14,16 +14,16 @@ use Rattle.lk_typed.specs.Meaning.{meaning}
 use Rattle.lk_typed.specs.Redeclared.{NamesEnum, TagUse, may_use, tag_meant}
 use Rattle.lk_typed.specs.Told.{SpecifierTold, enum_named, meant, of_type_alone, struct_named, then_specifier, type_if_admitted, with_optional}
 use Rattle.lk_typed.specs.Ty.{Ty, Struct, int}
-use Rattle.lk_check_walk.proofs.Shaping.{known_stays}
-use Rattle.lk_check_walk.proofs.States.{extend_nothing}
+use Rattle.lk_found.proofs.Shaping.{known_stays}
+use Rattle.lk_found.proofs.Environments.{extend_nothing}
+use Rattle.lk_found.specs.Specified.{AreOthers, IsGathered, optional_breach}
+use Rattle.lk_found.specs.declared.gathered.Breach.{Breach as CodeBreach}
+use Rattle.lk_found.specs.declared.gathered.Gathered.{Gathered}
+use Rattle.lk_found.specs.declared.gathered.Others.{Others}
+use Rattle.lk_found.specs.declared.gathered.Others.TheVariants as others
 use Rattle.lk_check_walk.specs.Naming.{IsNamedType, IsSpecifierPut}
-use Rattle.lk_check_walk.specs.Specified.{AreOthers, IsGathered, optional_breach}
 use Rattle.lk_check_walk.specs.Walks.{IsIn}
 use Rattle.lk_check_walk.specs.declared.checker.Checker.{Checker}
-use Rattle.lk_check_walk.specs.declared.gathered.Breach.{Breach as CodeBreach}
-use Rattle.lk_check_walk.specs.declared.gathered.Gathered.{Gathered}
-use Rattle.lk_check_walk.specs.declared.gathered.Others.{Others}
-use Rattle.lk_check_walk.specs.declared.gathered.Others.TheVariants as others
 
 module _ (old new : Table) (good : IsTable old) (longer : IsLonger old new) where
   pub type_stays : (t : Option ℕ) → IfSome t (IsKnown old) → option_map (meaning old) t ≡ option_map (meaning new) t

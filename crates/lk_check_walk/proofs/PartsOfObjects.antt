@@ -17,7 +17,7 @@ use Rattle.lk_typed.specs.Typings.{structs_in}
 use Rattle.lk_typed.specs.declared.members.Field.{Field}
 use Rattle.lk_typed.specs.declared.members.Members.{Members}
 use Rattle.lk_typed.specs.declared.members.Members.TheVariants.{NotYet, Begun, Known, Faulty}
-use Rattle.lk_check_walk.specs.Structs.{HasMembers, listed, member_of}
+use Rattle.lk_found.specs.Structs.{HasMembers, listed, member_of}
 use Rattle.lk_check_walk.specs.Walks.{IsSound}
 use Rattle.lk_check_walk.specs.declared.checker.Checker.{Checker}
 

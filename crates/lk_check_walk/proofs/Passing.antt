@@ -23,24 +23,27 @@ use Rattle.lk_rules.proofs.Kept.{codes_are_kept_behind_parts, nodes_are_kept_in_
 use Rattle.lk_rules.proofs.Layered.{parameters_follow_their_parts}
 use Rattle.lk_rules.proofs.Parts.{parameters_are_asked}
 use Rattle.lk_rules.specs.Keeping.{Kept, KeepsCodes, KeepsNodes}
-use Rattle.lk_check_walk.specs.Truth.{IsBegunAmong, NoTag}
+use Rattle.lk_found.specs.Truth.{IsBegunAmong, NoTag}
+use Rattle.lk_found.proofs.Inside.{none_kept_at}
+use Rattle.lk_found.proofs.Listing.{or_nothing}
+use Rattle.lk_found.proofs.Environments.{extend_both, extend_nothing}
+use Rattle.lk_found.specs.Declarators.{codes_of_use, left_of, name_codes}
+use Rattle.lk_found.specs.Keepings.{Codes, KeepsEach, codes_at}
+use Rattle.lk_found.specs.Parameters.{name_of}
+use Rattle.lk_found.specs.Walked.{layer_of}
+use Rattle.lk_found.specs.declared.declarators.Asked.{Asked}
+use Rattle.lk_found.specs.declared.declarators.DeclaratorFound.{DeclaratorFound}
+use Rattle.lk_found.specs.declared.gathered.Specified.{Specified}
+use Rattle.lk_found.specs.declared.parameters.ParameterFound.{ParameterFound}
 use Rattle.lk_check_walk.proofs.GoingOn.{stands_behind, same_further}
-use Rattle.lk_check_walk.proofs.Inside.{none_kept_at, use_kept}
-use Rattle.lk_check_walk.proofs.Listing.{or_nothing}
-use Rattle.lk_check_walk.proofs.States.{extend_both, extend_nothing}
+use Rattle.lk_check_walk.proofs.Inside.{use_kept}
 use Rattle.lk_check_walk.proofs.Truth.{truth_same, told_of_node, told_still, told_then}
-use Rattle.lk_check_walk.specs.Declarators.{FindsDeclarator, IsDeclared, codes_of_use, left_of, name_codes}
-use Rattle.lk_check_walk.specs.Keepings.{Codes, KeepsEach, codes_at}
-use Rattle.lk_check_walk.specs.Parameters.{FindsParameter, IsParameterFound, IsParameterSettled, SettlesParameter, name_of}
+use Rattle.lk_check_walk.specs.Declarators.{FindsDeclarator, IsDeclared}
+use Rattle.lk_check_walk.specs.Parameters.{FindsParameter, IsParameterFound, IsParameterSettled, SettlesParameter}
 use Rattle.lk_check_walk.specs.Specifying.{AreSpecified, Specifies}
-use Rattle.lk_check_walk.specs.Walked.{layer_of}
 use Rattle.lk_check_walk.specs.Walking.{IsFurther, operand_in}
 use Rattle.lk_check_walk.specs.Walks.{IsIn, StandsIn, kept_in, TellsTruth, TellsOwn}
 use Rattle.lk_check_walk.specs.declared.checker.Checker.{Checker}
-use Rattle.lk_check_walk.specs.declared.declarators.Asked.{Asked}
-use Rattle.lk_check_walk.specs.declared.declarators.DeclaratorFound.{DeclaratorFound}
-use Rattle.lk_check_walk.specs.declared.gathered.Specified.{Specified}
-use Rattle.lk_check_walk.specs.declared.parameters.ParameterFound.{ParameterFound}
 
 -- codes of one more node
 each_more : (old middle new : Kept) (cs : List Codes) (m : Mark) (bs : List Breach) → KeepsEach old cs middle → KeepsCodes middle m bs new → KeepsEach old (cs ++ codes_at m bs ∷ []) new

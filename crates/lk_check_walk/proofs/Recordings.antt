@@ -13,23 +13,24 @@ use Rattle.lk_typed.specs.Meaning.{meaning}
 use Rattle.lk_typed.specs.NodeParts.{parts}
 use Rattle.lk_typed.specs.Nodes.{AnExpression, ATypeName, Placed, at}
 use Rattle.lk_rules.specs.Laws.{name_found}
-use Rattle.lk_check_walk.specs.Judging.{HasKnownType}
-use Rattle.lk_check_walk.specs.Recorded.{Recorded, use_of, with_expression, with_named, with_taken, with_use, with_word}
-use Rattle.lk_check_walk.specs.Truth.{AddsTags, AddsTruth, NoTag}
-use Rattle.lk_check_walk.specs.Uses.{AddsUses, AreNamesIn, IsMeant, IsOfWord, taken_in, word_in}
+use Rattle.lk_found.specs.Judging.{HasKnownType}
+use Rattle.lk_found.specs.Recorded.{Recorded, use_of, with_expression, with_named, with_taken, with_use, with_word}
+use Rattle.lk_found.specs.Truth.{AddsTags, AddsTruth, NoTag}
+use Rattle.lk_found.specs.Uses.{AddsUses, AreNamesIn, IsMeant, IsOfWord, taken_in, word_in}
+use Rattle.lk_found.specs.Findings.{IsFound, IsOfExpression, IsOfInitialiser, IsOfName, IsOfTypeName}
+use Rattle.lk_found.specs.declared.found.At.{At}
+use Rattle.lk_found.specs.declared.found.Found.{Found}
+use Rattle.lk_found.specs.declared.found.Stands.{Stands}
+use Rattle.lk_found.specs.declared.found.TypeFound.{TypeFound}
+use Rattle.lk_found.specs.declared.records.Meant.{Meant}
+use Rattle.lk_found.specs.declared.records.NamesIn.{NamesIn}
+use Rattle.lk_found.proofs.Entries.{adds_among, adds_put, among_node}
+use Rattle.lk_found.proofs.Tags.{tags_among}
+use Rattle.lk_found.proofs.Uses.{uses_silent, uses_spoken}
 use Rattle.lk_check_walk.specs.Walking.{IsFurther, Judges, JudgesForm, NamesType}
-use Rattle.lk_check_walk.specs.Walks.{IsFound, IsIn, IsOfExpression, IsOfInitialiser, IsOfName, IsOfTypeName, IsSound, Tells, TellsTruth, Walks, WalksAndTells, recorded_in}
+use Rattle.lk_check_walk.specs.Walks.{IsIn, IsSound, Tells, TellsTruth, Walks, WalksAndTells, recorded_in}
 use Rattle.lk_check_walk.specs.declared.checker.Checker.{Checker}
-use Rattle.lk_check_walk.specs.declared.found.At.{At}
-use Rattle.lk_check_walk.specs.declared.found.Found.{Found}
-use Rattle.lk_check_walk.specs.declared.found.Stands.{Stands}
-use Rattle.lk_check_walk.specs.declared.found.TypeFound.{TypeFound}
-use Rattle.lk_check_walk.specs.declared.records.Meant.{Meant}
-use Rattle.lk_check_walk.specs.declared.records.NamesIn.{NamesIn}
-use Rattle.lk_check_walk.proofs.Entries.{adds_among, adds_put, among_node}
-use Rattle.lk_check_walk.proofs.Tags.{tags_among}
 use Rattle.lk_check_walk.proofs.Truth.{meant_longer}
-use Rattle.lk_check_walk.proofs.Uses.{uses_silent, uses_spoken}
 
 abbrev pub with_records : Checker → Recorded → Checker
 with_records checker r = record checker { records = r }

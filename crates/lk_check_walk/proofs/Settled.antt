@@ -21,23 +21,26 @@ use Rattle.lk_rules.proofs.Kept.{codes_are_kept_in_turn}
 use Rattle.lk_rules.specs.Keeping.{KeepsCodes, keep}
 use Rattle.lk_check_decl.specs.Breaches.{told}
 use Rattle.lk_check_decl.specs.Making.{IsMade}
-use Rattle.lk_check_walk.proofs.Adjusting.{both_kept, made_code, made_passed, made_type, missing_type, none_both}
+use Rattle.lk_found.proofs.Adjusting.{both_kept, made_code, made_passed, made_type, missing_type, none_both}
+use Rattle.lk_found.proofs.Environments.{extend_nothing}
+use Rattle.lk_found.specs.Named.{name_in}
+use Rattle.lk_found.specs.Parameters.{name_of}
+use Rattle.lk_found.specs.Shapes.{IsGrown}
+use Rattle.lk_found.specs.Specified.{breaches_in}
+use Rattle.lk_found.specs.Findings.{mark_at}
+use Rattle.lk_found.specs.declared.declarators.DeclaredName.{DeclaredName}
+use Rattle.lk_found.specs.declared.found.At.{At}
+use Rattle.lk_found.specs.declared.gathered.Breach.{Breach}
 use Rattle.lk_check_walk.proofs.GoingOn.{grows_further, is_further, puts_further, same_sound, then_further}
 use Rattle.lk_check_walk.proofs.Shaping.{fields_are}
-use Rattle.lk_check_walk.proofs.States.{extend_nothing, grown_sound, same_in, stays_in}
+use Rattle.lk_check_walk.proofs.States.{grown_sound, same_in, stays_in}
 use Rattle.lk_check_walk.proofs.Whole.{tells_same}
 use Rattle.lk_check_walk.specs.Moves.{GoesOn, Grows, Puts}
-use Rattle.lk_check_walk.specs.Named.{name_in}
-use Rattle.lk_check_walk.specs.Parameters.{IsAdjusted, IsParameterDeclared, KeepsName, SettlesParameter, name_of}
-use Rattle.lk_check_walk.specs.Shapes.{IsGrown}
-use Rattle.lk_check_walk.specs.Specified.{breaches_in}
+use Rattle.lk_check_walk.specs.Parameters.{IsAdjusted, IsParameterDeclared, KeepsName, SettlesParameter}
 use Rattle.lk_check_walk.specs.Specifying.{IsSame, KeepsAt}
 use Rattle.lk_check_walk.specs.Walking.{IsFurther}
-use Rattle.lk_check_walk.specs.Walks.{IsIn, IsSound, Tells, kept_in, mark_at, recorded_in}
+use Rattle.lk_check_walk.specs.Walks.{IsIn, IsSound, Tells, kept_in, recorded_in}
 use Rattle.lk_check_walk.specs.declared.checker.Checker.{Checker}
-use Rattle.lk_check_walk.specs.declared.declarators.DeclaredName.{DeclaredName}
-use Rattle.lk_check_walk.specs.declared.found.At.{At}
-use Rattle.lk_check_walk.specs.declared.gathered.Breach.{Breach}
 
 -- ---- the type, between what is kept
 

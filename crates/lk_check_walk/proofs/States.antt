@@ -1,6 +1,6 @@
 -- The state of the checker stays sound where types, tags and structs come into it.
-use Rattle.std.proofs.Common.{◌≡◌, ◌∙◌, ◌<◌, ◌^◌, ◌++◌, ℕ, List, [], ◌∷◌, length, map, refl, sym, ap, subst, All, append_assoc}
-use Rattle.std.proofs.lemmas.List.{map-append, append-nil}
+use Rattle.std.proofs.Common.{◌≡◌, ◌∙◌, ◌<◌, ◌^◌, ◌++◌, ℕ, [], ◌∷◌, length, map, sym, ap, subst, All}
+use Rattle.std.proofs.lemmas.List.{map-append}
 use Rattle.std.proofs.lemmas.List.Elements.{All-push}
 use Rattle.lk_types.proofs.NewLemmas.{predeclared_types_stay}
 use Rattle.lk_types.specs.Building.{IsTable, IsLonger, IsPut, found, added}
@@ -11,16 +11,16 @@ use Rattle.lk_typed.proofs.Elements.{few_put}
 use Rattle.lk_typed.proofs.Meanings.{meaning_stays}
 use Rattle.lk_typed.specs.DeclaratorRules.{elements}
 use Rattle.lk_typed.specs.Elements.{HasFewElements, IsFew}
-use Rattle.lk_typed.specs.Env.{Env, Additions, StructStep, after_step, after_steps, both, extend, nothing}
+use Rattle.lk_typed.specs.Env.{Env, Additions, extend}
 use Rattle.lk_typed.specs.Env as env
 use Rattle.lk_typed.specs.declared.members.Members.TheVariants.{NotYet}
 use Rattle.lk_names.proofs.Environments.{environment_stays}
 use Rattle.lk_names.proofs.KnownScopes.{known_stays}
 use Rattle.lk_names.specs.Growing.{Adds}
 use Rattle.lk_names.specs.InScope.{InScope, IsKnownScope, env_in}
+use Rattle.lk_found.specs.Shapes.{IsGrown}
+use Rattle.lk_found.specs.Structs.{HasMembers, listed}
 use Rattle.lk_check_walk.specs.Moves.{GoesOn, Puts}
-use Rattle.lk_check_walk.specs.Shapes.{IsGrown}
-use Rattle.lk_check_walk.specs.Structs.{HasMembers, listed}
 use Rattle.lk_check_walk.specs.Walks.{IsIn, IsSound}
 use Rattle.lk_check_walk.specs.declared.checker.Checker.{Checker}
 
@@ -106,23 +106,3 @@ stays_in old new sound longer names outside env is = record {
   defined = rw outside is.defined;
   externs = rw outside is.externs;
 }
-
--- ---- additions one after another
-
-steps_then : (structs : List env.Members) (xs ys : List StructStep) → after_steps structs (xs ++ ys) ≡ after_steps (after_steps structs xs) ys
-steps_then structs [] ys = refl
-steps_then structs (x ∷ xs) ys = steps_then (after_step structs x) xs ys
-
-with_lists : Env → List env.Declared → List env.Tag → List env.Members → Env
-with_lists e ds ts ss = record e { declared = ds; tags = ts; structs = ss }
-
-lists_same : (e : Env) {ds es : List env.Declared} {ts us : List env.Tag} {ss rs : List env.Members} → ds ≡ es → ts ≡ us → ss ≡ rs → with_lists e ds ts ss ≡ with_lists e es us rs
-lists_same e p q r = cc
-
-pub extend_both : (e : Env) (a b : Additions) → extend (extend e a) b ≡ extend e (both a b)
-unfolding with_lists
-extend_both e a b = lists_same e (append_assoc e.declared a.declared b.declared) (append_assoc e.tags a.tags b.tags) (sym (steps_then e.structs a.structs b.structs))
-
-pub extend_nothing : (e : Env) → extend e nothing ≡ e
-unfolding with_lists
-extend_nothing e = lists_same e (append-nil e.declared) (append-nil e.tags) refl

@@ -6,10 +6,11 @@ use Rattle.lk_base.specs.declared.code.Code.{Code}
 use Rattle.lk_typed.specs.Faults.{Breach, Fault}
 use Rattle.lk_typed.specs.Stands.{fault_at}
 use Rattle.lk_rules.specs.FirstFaults.{lesser_fault}
-use Rattle.lk_check_walk.specs.Walks.{Tells, fault_of, first_of, mark_at}
+use Rattle.lk_found.specs.Findings.{mark_at}
+use Rattle.lk_found.specs.declared.found.At.{At}
+use Rattle.lk_check_walk.specs.Walks.{Tells, fault_of, first_of}
 use Rattle.lk_check_walk.specs.declared.checker.Checker.{Checker}
 use Rattle.lk_check_walk.specs.declared.checker.FaultFound.{FaultFound}
-use Rattle.lk_check_walk.specs.declared.found.At.{At}
 
 not_first : (least : Option FaultFound) (f : Fault) → first_of least f ≡ false → option_map fault_of least ≡ lesser_fault (option_map fault_of least) f
 not_first None f h = absurd (false≢true (sym h))

@@ -14,21 +14,22 @@ use Rattle.lk_typed.specs.Ty.{Ty}
 use Rattle.lk_typed.specs.declared.names.Meaning.{Meaning}
 use Rattle.lk_typed.specs.declared.unit.StructTag.{StructTag}
 use Rattle.lk_typed.specs.declared.names.Meaning.TheVariants.{Object, Function, Typedef, Enumerator, InitialiserWord, Faulty}
+use Rattle.lk_found.specs.Recorded.{Recorded}
+use Rattle.lk_found.specs.Truth.{AddsTags, AddsTruth, IsBegunBy, IsOfTag, NoTag}
+use Rattle.lk_found.specs.Uses.{IsMeant, IsOfWord, StandsFor, taken_in, word_in}
+use Rattle.lk_found.specs.Findings.{IsDeclaredAs, IsOfExpression, IsOfInitialiser, IsOfKind, IsOfName, IsOfTypeName}
+use Rattle.lk_found.specs.declared.found.Found.{Found}
+use Rattle.lk_found.specs.declared.records.DeclaredHere.{DeclaredHere}
+use Rattle.lk_found.specs.declared.records.InitialiserKind.{InitialiserKind}
+use Rattle.lk_found.specs.declared.records.InitialiserKind.TheVariants.{Value, Word}
+use Rattle.lk_found.specs.declared.records.Meant.{Meant}
+use Rattle.lk_found.proofs.Entries.{AreNodesOf, adds_among, adds_same, adds_still, adds_then, among_first, among_second, is_expression, nodes_of_node}
+use Rattle.lk_found.proofs.Lasting.{found_longer, known_longer}
+use Rattle.lk_found.proofs.Tags.{tags_among, tags_as, tags_inside, tags_last, tags_same, tags_then}
+use Rattle.lk_found.proofs.Uses.{uses_behind, uses_of, uses_same, uses_still, uses_then}
 use Rattle.lk_check_walk.specs.Moves.{RecordsTag}
-use Rattle.lk_check_walk.specs.Recorded.{Recorded}
-use Rattle.lk_check_walk.specs.Truth.{AddsTags, AddsTruth, IsBegunBy, IsOfTag, NoTag}
-use Rattle.lk_check_walk.specs.Uses.{IsMeant, IsOfWord, StandsFor, taken_in, word_in}
-use Rattle.lk_check_walk.specs.Walks.{IsDeclaredAs, IsOfExpression, IsOfInitialiser, IsOfKind, IsOfName, IsOfTypeName, TellsOwn, TellsTruth, recorded_in}
+use Rattle.lk_check_walk.specs.Walks.{TellsOwn, TellsTruth, recorded_in}
 use Rattle.lk_check_walk.specs.declared.checker.Checker.{Checker}
-use Rattle.lk_check_walk.specs.declared.found.Found.{Found}
-use Rattle.lk_check_walk.specs.declared.records.DeclaredHere.{DeclaredHere}
-use Rattle.lk_check_walk.specs.declared.records.InitialiserKind.{InitialiserKind}
-use Rattle.lk_check_walk.specs.declared.records.InitialiserKind.TheVariants.{Value, Word}
-use Rattle.lk_check_walk.specs.declared.records.Meant.{Meant}
-use Rattle.lk_check_walk.proofs.Entries.{AreNodesOf, adds_among, adds_same, adds_still, adds_then, among_first, among_second, is_expression, nodes_of_node}
-use Rattle.lk_check_walk.proofs.Lasting.{found_longer, known_longer}
-use Rattle.lk_check_walk.proofs.Tags.{tags_among, tags_as, tags_inside, tags_last, tags_same, tags_then}
-use Rattle.lk_check_walk.proofs.Uses.{uses_behind, uses_of, uses_same, uses_still, uses_then}
 
 -- ---- while the table grows
 

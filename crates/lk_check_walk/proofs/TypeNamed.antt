@@ -24,24 +24,27 @@ use Rattle.lk_rules.proofs.Kept.{both_are_all_of_a_node, codes_are_kept_further,
 use Rattle.lk_rules.proofs.Layered.{type_names_follow_their_parts}
 use Rattle.lk_rules.proofs.Parts.{type_names_are_asked}
 use Rattle.lk_rules.specs.Keeping.{Kept, KeepsBoth, KeepsCodes, KeepsNodes}
-use Rattle.lk_check_walk.specs.Truth.{IsBegunAmong, NoTag}
-use Rattle.lk_check_walk.proofs.Gathers.{or_false}
+use Rattle.lk_found.specs.Truth.{IsBegunAmong, NoTag}
+use Rattle.lk_found.proofs.Gathering.{or_false}
+use Rattle.lk_found.proofs.Keepings.{no_codes}
+use Rattle.lk_found.proofs.Environments.{extend_both, extend_nothing}
+use Rattle.lk_found.specs.Declarators.{left_of, name_codes, use_codes}
+use Rattle.lk_found.specs.Keepings.{KeepsEach, codes_at}
+use Rattle.lk_found.specs.Specified.{breaches_in}
+use Rattle.lk_found.specs.Findings.{mark_at}
+use Rattle.lk_found.specs.declared.declarators.Asked.{Asked}
+use Rattle.lk_found.specs.declared.declarators.DeclaratorFound.{DeclaratorFound}
+use Rattle.lk_found.specs.declared.found.At.{At}
+use Rattle.lk_found.specs.declared.found.TypeFound.{TypeFound}
+use Rattle.lk_found.specs.declared.gathered.Specified.{Specified}
 use Rattle.lk_check_walk.proofs.Inside.{use_kept}
-use Rattle.lk_check_walk.proofs.KeepsAll.{in_same, no_codes, sound_same}
-use Rattle.lk_check_walk.proofs.States.{extend_both, extend_nothing}
+use Rattle.lk_check_walk.proofs.KeepsAll.{in_same, sound_same}
 use Rattle.lk_check_walk.proofs.Truth.{truth_same, told_of_node, told_still, told_then}
-use Rattle.lk_check_walk.specs.Declarators.{IsDeclared, left_of, name_codes, use_codes}
-use Rattle.lk_check_walk.specs.Keepings.{KeepsEach, codes_at}
-use Rattle.lk_check_walk.specs.Specified.{breaches_in}
+use Rattle.lk_check_walk.specs.Declarators.{IsDeclared}
 use Rattle.lk_check_walk.specs.Specifying.{AreSpecified, IsSame, KeepsAt}
 use Rattle.lk_check_walk.specs.Walking.{IsFurther, IsTypeNamed}
-use Rattle.lk_check_walk.specs.Walks.{IsIn, Walks, kept_in, mark_at, TellsTruth, TellsOwn}
+use Rattle.lk_check_walk.specs.Walks.{IsIn, Walks, kept_in, TellsTruth, TellsOwn}
 use Rattle.lk_check_walk.specs.declared.checker.Checker.{Checker}
-use Rattle.lk_check_walk.specs.declared.declarators.Asked.{Asked}
-use Rattle.lk_check_walk.specs.declared.declarators.DeclaratorFound.{DeclaratorFound}
-use Rattle.lk_check_walk.specs.declared.found.At.{At}
-use Rattle.lk_check_walk.specs.declared.found.TypeFound.{TypeFound}
-use Rattle.lk_check_walk.specs.declared.gathered.Specified.{Specified}
 
 -- a name that nothing becomes has no codes
 pub unnamed_kept : (kept : Kept) (left : Left) (d : Declarator) (t : Option Ty) → left.use_of_name ≡ Unnamed → KeepsEach kept (use_codes left d t) kept

@@ -5,7 +5,7 @@ use Rattle.std.proofs.lemmas.Bool.{false≢true}
 use Rattle.std.proofs.lemmas.List.{map-append, reverse-append}
 use Rattle.std.proofs.lemmas.List.Elements.{All-push}
 use Rattle.lk_tree.specs.declared.expression.DeclaratorForm.TheOpen.{DeclaratorForm-F}
-use Rattle.lk_tree.specs.declared.expression.DeclaratorForm.{DeclaratorForm, out-DeclaratorForm, roll-DeclaratorForm, out-roll-DeclaratorForm}
+use Rattle.lk_tree.specs.declared.expression.DeclaratorForm.{out-DeclaratorForm}
 use Rattle.lk_tree.specs.declared.expression.Declarator.{Declarator}
 use Rattle.lk_tree.specs.declared.expression.Expr.{Expr}
 use Rattle.lk_tree.specs.declared.expression.Parameter.{Parameter}
@@ -14,7 +14,7 @@ use Rattle.lk_types.specs.Building.{IsLonger, IsTable}
 use Rattle.lk_types.specs.Table.{Table}
 use Rattle.lk_typed.specs.Env.{Additions, Env, both, enter, extend, nothing, past_scope}
 use Rattle.lk_typed.specs.Expressions.{declarator_layer, expression}
-use Rattle.lk_typed.specs.Layers.{DeclaratorLayer, parameters_of}
+use Rattle.lk_typed.specs.Layers.{parameters_of}
 use Rattle.lk_typed.specs.NodeRules.{mark}
 use Rattle.lk_typed.specs.Nodes.{AnExpression, Placed, at as at_env}
 use Rattle.lk_typed.specs.Parts.{added_by, inner_adds, tellers}
@@ -27,38 +27,32 @@ use Rattle.lk_names.proofs.Environments.{left_scope_stays}
 use Rattle.lk_names.specs.Growing.{InLeftScope, IsKnownLeft}
 use Rattle.lk_rules.specs.LayerLaws.{DeclaratorTree, declarator_parts_told}
 use Rattle.lk_check_decl.specs.Arrays.{size_of as size_in_code}
-use Rattle.lk_check_walk.proofs.FormsOf.{told_by}
+use Rattle.lk_found.proofs.FormsOf.{told_by}
+use Rattle.lk_found.proofs.Inside.{same_role}
+use Rattle.lk_found.proofs.Shaping.{forms_same}
+use Rattle.lk_found.proofs.Environments.{extend_nothing}
+use Rattle.lk_found.specs.Declarators.{scope_told}
+use Rattle.lk_found.specs.FormsOf.{HasForms, formed, sized, with_parameters, star_alone, star, named, group, array_alone, array, function_alone, function}
+use Rattle.lk_found.specs.Shaped.{FormAt, form_at, forms_in, IsKnownAt}
+use Rattle.lk_found.specs.Shapes.{APointer, AnArray, AFunction, Form, form_in, params_in}
+use Rattle.lk_found.specs.Walked.{HasFunction, HasInner, HasLayer, none, some, inside, inside_inner, layer_of, parameter_parts, size_part}
+use Rattle.lk_found.specs.Findings.{IsFoundTyping, mark_at}
+use Rattle.lk_found.specs.declared.walked.SizeFound.{SizeFound}
+use Rattle.lk_found.specs.declared.found.At.{At}
+use Rattle.lk_found.specs.declared.found.Found.{Found}
+use Rattle.lk_found.specs.declared.found.Stands.{Stands}
+use Rattle.lk_found.specs.declared.layers.Layer.{Layer}
+use Rattle.lk_found.specs.declared.layers.Layer.TheVariants as layer
+use Rattle.lk_found.specs.declared.parameters.ParametersFound.{ParametersFound}
+use Rattle.lk_found.specs.declared.shapes.LayerAt.{LayerAt}
+use Rattle.lk_found.specs.declared.walked.Walked.{Walked}
 use Rattle.lk_check_walk.proofs.GoingOn.{stands_behind}
-use Rattle.lk_check_walk.proofs.Inside.{same_role}
-use Rattle.lk_check_walk.proofs.Shaping.{forms_same}
-use Rattle.lk_check_walk.proofs.States.{extend_nothing}
 use Rattle.lk_check_walk.proofs.Walking.{no_walk, then_walks}
-use Rattle.lk_check_walk.specs.Declarators.{scope_told}
-use Rattle.lk_check_walk.specs.FormsOf.{HasForms, formed, sized, with_parameters, star_alone, star, named, group, array_alone, array, function_alone, function}
 use Rattle.lk_check_walk.specs.Parameters.{AreKnownParameters, AreParametersFound, FindsParameters}
-use Rattle.lk_check_walk.specs.Shaped.{FormAt, form_at, forms_in, IsKnownAt}
-use Rattle.lk_check_walk.specs.Shapes.{APointer, AnArray, AFunction, Form, form_in, params_in}
-use Rattle.lk_check_walk.specs.Walked.{FindsSize, HasFunction, HasInner, HasLayer, HasWalked, HasWalkedInner, IsKnownWalked, IsSizeFound, IsWalked, WalksForms, WalksInner, none, some, inside, inside_inner, layer_of, parameter_parts, size_part}
+use Rattle.lk_check_walk.specs.Walked.{FindsSize, HasWalked, HasWalkedInner, IsKnownWalked, IsSizeFound, IsWalked, WalksForms, WalksInner}
 use Rattle.lk_check_walk.specs.Walking.{Judges, operand_in}
-use Rattle.lk_check_walk.specs.Walks.{IsFoundTyping, IsIn, IsSound, StandsIn, Walks, mark_at}
+use Rattle.lk_check_walk.specs.Walks.{IsIn, IsSound, StandsIn, Walks}
 use Rattle.lk_check_walk.specs.declared.checker.Checker.{Checker}
-use Rattle.lk_check_walk.specs.declared.walked.SizeFound.{SizeFound}
-use Rattle.lk_check_walk.specs.declared.found.At.{At}
-use Rattle.lk_check_walk.specs.declared.found.Found.{Found}
-use Rattle.lk_check_walk.specs.declared.found.Stands.{Stands}
-use Rattle.lk_check_walk.specs.declared.layers.Layer.{Layer}
-use Rattle.lk_check_walk.specs.declared.layers.Layer.TheVariants as layer
-use Rattle.lk_check_walk.specs.declared.parameters.ParametersFound.{ParametersFound}
-use Rattle.lk_check_walk.specs.declared.shapes.LayerAt.{LayerAt}
-use Rattle.lk_check_walk.specs.declared.walked.Walked.{Walked}
-
--- a declarator of a form is of its layer
-pub form_of : (d : Declarator) (f : DeclaratorForm) (form : DeclaratorTree) → d.form ≡ f → roll-DeclaratorForm form ≡ f → out-DeclaratorForm d.form ≡ form
-form_of d f form is rolls = ap out-DeclaratorForm (is ∙ sym rolls) ∙ out-roll-DeclaratorForm form
-
--- the declared name, by the form
-pub name_found : (d : Declarator) (form : DeclaratorTree) → out-DeclaratorForm d.form ≡ form → (in_declarator (declarator_parts_told form) d.spot d.ordinal).told.name ≡ (declarator_layer d).told.name
-name_found d form is = sym (ap (λ (l : DeclaratorLayer). l.told.name) (told_by d form is))
 
 -- ---- lists of forms
 

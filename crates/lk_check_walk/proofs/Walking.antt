@@ -1,24 +1,14 @@
 -- Walks one after another, and the walk of an expression behind those of its parts.
-use Rattle.std.proofs.Common.{◌≡◌, ◌∙◌, ◌++◌, Bool, List, [], ◌∷◌, ℕ, map, refl, sym, ap, subst, append_assoc}
+use Rattle.std.proofs.Common.{◌≡◌, ◌∙◌, ◌++◌, Bool, List, [], ◌∷◌, ℕ, map, refl, sym, ap, subst}
 use Rattle.std.specs.Prelude.{slice_get}
-use Rattle.std.proofs.lemmas.List.{append-nil}
 use Rattle.lk_types.specs.Building.{IsLonger}
 use Rattle.lk_types.specs.Table.{Table}
 use Rattle.lk_types.proofs.GrowLemmas.{longer_same, longer_then}
-use Rattle.lk_tree.specs.declared.expression.DeclaratorForm.TheOpen.{ExprForm-F}
-use Rattle.lk_tree.specs.declared.expression.DeclaratorForm.{DeclaratorForm}
-use Rattle.lk_tree.specs.declared.expression.Declarator.{Declarator}
 use Rattle.lk_tree.specs.declared.expression.Expr.{Expr}
-use Rattle.lk_tree.specs.declared.expression.ExprForm.{ExprForm, out-ExprForm}
-use Rattle.lk_tree.specs.declared.expression.Item.{Item}
-use Rattle.lk_tree.specs.declared.expression.Member.{Member}
-use Rattle.lk_tree.specs.declared.expression.MemberDeclarator.{MemberDeclarator}
-use Rattle.lk_tree.specs.declared.expression.Parameter.{Parameter}
-use Rattle.lk_tree.specs.declared.expression.Specifier.{Specifier}
-use Rattle.lk_tree.specs.declared.expression.TypeName.{TypeName}
-use Rattle.lk_typed.specs.Env.{Additions, Declared, Env, Members, Role, StructStep, Tag, after_step, after_steps, both, extend, nothing}
+use Rattle.lk_tree.specs.declared.expression.ExprForm.{out-ExprForm}
+use Rattle.lk_typed.specs.Env.{Additions, Env, Role, both, extend, nothing}
 use Rattle.lk_typed.specs.ExprRules as rules
-use Rattle.lk_typed.specs.ExprRules.{additions_of, codes_at, found_in, judged, rule}
+use Rattle.lk_typed.specs.ExprRules.{additions_of, codes_at, judged, rule}
 use Rattle.lk_typed.specs.Expressions.{at_pair, breach_at, expression, written}
 use Rattle.lk_typed.specs.NodeParts.{parts}
 use Rattle.lk_typed.specs.NodeRules.{breaches, mark}
@@ -31,29 +21,16 @@ use Rattle.lk_rules.proofs.Found.{expressions_follow_their_rules}
 use Rattle.lk_rules.proofs.Kept.{codes_are_kept_behind_parts, nodes_are_kept_in_turn, nothing_is_kept}
 use Rattle.lk_rules.specs.Keeping.{KeepsCodes, KeepsNodes}
 use Rattle.lk_rules.specs.Laws.{name_found}
-use Rattle.lk_check_walk.specs.Truth.{NoTag}
+use Rattle.lk_found.specs.Truth.{NoTag}
+use Rattle.lk_found.specs.Findings.{IsFound, JudgedForm, judged_of}
+use Rattle.lk_found.specs.declared.found.Found.{Found}
+use Rattle.lk_found.proofs.Environments.{extend_nothing, extend_both}
+use Rattle.lk_found.proofs.Forms.{Layer, form_in}
 use Rattle.lk_check_walk.specs.Walking.{IsFormJudged}
-use Rattle.lk_check_walk.specs.Walks.{IsFound, IsIn, IsSound, JudgedForm, Settles, TellsTruth, Walks, WalksAndTells, WalksOwn, judged_of, kept_in}
+use Rattle.lk_check_walk.specs.Walks.{IsIn, IsSound, Settles, TellsTruth, Walks, WalksAndTells, WalksOwn, kept_in}
 use Rattle.lk_check_walk.specs.declared.checker.Checker.{Checker}
-use Rattle.lk_check_walk.specs.declared.found.Found.{Found}
 use Rattle.lk_check_walk.proofs.Growing.{in_longer}
 use Rattle.lk_check_walk.proofs.Truth.{told_as, told_then, truth_same, truth_still}
-
--- ---- environments
-
-same_env : (env : Env) {ds es : List Declared} {ts us : List Tag} {ms ns : List Members} → ds ≡ es → ts ≡ us → ms ≡ ns →
-    ◌≡◌ {A = Env} (record env { declared = ds; tags = ts; structs = ms }) (record env { declared = es; tags = us; structs = ns })
-same_env env p q r = cc
-
-pub extend_nothing : (env : Env) → extend env nothing ≡ env
-extend_nothing env = same_env env (append-nil env.declared) (append-nil env.tags) refl
-
-steps_in_turn : (structs : List Members) (a b : List StructStep) → after_steps (after_steps structs a) b ≡ after_steps structs (a ++ b)
-steps_in_turn structs [] b = refl
-steps_in_turn structs (step ∷ a) b = steps_in_turn (after_step structs step) a b
-
-pub extend_both : (env : Env) (a b : Additions) → extend (extend env a) b ≡ extend env (both a b)
-extend_both env a b = same_env env (append_assoc env.declared a.declared b.declared) (append_assoc env.tags a.tags b.tags) (steps_in_turn env.structs a.structs b.structs)
 
 -- what a node stands as doesn't matter to the state
 pub in_any_role : (checker : Checker) (env : Env) (role : Role) (in_size : Bool) → IsIn checker env → IsIn checker (record env { role = role; in_size = in_size })
@@ -114,14 +91,6 @@ walks_in at_end old new env role in_size a ps f = record {
   keeps = f.keeps;
   records = f.records;
 }
-
--- ---- an expression behind its parts
-
-abbrev pub Layer : Type 0
-Layer = ExprForm-F DeclaratorForm ExprForm MemberDeclarator Specifier Declarator Expr Item Member Parameter TypeName
-
-abbrev pub form_in : Env → Layer → JudgedForm
-form_in env layer = found_in expression name_found env layer
 
 abbrev pub parts_of_layer : Env → Layer → List Placed
 parts_of_layer env layer = map at_pair (rules.parts AnExpression ATypeName expression name_found env layer)

@@ -18,28 +18,32 @@ use Rattle.lk_typed.specs.Parts.{span_at}
 use Rattle.lk_typed.specs.Told.{Span}
 use Rattle.lk_rules.specs.Keeping.{KeepsCodes}
 use Rattle.lk_check_decl.specs.Breaches.{told}
-use Rattle.lk_check_walk.proofs.FormsOf.{types_follow_forms}
+use Rattle.lk_found.proofs.FormsOf.{types_follow_forms}
+use Rattle.lk_found.proofs.Inside.{declarator_kept, nodes_inside}
+use Rattle.lk_found.proofs.Keepings.{kept_told, unnamed_unless}
+use Rattle.lk_found.specs.Declarators.{left_of, scope_told}
+use Rattle.lk_found.specs.Keepings.{KeepsEach}
+use Rattle.lk_found.specs.Shaped.{IsLeft, codes_by, forms_in, is_large_shape, shaped, type_in}
+use Rattle.lk_found.specs.Shapes.{IsElement}
+use Rattle.lk_found.specs.Walked.{inside}
+use Rattle.lk_found.specs.Findings.{mark_at}
+use Rattle.lk_found.specs.declared.declarators.Asked.{Asked}
+use Rattle.lk_found.specs.declared.declarators.DeclaratorFound.{DeclaratorFound}
+use Rattle.lk_found.specs.declared.found.At.{At}
+use Rattle.lk_found.specs.declared.shapes.Left.{Left}
+use Rattle.lk_found.specs.declared.walked.Walked.{Walked}
 use Rattle.lk_check_walk.proofs.GoingOn.{same_sound, type_same}
-use Rattle.lk_check_walk.proofs.Inside.{declarator_kept, nodes_inside}
-use Rattle.lk_check_walk.proofs.Keepings.{kept_told, unnamed_unless}
 use Rattle.lk_check_walk.proofs.States.{stays_in}
 use Rattle.lk_check_walk.proofs.Truth.{truth_of, truth_still}
 use Rattle.lk_check_walk.proofs.WalkedForms.{scope_stays}
-use Rattle.lk_check_walk.specs.Declarators.{FindsDeclarator, left_of, scope_told}
-use Rattle.lk_check_walk.specs.Keepings.{KeepsEach}
+use Rattle.lk_check_walk.specs.Declarators.{FindsDeclarator}
 use Rattle.lk_check_walk.specs.Moves.{Puts}
-use Rattle.lk_check_walk.specs.Shaped.{IsLeft, IsShaped, codes_by, forms_in, is_large_shape, shaped, type_in}
-use Rattle.lk_check_walk.specs.Shapes.{IsElement}
+use Rattle.lk_check_walk.specs.Shaped.{IsShaped}
 use Rattle.lk_check_walk.specs.Specifying.{IsSame}
-use Rattle.lk_check_walk.specs.Walked.{IsKnownWalked, IsTypeShaped, IsWholeShaped, WalksForms, inside}
+use Rattle.lk_check_walk.specs.Walked.{IsKnownWalked, IsTypeShaped, IsWholeShaped, WalksForms}
 use Rattle.lk_check_walk.specs.Walking.{IsFurther}
-use Rattle.lk_check_walk.specs.Walks.{IsIn, IsSound, Tells, kept_in, mark_at}
+use Rattle.lk_check_walk.specs.Walks.{IsIn, IsSound, Tells, kept_in}
 use Rattle.lk_check_walk.specs.declared.checker.Checker.{Checker}
-use Rattle.lk_check_walk.specs.declared.declarators.Asked.{Asked}
-use Rattle.lk_check_walk.specs.declared.declarators.DeclaratorFound.{DeclaratorFound}
-use Rattle.lk_check_walk.specs.declared.found.At.{At}
-use Rattle.lk_check_walk.specs.declared.shapes.Left.{Left}
-use Rattle.lk_check_walk.specs.declared.walked.Walked.{Walked}
 
 -- ---- 32 is kept behind the codes of the forms
 

@@ -10,12 +10,13 @@ use Rattle.lk_typed.specs.Parts.{items_parts}
 use Rattle.lk_typed.specs.Told.{declares, enumerator, items_hold_sizeof, items_in_turn}
 use Rattle.lk_typed.specs.declared.constant.Constant.{Constant}
 use Rattle.lk_rules.specs.Keeping.{KeepsCodes}
-use Rattle.lk_check_walk.specs.Moves.{KeepsBegun}
+use Rattle.lk_found.specs.Begun.{KeepsBegun}
+use Rattle.lk_found.specs.Findings.{mark_at}
+use Rattle.lk_found.specs.declared.found.At.{At}
+use Rattle.lk_found.specs.declared.found.Found.{Found}
 use Rattle.lk_check_walk.specs.Walking.{operand_in}
-use Rattle.lk_check_walk.specs.Walks.{IsIn, IsSound, StandsIn, Walks, kept_in, mark_at, recorded_in}
+use Rattle.lk_check_walk.specs.Walks.{IsIn, IsSound, StandsIn, Walks, kept_in, recorded_in}
 use Rattle.lk_check_walk.specs.declared.checker.Checker.{Checker}
-use Rattle.lk_check_walk.specs.declared.found.At.{At}
-use Rattle.lk_check_walk.specs.declared.found.Found.{Found}
 use Rattle.lk_check_walk.specs.declared.enumerators.ItemFound.{ItemFound}
 
 -- what is found of an expression as a constant, where it has a type

@@ -1,21 +1,11 @@
 -- How the state of the checker goes on where no code is kept.
-use Rattle.std.specs.Prelude.{ℕ, ◌≡◌, ◌++◌, ◌∷◌, false, Option, Some, None, List, [], length, nat_eq, if◌then◌else◌}
-use Rattle.std.specs.List.{slice_get}
+use Rattle.std.specs.Prelude.{ℕ, ◌≡◌, ◌++◌, ◌∷◌, Option, Some, None, [], length, nat_eq}
 use Rattle.lk_types.specs.Building.{IsLonger}
-use Rattle.lk_tree.specs.declared.expression.DeclaratorForm.TheOpen.{Specifier-F}
 use Rattle.lk_typed.specs.Env.{Env, Additions, Name, extend}
-use Rattle.lk_typed.specs.declared.members.Members.{Members}
-use Rattle.lk_typed.specs.declared.members.Members.TheVariants.{Begun}
-use Rattle.lk_typed.specs.Redeclared.{TagUse, may_use, tag_meant}
-use Rattle.lk_typed.specs.Structs.{struct_begun}
-use Rattle.lk_typed.specs.Told.{Meant, struct_meant}
+use Rattle.lk_typed.specs.Told.{Meant}
 use Rattle.lk_names.specs.InScope.{env_in}
 use Rattle.lk_check_walk.specs.Walks.{IsIn, IsSound, kept_in, recorded_in}
 use Rattle.lk_check_walk.specs.declared.checker.Checker.{Checker}
-
--- a struct whose definition has begun stays so
-abbrev pub KeepsBegun : List Members → List Members → Type 0
-KeepsBegun old new = (s : ℕ) → slice_get old s ≡ Some Begun → slice_get new s ≡ Some Begun
 
 -- the table only grew, and no code was kept
 pub record GrowsAlone (old new : Checker) : Type 0 where
@@ -52,21 +42,6 @@ env_of checker rest = env_in checker.types rest checker.names
 pub record IsMeant (new : Checker) (env : Env) (meant : Meant) (s : ℕ) : Type 0 where
   pub number : s ≡ meant.number
   pub behind : IsIn new (extend env meant.additions)
-
--- ---- structs that begin (C99 6.7.2.3)
-
--- the tag of the struct that a use of a tag begins, where it stands for none yet
-abbrev pub begun_where : Option ℕ → Option Name → Option (Option Name)
-begun_where None tag = Some tag
-begun_where (Some s) tag = None
-
--- the same of a use that may not stand
-abbrev pub begun_if_admitted : Env → TagUse → Name → Option (Option Name)
-begun_if_admitted env wanted name = if may_use env (tag_meant env wanted name) wanted then begun_where (struct_meant (tag_meant env wanted name)) (Some name) else None
-
--- at `struct tag {`, whatever its members
-abbrev pub definition_begun : Env → Option Name → Option (Option Name)
-definition_begun env tag = struct_begun env false (Specifier-F.Struct tag [])
 
 -- the tag of the struct that begins is recorded, where one does: it is the last of as many as there are structs
 abbrev pub RecordsTag : Checker → Checker → Env → Option (Option Name) → Type 0

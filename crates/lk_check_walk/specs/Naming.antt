@@ -5,10 +5,10 @@ use Rattle.lk_typed.specs.Env.{Env, extend}
 use Rattle.lk_typed.specs.Faults.{Breach}
 use Rattle.lk_typed.specs.Meaning.{meaning}
 use Rattle.lk_typed.specs.Told.{SpecifierTold, of_type_alone, then_specifier}
-use Rattle.lk_check_walk.specs.Specified.{IsGathered}
+use Rattle.lk_found.specs.Specified.{IsGathered}
+use Rattle.lk_found.specs.declared.gathered.Gathered.{Gathered}
 use Rattle.lk_check_walk.specs.Walks.{IsIn}
 use Rattle.lk_check_walk.specs.declared.checker.Checker.{Checker}
-use Rattle.lk_check_walk.specs.declared.gathered.Gathered.{Gathered}
 
 -- a specifier that names this type alone, and what it adds
 pub record IsNamedType (new : Checker) (env : Env) (t : Option ℕ) (told : SpecifierTold) : Type 0 where

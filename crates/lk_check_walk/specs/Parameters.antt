@@ -1,11 +1,11 @@
 -- What the walk over parameters finds and leaves behind (C99 6.7.5.3).
-use Rattle.std.specs.Prelude.{ℕ, ◌≡◌, ◌++◌, ◌||◌, Bool, false, Option, Some, None, List, [], ◌∷◌, All, IfSome, length, if◌then◌else◌, option_map}
+use Rattle.std.specs.Prelude.{ℕ, ◌≡◌, ◌++◌, Bool, Option, List, [], ◌∷◌, All, IfSome, length, option_map}
 use Rattle.lk_tree.specs.declared.expression.Declarator.{Declarator}
 use Rattle.lk_tree.specs.declared.expression.Parameter.{Parameter, out-Parameter}
 use Rattle.lk_types.specs.Building.{IsPassed}
 use Rattle.lk_typed.specs.Env.{Env, enter, extend, past_scope}
-use Rattle.lk_typed.specs.Expressions.{declarator_found, parameter_found}
-use Rattle.lk_typed.specs.Layers.{ParameterTeller, each_parameter, has_name, parameter_name, parameter_type, parameters_of}
+use Rattle.lk_typed.specs.Expressions.{parameter_found}
+use Rattle.lk_typed.specs.Layers.{each_parameter, has_name, parameter_name, parameter_type, parameters_of}
 use Rattle.lk_typed.specs.Meaning.{meaning}
 use Rattle.lk_typed.specs.NodeRules.{adjusted_rules, mark, parameter_node_rules}
 use Rattle.lk_typed.specs.Nodes.{AParameter, IsParameter, at}
@@ -15,18 +15,19 @@ use Rattle.lk_typed.specs.Told.{Named}
 use Rattle.lk_typed.specs.Ty.{Ty}
 use Rattle.lk_names.specs.Growing.{IsKnownLeft, scope_added}
 use Rattle.lk_rules.specs.Keeping.{Kept, KeepsCodes}
-use Rattle.lk_check_walk.specs.Declarators.{name_codes}
-use Rattle.lk_check_walk.specs.Keepings.{KeepsEach}
+use Rattle.lk_found.specs.Declarators.{name_codes}
+use Rattle.lk_found.specs.Keepings.{KeepsEach}
+use Rattle.lk_found.specs.Shapes.{params_in}
+use Rattle.lk_found.specs.Specified.{breaches_in}
+use Rattle.lk_found.specs.declared.gathered.Breach.{Breach}
+use Rattle.lk_found.specs.declared.parameters.Listed.{Listed}
+use Rattle.lk_found.specs.declared.parameters.ParameterFound.{ParameterFound}
+use Rattle.lk_found.specs.declared.parameters.ParametersFound.{ParametersFound}
+use Rattle.lk_found.specs.Parameters.{types_listed, has_void, name_of}
 use Rattle.lk_check_walk.specs.Moves.{GoesOn, Grows}
-use Rattle.lk_check_walk.specs.Shapes.{params_in}
-use Rattle.lk_check_walk.specs.Specified.{breaches_in}
 use Rattle.lk_check_walk.specs.Walking.{operand_in}
 use Rattle.lk_check_walk.specs.Walks.{IsIn, StandsIn, Walks, kept_in, recorded_in}
 use Rattle.lk_check_walk.specs.declared.checker.Checker.{Checker}
-use Rattle.lk_check_walk.specs.declared.gathered.Breach.{Breach}
-use Rattle.lk_check_walk.specs.declared.parameters.Listed.{Listed}
-use Rattle.lk_check_walk.specs.declared.parameters.ParameterFound.{ParameterFound}
-use Rattle.lk_check_walk.specs.declared.parameters.ParametersFound.{ParametersFound}
 
 -- ---- a list of parameters, in a scope of its own
 
@@ -43,22 +44,6 @@ FindsParameters old new in_size ps dots found = (at_end env : Env) → StandsIn 
 pub record AreKnownParameters (new : Checker) (found : ParametersFound) : Type 0 where
   pub types : IfSome found.types (All (IsPassed new.types))
   pub scope : IsKnownLeft new.types (length new.names.structs) found.scope
-
--- ---- parameters one after another
-
--- the types so far, and with one more
-abbrev pub types_listed : Listed → Option (List ℕ)
-types_listed listed = if listed.are_typed then Some listed.types.items else None
-
-abbrev pub with_last : {A : Type 0} → Option (List A) → Option A → Option (List A)
-with_last None x = None
-with_last (Some xs) None = None
-with_last (Some xs) (Some x) = Some (xs ++ x ∷ [])
-
--- whether one of them is void alone
-abbrev pub has_void : List ParameterTeller → Env → Bool
-has_void [] env = false
-has_void (p ∷ ps) env = (p env).is_bare_void || has_void ps (extend env (p env).additions)
 
 pub record AreListed (at_end : Env) (old new : Checker) (env : Env) (lone : Bool) (ps : List Parameter) (listed : Listed) : Type 0 where
   pub walks : Walks at_end old new env (each_parameter (tellers ps) env).additions (parameters_in_turn lone env ps)
@@ -79,11 +64,6 @@ pub record IsParameterFound (at_end : Env) (old new : Checker) (env : Env) (lone
 
 abbrev pub FindsParameter : Checker → Checker → Bool → Bool → Parameter → ParameterFound → Type 0
 FindsParameter old new in_size lone p found = (at_end env : Env) → StandsIn old (operand_in in_size) env → IsParameterFound at_end old new env lone p found
-
--- the name in its declarator
-abbrev pub name_of : Option Declarator → Option Named
-name_of None = None
-name_of (Some d) = (declarator_found d).name
 
 -- ---- behind its specifiers and its declarator
 

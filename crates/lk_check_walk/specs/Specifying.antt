@@ -1,6 +1,5 @@
 -- What the walk over specifiers, enumerators, members and type names leaves behind and finds (C99 6.7.2, 6.7.6).
-use Rattle.std.specs.Prelude.{ℕ, ◌≡◌, ◌++◌, ◌||◌, Bool, Option, Some, List, [], ◌∷◌, map, slice_get}
-use Rattle.lk_types.specs.Table.{Table}
+use Rattle.std.specs.Prelude.{ℕ, ◌≡◌, ◌++◌, Bool, Option, List, [], map}
 use Rattle.lk_tree.specs.declared.expression.Item.{Item}
 use Rattle.lk_tree.specs.declared.expression.Member.{Member}
 use Rattle.lk_tree.specs.declared.expression.Specifier.{Specifier, out-Specifier}
@@ -12,24 +11,22 @@ use Rattle.lk_typed.specs.HolderRules.{all_specifier_rules, one_tag_rules, optio
 use Rattle.lk_typed.specs.Nodes.{Placed}
 use Rattle.lk_typed.specs.Parts.{items_parts, members_parts, specifier_parts, specifiers_parts}
 use Rattle.lk_typed.specs.Redeclared as spec
-use Rattle.lk_typed.specs.Redeclared.{TagUse, may_use}
 use Rattle.lk_typed.specs.Structs.{struct_begun}
-use Rattle.lk_typed.specs.Told.{SpecifierTold, before_first, enum_defined, struct_begins, struct_defined, struct_meant_by, tag_found, then_specifier}
-use Rattle.lk_typed.specs.Ty.{Ty}
-use Rattle.lk_typed.specs.declared.members.Members.{Members}
-use Rattle.lk_typed.specs.declared.members.Members.TheVariants.{Begun}
+use Rattle.lk_typed.specs.Told.{SpecifierTold, before_first, enum_defined, struct_begins, struct_defined, struct_meant_by, then_specifier}
 use Rattle.lk_typed.specs.declared.unit.StructTag.{StructTag}
 use Rattle.lk_rules.specs.Keeping.{KeepsCodes}
-use Rattle.lk_check_walk.specs.Moves.{definition_begun}
-use Rattle.lk_check_walk.specs.Specified.{IsGathered, IsSpecified}
+use Rattle.lk_found.specs.Begun.{definition_begun}
+use Rattle.lk_found.specs.Specified.{IsGathered, IsSpecified}
+use Rattle.lk_found.specs.Truth.{IsBegunAmong, IsBegunBy, NoTag}
+use Rattle.lk_found.specs.Findings.{mark_at}
+use Rattle.lk_found.specs.declared.found.At.{At}
+use Rattle.lk_found.specs.declared.gathered.Gathered.{Gathered}
+use Rattle.lk_found.specs.declared.gathered.Specified.{Specified}
+use Rattle.lk_found.specs.Specifying.{IsTagUse}
 use Rattle.lk_check_walk.specs.Walking.{operand_in}
-use Rattle.lk_check_walk.specs.Truth.{IsBegunAmong, IsBegunBy, NoTag}
-use Rattle.lk_check_walk.specs.Walks.{IsIn, StandsIn, WalksOwn, kept_in, mark_at, recorded_in}
+use Rattle.lk_check_walk.specs.Walks.{IsIn, StandsIn, WalksOwn, kept_in, recorded_in}
 use Rattle.lk_check_walk.specs.declared.checker.Checker.{Checker}
 use Rattle.lk_check_walk.specs.declared.defining.BegunStruct.{BegunStruct}
-use Rattle.lk_check_walk.specs.declared.found.At.{At}
-use Rattle.lk_check_walk.specs.declared.gathered.Gathered.{Gathered}
-use Rattle.lk_check_walk.specs.declared.gathered.Specified.{Specified}
 
 -- codes that hold at a node are kept
 abbrev pub KeepsAt : Checker → Checker → At → List Breach → Type 0
@@ -55,22 +52,6 @@ abbrev pub Gathers : Checker → Checker → Bool → Bool → Specifier → Gat
 Gathers old new alone in_size s before after =
     (at_end env : Env) → StandsIn old (operand_in in_size) env →
     AreGathered (IsBegunBy (struct_begun env alone (out-Specifier s)) env) at_end old new env (specifier_found s env alone) (one_tag_rules env alone (out-Specifier s)) (specifier_parts env (out-Specifier s)) before after
-
--- the code of a use of a tag is gathered, which is admitted or not
-pub record IsTagUse (env : Env) (wanted : TagUse) (tag : Option Name) (before after : Gathered) (admitted : Bool) : Type 0 where
-  pub may : admitted ≡ may_use env (tag_found env wanted tag) wanted
-  pub gathered : (table : Table) (others : SpecifierTold) (codes : List Breach) → IsGathered table before others codes →
-      IsGathered table after others (codes ++ optional_tag_rules env wanted tag)
-
--- one more type is gathered, and whether a sizeof stands in it
-abbrev pub PutsType : Table → Table → Gathered → Gathered → Option Ty → Bool → Type 0
-PutsType old new before after t holds =
-    (others : SpecifierTold) (codes : List Breach) → IsGathered old before others codes →
-    IsGathered new after (record others { types = others.types ++ t ∷ []; holds_sizeof = others.holds_sizeof || holds }) codes
-
--- all structs but this one are begun still
-abbrev pub KeepsOthersBegun : ℕ → List Members → List Members → Type 0
-KeepsOthersBegun s old new = (t : ℕ) → (t ≡ s → ⊥) → slice_get old t ≡ Some Begun → slice_get new t ≡ Some Begun
 
 -- `struct tag {`, with its code
 pub record BeginsStruct (new : Checker) (env : Env) (tag : Option Name) (before after : Gathered) (begun : BegunStruct) : Type 0 where

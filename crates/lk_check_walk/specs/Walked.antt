@@ -1,69 +1,33 @@
--- The walk over the forms of a declarator in the order of the text: the nodes inside that are no declarators, and what is found of them (C99 6.7.5).
-use Rattle.std.specs.Prelude.{ℕ, ◌≡◌, ◌++◌, ◌||◌, Bool, true, false, not, Option, Some, None, List, [], ◌∷◌, All, IfSome, if◌then◌else◌, length, option_map, reverse}
+-- The walk over the forms of a declarator in the order of the text, and what is found of them (C99 6.7.5).
+use Rattle.std.specs.Prelude.{ℕ, ◌≡◌, Bool, true, not, Option, List, [], All, IfSome, length, option_map, reverse}
 use Rattle.lk_base.specs.declared.code.Code.TheVariants.{LargeType}
 use Rattle.lk_tree.specs.declared.expression.Declarator.{Declarator}
 use Rattle.lk_tree.specs.declared.expression.Expr.{Expr}
-use Rattle.lk_tree.specs.declared.expression.Parameter.{Parameter}
-use Rattle.lk_typed.specs.Env.{Env, enter, extend, nothing}
+use Rattle.lk_typed.specs.Env.{Env, enter, nothing}
 use Rattle.lk_typed.specs.DeclaratorRules.{unless}
 use Rattle.lk_typed.specs.Expressions.{declarator_layer, expression}
-use Rattle.lk_typed.specs.Layers.{DeclaratorLayer, inner_of}
+use Rattle.lk_typed.specs.Layers.{DeclaratorLayer}
 use Rattle.lk_typed.specs.Meaning.{meaning}
 use Rattle.lk_typed.specs.NodeRules.{mark}
 use Rattle.lk_typed.specs.Nodes.{AnExpression, Placed}
-use Rattle.lk_typed.specs.Parts.{added_by, inner_adds, is_lone, parameters_in_turn, perhaps, size_in}
+use Rattle.lk_typed.specs.Parts.{added_by, perhaps, size_in}
 use Rattle.lk_typed.specs.Telling.{size_holds}
 use Rattle.lk_typed.specs.Told.{Span}
 use Rattle.lk_names.specs.Growing.{IsKnownLeft}
 use Rattle.lk_rules.specs.Keeping.{Kept, KeepsCodes}
 use Rattle.lk_check_decl.specs.Arrays.{size_of}
-use Rattle.lk_check_walk.specs.Declarators.{scope_told}
-use Rattle.lk_check_walk.specs.FormsOf.{HasForms, star_alone, star, named, group, array_alone, array, function_alone, function}
-use Rattle.lk_check_walk.specs.Keepings.{KeepsEach}
-use Rattle.lk_check_walk.specs.Shaped.{FormAt, codes_by, forms_in, is_large_shape, shaped, type_in, IsKnownAt, IsLeft}
+use Rattle.lk_found.specs.Declarators.{scope_told}
+use Rattle.lk_found.specs.FormsOf.{HasForms}
+use Rattle.lk_found.specs.Keepings.{KeepsEach}
+use Rattle.lk_found.specs.Shaped.{FormAt, codes_by, forms_in, is_large_shape, shaped, type_in, IsKnownAt, IsLeft}
+use Rattle.lk_found.specs.declared.declarators.DeclaratorFound.{DeclaratorFound}
+use Rattle.lk_found.specs.declared.shapes.Left.{Left}
+use Rattle.lk_found.specs.declared.walked.SizeFound.{SizeFound}
+use Rattle.lk_found.specs.declared.walked.Walked.{Walked}
+use Rattle.lk_found.specs.Walked.{inside, HasInner, inside_inner, layer_of}
 use Rattle.lk_check_walk.specs.Walking.{operand_in}
 use Rattle.lk_check_walk.specs.Walks.{IsIn, StandsIn, Walks, kept_in}
 use Rattle.lk_check_walk.specs.declared.checker.Checker.{Checker}
-use Rattle.lk_check_walk.specs.declared.declarators.DeclaratorFound.{DeclaratorFound}
-use Rattle.lk_check_walk.specs.declared.found.At.{At}
-use Rattle.lk_check_walk.specs.declared.layers.Layer.TheVariants as code
-use Rattle.lk_check_walk.specs.declared.parameters.ParametersFound.{ParametersFound}
-use Rattle.lk_check_walk.specs.declared.shapes.LayerAt.{LayerAt}
-use Rattle.lk_check_walk.specs.declared.shapes.Left.{Left}
-use Rattle.lk_check_walk.specs.declared.walked.SizeFound.{SizeFound}
-use Rattle.lk_check_walk.specs.declared.walked.Walked.{Walked}
-
--- ---- the nodes inside
-
-abbrev pub size_part : Env → Option Declarator → Option Expr → List Placed
-size_part e inner size = perhaps (extend e (inner_adds inner e)) AnExpression size
-
-abbrev pub parameter_parts : Env → Option Declarator → List Parameter → Bool → List Placed
-parameter_parts e inner ps dots = parameters_in_turn (is_lone ps dots) (enter (extend e (inner_adds inner e))) ps
-
--- sizes and parameters, in the order of the text
-abbrev pub inside : {e : Env} {d : Declarator} {fs : List FormAt} → HasForms e d fs → List Placed
-inside (star_alone is) = []
-inside (star is has) = inside has
-inside (named is) = []
-inside (group is has) = inside has
-inside (array_alone {e = e} {size = size} is) = size_part e None size
-inside (array {e = e} {inner = inner} {size = size} is has) = inside has ++ size_part e (Some inner) size
-inside (function_alone {e = e} {ps = ps} {dots = dots} is) = parameter_parts e None ps dots
-inside (function {e = e} {inner = inner} {ps = ps} {dots = dots} is has) = inside has ++ parameter_parts e (Some inner) ps dots
-
--- ---- a declarator that may be missing
-
-pub data HasInner : Env → Option Declarator → List FormAt → Type 0 where
-  none : {e : Env} → HasInner e None []
-  some : {e : Env} {d : Declarator} {fs : List FormAt} → HasForms e d fs → HasInner e (Some d) fs
-
-abbrev pub inside_inner : {e : Env} {d : Option Declarator} {fs : List FormAt} → HasInner e d fs → List Placed
-inside_inner none = []
-inside_inner (some has) = inside has
-
-abbrev pub layer_of : Option Declarator → DeclaratorLayer
-layer_of d = inner_of (option_map declarator_layer d)
 
 -- ---- what is found
 
@@ -97,20 +61,6 @@ WalksInner old new in_size d walked = (at_end env : Env) → StandsIn old (opera
 pub record IsKnownWalked (new : Checker) (walked : Walked) : Type 0 where
   pub layers : All (IsKnownAt new.types) walked.layers.items
   pub parameters : IfSome walked.parameters (IsKnownLeft new.types (length new.names.structs))
-
--- one more form around, in which a sizeof stands or not
-pub record HasLayer (before after : Walked) (layer : LayerAt) (holds : Bool) : Type 0 where
-  pub layers : after.layers.items ≡ before.layers.items ++ layer ∷ []
-  pub is_name : after.is_name ≡ false
-  pub holds_sizeof : after.holds_sizeof ≡ (before.holds_sizeof || holds)
-  pub parameters : after.parameters ≡ before.parameters
-
--- a function with these parameters around: what they declare is kept where they stand beside the name
-pub record HasFunction (before after : Walked) (at : At) (dots : Bool) (found : ParametersFound) : Type 0 where
-  pub layers : after.layers.items ≡ before.layers.items ++ record { at = at; layer = code.Function found.types dots } ∷ []
-  pub is_name : after.is_name ≡ false
-  pub holds_sizeof : after.holds_sizeof ≡ (before.holds_sizeof || found.holds_sizeof)
-  pub parameters : after.parameters ≡ (if before.is_name then Some found.scope else before.parameters)
 
 -- ---- the size of an array, where one is written
 

@@ -12,12 +12,13 @@ use Rattle.lk_typed.specs.NodeParts.{parts}
 use Rattle.lk_typed.specs.Nodes.{AnExpression, ATypeName, at}
 use Rattle.lk_typed.specs.declared.role.Role.TheVariants.{Operand}
 use Rattle.lk_rules.specs.Laws.{name_found}
-use Rattle.lk_check_walk.specs.Moves.{KeepsBegun}
-use Rattle.lk_check_walk.specs.Walks.{IsFound, IsFoundType, IsIn, IsSound, StandsIn, Walks, WalksAndTells}
+use Rattle.lk_found.specs.Begun.{KeepsBegun}
+use Rattle.lk_found.specs.Findings.{IsFound, IsFoundType}
+use Rattle.lk_found.specs.declared.found.Found.{Found}
+use Rattle.lk_found.specs.declared.found.Stands.{Stands}
+use Rattle.lk_found.specs.declared.found.TypeFound.{TypeFound}
+use Rattle.lk_check_walk.specs.Walks.{IsIn, IsSound, StandsIn, Walks, WalksAndTells}
 use Rattle.lk_check_walk.specs.declared.checker.Checker.{Checker}
-use Rattle.lk_check_walk.specs.declared.found.Found.{Found}
-use Rattle.lk_check_walk.specs.declared.found.Stands.{Stands}
-use Rattle.lk_check_walk.specs.declared.found.TypeFound.{TypeFound}
 
 -- a state behind another: the table only grew, and a struct whose definition has begun is begun still
 pub record IsFurther (old new : Checker) : Type 0 where

@@ -9,13 +9,13 @@ ghost use Rattle.lk_typed.specs.Stands.{fault_at};
 ghost use Rattle.lk_names.specs.InScope.{env_in, nothing_in_scope};
 ghost use Rattle.lk_rules.specs.FirstFaults.{comes_before, less_or};
 ghost use Rattle.lk_rules.specs.Keeping.{keep, none_kept, watched, seen_by};
-ghost use Rattle.lk_check_walk.specs.Recorded.{nothing_recorded};
-ghost use Rattle.lk_check_walk.specs.Walks.{IsSound, Tells, fault_of, first_of, kept_in, mark_at, refusal_of};
+ghost use Rattle.lk_found.specs.Recorded.{nothing_recorded};
+ghost use Rattle.lk_found.specs.Findings.{mark_at, refusal_of};
+ghost use Rattle.lk_check_walk.specs.Walks.{IsSound, Tells, fault_of, first_of, kept_in};
 
-use crate::found::At;
-use crate::records::Records;
 use indexmap::IndexSet;
 use lk_base::{Code, Name, NoMemory, Refusal};
+use lk_found::{At, Records};
 use lk_names::Names;
 use lk_types::TypeTable;
 use std::alloc::Global;

@@ -9,12 +9,13 @@ ghost use Rattle.lk_typed.specs.declared.entity.Defines.TheVariants as defines;
 ghost use Rattle.lk_typed.specs.declared.entity.Linkage.TheVariants as linkage;
 ghost use Rattle.lk_names.specs.Uses.{breaches_told};
 ghost use Rattle.lk_rules.specs.Keeping.{KeepsCodes};
+ghost use Rattle.lk_found.specs.Findings.{mark_at};
 ghost use Rattle.lk_check_walk.specs.Moves.{Grows, GoesOn};
-ghost use Rattle.lk_check_walk.specs.Walks.{IsIn, IsSound, kept_in, mark_at, recorded_in};
+ghost use Rattle.lk_check_walk.specs.Walks.{IsIn, IsSound, kept_in, recorded_in};
 
 use crate::checker::Checker;
-use crate::found::At;
 use lk_base::{Code, Name, NoMemory};
+use lk_found::At;
 use lk_typed::{Declared, Defines, Linkage, Meaning};
 
 /// A name without linkage.

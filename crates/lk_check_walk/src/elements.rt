@@ -4,12 +4,11 @@ ghost use Rattle.std.specs.Option.{option_map};
 ghost use Rattle.lk_types.specs.Table.{IsKnown};
 ghost use Rattle.lk_typed.specs.Env.{Env};
 ghost use Rattle.lk_typed.specs.Meaning.{meaning};
-ghost use Rattle.lk_check_walk.specs.Shapes.{IsElement, IsElementIn};
+ghost use Rattle.lk_found.specs.Shapes.{IsElement, IsElementIn};
 ghost use Rattle.lk_check_walk.specs.Walks.{IsIn, IsSound};
 
 use crate::checker::Checker;
-use crate::layers::Element;
-use crate::structs::is_broken;
+use lk_found::{Element, is_broken};
 use lk_typed::is_complete;
 use lk_types::TypeId;
 

@@ -10,16 +10,17 @@ ghost use Rattle.lk_typed.specs.Redeclared.{name_rules};
 ghost use Rattle.lk_typed.specs.Told.{declares, enumerator, next_value as spec_next, written_value as spec_written};
 ghost use Rattle.lk_check_decl.specs.Breaches.{told};
 ghost use Rattle.lk_rules.specs.Keeping.{KeepsCodes};
+ghost use Rattle.lk_found.specs.Keepings.{AreUnnamed};
+ghost use Rattle.lk_found.specs.Findings.{mark_at};
 ghost use Rattle.lk_check_walk.specs.Counting.{IsSettled, constant_found};
-ghost use Rattle.lk_check_walk.specs.Keepings.{AreUnnamed};
 ghost use Rattle.lk_check_walk.specs.Moves.{Grows, GoesOn};
 ghost use Rattle.lk_check_walk.specs.Specifying.{IsSame, KeepsAt};
-ghost use Rattle.lk_check_walk.specs.Walks.{IsIn, IsSound, kept_in, mark_at, recorded_in};
+ghost use Rattle.lk_check_walk.specs.Walks.{IsIn, IsSound, kept_in, recorded_in};
 
 use crate::checker::Checker;
-use crate::found::{At, Found};
 use lk_base::{Code, Name, NoMemory};
 use lk_check_decl::{next_code, next_value, written_code, written_value};
+use lk_found::{At, Found};
 use lk_typed::{Constant, Meaning};
 
 /// The value of an enumerator.

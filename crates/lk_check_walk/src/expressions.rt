@@ -1,14 +1,13 @@
 //! Expressions (C99 6.5): each is judged once, and its parts before it.
 ghost use Rattle.std.specs.Prelude.{◌≡◌, IfOk, OnOk};
 ghost use Rattle.lk_typed.specs.Names.{IsKnownRole};
-ghost use Rattle.lk_check_walk.specs.Judging.{HasOperand};
+ghost use Rattle.lk_found.specs.Judging.{HasOperand};
 ghost use Rattle.lk_check_walk.specs.Walking.{IsFurther, Judges, JudgesForm, JudgesSides, JudgesTwo, operand_in};
 ghost use Rattle.lk_check_walk.specs.Walks.{IsSound};
 
 use crate::checker::Checker;
-use crate::found::{Found, Stands};
-use crate::roles::in_cast;
 use lk_base::NoMemory;
+use lk_found::{Found, Stands, in_cast};
 use lk_tree::{AssignOperator, Expr, ExprForm};
 use lk_typed::Role;
 

@@ -1,14 +1,13 @@
 //! Enumerators, one after another (C99 6.7.2.2).
 ghost use Rattle.std.specs.Prelude.{IfOk};
 ghost use Rattle.lk_check_walk.specs.Counting.{Counts, CountsAll};
-ghost use Rattle.lk_typed.specs.Told.{before_first};
 ghost use Rattle.lk_check_walk.specs.Walks.{IsSound};
+ghost use Rattle.lk_typed.specs.Told.{before_first};
 
 use crate::checker::Checker;
 use crate::enumerators::ItemFound;
-use crate::found::{At, Stands};
-use crate::shapes::either;
 use lk_base::NoMemory;
+use lk_found::{At, Stands, either};
 use lk_tree::Item;
 
 impl Checker {

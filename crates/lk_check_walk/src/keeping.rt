@@ -2,13 +2,12 @@
 ghost use Rattle.std.specs.Prelude.{◌≡◌, ◌++◌, ◌∷◌, [], Some, None, if◌then◌else◌, OnOk};
 ghost use Rattle.lk_base.specs.declared.code.Code.TheVariants as codes;
 ghost use Rattle.lk_typed.specs.Faults.{breach};
-ghost use Rattle.lk_check_walk.specs.Specified.{breach_in, breaches_in};
+ghost use Rattle.lk_found.specs.Specified.{breach_in, breaches_in};
 ghost use Rattle.lk_check_walk.specs.Specifying.{IsSame, KeepsAt};
 
 use crate::checker::Checker;
-use crate::found::At;
-use crate::gathered::Breach;
 use lk_base::{Code, NoMemory};
+use lk_found::{At, Breach};
 
 /// 30, where there is a bit-field.
 fn bit_field_code(has_bit_field: bool) -> Option<Code>

@@ -14,19 +14,18 @@ ghost use Rattle.lk_typed.specs.Sizes.{is_complete};
 ghost use Rattle.lk_typed.specs.Told.{MemberTold, then_member};
 ghost use Rattle.lk_typed.specs.Typings.{field_in, structs_in};
 ghost use Rattle.lk_typed.specs.declared.members.Field.{Field as CodeField};
-ghost use Rattle.lk_check_walk.specs.Keepings.{KeepsEach};
-ghost use Rattle.lk_check_walk.specs.MembersOf.{AreMembers, HasFields, IsLarger, IsSizeWith, IsThereWhere, KeepsName, PutsMember, TellsFields, is_again, is_free, member_breach, member_codes};
+ghost use Rattle.lk_found.specs.Keepings.{KeepsEach};
+ghost use Rattle.lk_found.specs.MembersOf.{AreMembers, HasFields, IsLarger, IsSizeWith, IsThereWhere, TellsFields, is_again, is_free, member_breach, member_codes};
+ghost use Rattle.lk_check_walk.specs.MembersOf.{KeepsName, PutsMember};
 ghost use Rattle.lk_check_walk.specs.Specifying.{IsSame, KeepsAt};
 ghost use Rattle.lk_check_walk.specs.Walks.{IsIn, IsSound, Tells, kept_in};
 
 use crate::checker::Checker;
-use crate::declarators::{DeclaratorFound, at_declarator, declared_name};
-use crate::fields::MembersFound;
-use crate::found::At;
-use crate::gathered::Specified;
-use crate::structs::is_broken;
 use lk_base::{Code, Name, NoMemory};
 use lk_check_decl::{member_code, with_member};
+use lk_found::{
+    At, DeclaratorFound, MembersFound, Specified, at_declarator, declared_name, is_broken,
+};
 use lk_tree::Declarator;
 use lk_typed::Field;
 use lk_types::{TypeId, TypeSize};

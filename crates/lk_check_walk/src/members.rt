@@ -1,17 +1,15 @@
 //! Members of structs (C99 6.7.2.1).
 ghost use Rattle.std.specs.Prelude.{IfOk, IfSome, OnOk};
 ghost use Rattle.lk_types.specs.Table.{IsKnown};
-ghost use Rattle.lk_check_walk.specs.MembersOf.{DeclaresField, DeclaresMember, DeclaresMembers, DeclaresWidth, FindsAll, FindsMember, HasFields};
+ghost use Rattle.lk_found.specs.MembersOf.{HasFields};
+ghost use Rattle.lk_check_walk.specs.MembersOf.{DeclaresField, DeclaresMember, DeclaresMembers, DeclaresWidth, FindsAll, FindsMember};
 ghost use Rattle.lk_check_walk.specs.Walking.{IsFurther};
 ghost use Rattle.lk_check_walk.specs.Walks.{IsSound};
 
 use crate::checker::Checker;
-use crate::declarators::Asked;
-use crate::fields::MembersFound;
-use crate::found::{At, Stands};
-use crate::shapes::both;
 use lk_base::NoMemory;
 use lk_check_decl::{Holder, has_bit_field};
+use lk_found::{Asked, At, MembersFound, Stands, both};
 use lk_tree::{Declarator, Expr, Member, MemberDeclarator};
 use lk_types::TypeId;
 

@@ -1,48 +1,22 @@
 //! Names and texts as expressions (C99 6.4.5, 6.5.1).
-ghost use Rattle.std.specs.Prelude.{◌≡◌, Bool, List, ℕ, Option, Some, [], IfOk, IfSome, OnOk, option_map, if◌then◌else◌};
+ghost use Rattle.std.specs.Prelude.{◌≡◌, Option, Some, IfOk, OnOk, option_map};
 ghost use Rattle.lk_tree.specs.declared.expression.DeclaratorForm.TheOpen.{ExprForm-F};
 ghost use Rattle.lk_typed.specs.Env.{Env, look_up};
 ghost use Rattle.lk_typed.specs.Expressions.{AWord, breach_at, written};
-ghost use Rattle.lk_typed.specs.Meaning.{IsReady};
-ghost use Rattle.lk_typed.specs.Names.{IsKnownName, declared_in, role_in};
-ghost use Rattle.lk_typed.specs.Words.{told_name, use_of_declared, word_rule};
+ghost use Rattle.lk_typed.specs.Names.{role_in};
+ghost use Rattle.lk_typed.specs.Words.{word_rule};
 ghost use Rattle.lk_check_expr.specs.Looks.{IsLook, word_look};
 ghost use Rattle.lk_check_expr.specs.NameUses.{IsUse};
-ghost use Rattle.lk_check_walk.specs.Judging.{IsRuled, TellsNoName, code_in, typed_in};
+ghost use Rattle.lk_found.specs.Judging.{IsRuled, TellsNoName, code_in, typed_in};
 ghost use Rattle.lk_check_walk.specs.Walks.{IsIn, IsSound, Settles, Tells};
 
-use crate::addresses::{named, whole};
 use crate::checker::Checker;
-use crate::found::{At, Found};
-use crate::ruled::Ruled;
 use crate::settle::at_expr;
 use lk_base::{Code, Name, NoMemory};
 use lk_check_expr::{Look, NameUse, text, word};
+use lk_found::{At, Found, Ruled, is_told_with_name, whole, word_ruled};
 use lk_tree::Expr;
-use lk_typed::{Declared, Role, Typed, Verdict};
-use lk_types::TypeTable;
-
-/// Whether a refusal at a name tells it.
-fn is_told_with_name(code: Code) -> bool
-    ensures { (word : List ℕ) → told_name code word ≡ (if result then word else []) }
-{
-    matches!(
-        code,
-        Code::Undeclared | Code::TryLock | Code::LongJmp | Code::Atomic | Code::UnknownExternal
-    )
-}
-
-/// A name as an expression, by its innermost declaration.
-fn word_ruled(types: &TypeTable, name: &Name, used: &NameUse, found: Option<&Declared>) -> Ruled
-    requires ready { IsReady types.now }
-    requires known { IfSome found (λ d. IsKnownName types.now d.now) }
-    ensures { (env : Env) → IsUse types.now env name.now used.now → IsRuled types.now result
-        (use_of_declared env name.now (option_map (λ d. declared_in types.now d.now) found.entry)) }
-{
-    let verdict = word(types, name, used, found);
-    let address = named(found);
-    Ruled { verdict, address }
-}
+use lk_typed::{Role, Typed, Verdict};
 
 impl Checker {
     /// Keeps a code at a name, and tells the name with those that do.

@@ -11,15 +11,15 @@ ghost use Rattle.lk_typed.specs.Redeclared.{tag_rules};
 ghost use Rattle.lk_typed.specs.Structs.{struct_begun};
 ghost use Rattle.lk_typed.specs.Told as spec;
 ghost use Rattle.lk_names.specs.Uses.{rules_use};
-ghost use Rattle.lk_check_walk.specs.Moves.{begun_if_admitted, GrowsAlone, KeepsBegun, RecordsTag};
+ghost use Rattle.lk_found.specs.Begun.{begun_if_admitted, KeepsBegun};
+ghost use Rattle.lk_found.specs.Specifying.{IsTagUse};
+ghost use Rattle.lk_check_walk.specs.Moves.{GrowsAlone, RecordsTag};
 ghost use Rattle.lk_check_walk.specs.Naming.{IsNamedType, IsSpecifierPut};
-ghost use Rattle.lk_check_walk.specs.Specifying.{IsTagUse};
 ghost use Rattle.lk_check_walk.specs.Walks.{IsIn, IsSound};
 
 use crate::checker::Checker;
-use crate::gathered::Gathered;
-use crate::tagged::{admits, enum_breach, tag_breach};
 use lk_base::{Name, NoMemory};
+use lk_found::{Gathered, admits, enum_breach, tag_breach};
 use lk_names::{TagUse, typedef_of};
 use lk_types::TypeId;
 

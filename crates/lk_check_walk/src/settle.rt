@@ -1,31 +1,29 @@
 //! An expression whose parts are judged: the rule of its form is asked, its code is kept, and what is found of it is told
 //! (C99 6.5).
-ghost use Rattle.std.specs.Prelude.{◌≡◌, ◌||◌, Bool, Option, List, IfOk, OnOk, option_map};
-ghost use Rattle.lk_types.specs.Table.{Table};
+ghost use Rattle.std.specs.Prelude.{◌≡◌, Option, List, IfOk, OnOk, option_map};
 ghost use Rattle.lk_tree.specs.declared.expression.DeclaratorForm.TheOpen.{ExprForm-F};
 ghost use Rattle.lk_typed.specs.Env.{Env};
 ghost use Rattle.lk_typed.specs.ExprRules.{look_of, rule};
 ghost use Rattle.lk_typed.specs.Faults.{breach};
 ghost use Rattle.lk_typed.specs.Names.{IsKnownRole, role_in};
 ghost use Rattle.lk_typed.specs.NodeRules.{mark};
-ghost use Rattle.lk_typed.specs.Typing as spec;
-ghost use Rattle.lk_typed.specs.Typing.{Judged, Named, Typing, plain_look, with_one};
+ghost use Rattle.lk_typed.specs.Typing.{Judged, Named};
 ghost use Rattle.lk_check_expr.specs.Looks.{IsLook};
-ghost use Rattle.lk_check_walk.specs.Arguments.{AreOperands, IsGiven};
-ghost use Rattle.lk_check_walk.specs.Judging.{HasKnownType, HasOperand, IsRuled, SettlesOne, SettlesThree, SettlesTwo, TellsNoName, code_in, typed_in};
-ghost use Rattle.lk_check_walk.specs.Walks.{IsFound, IsFoundType, IsFoundTyping, IsIn, IsSound, JudgedForm, Settles, Tells, mark_at};
+ghost use Rattle.lk_found.specs.Arguments.{AreOperands, IsGiven};
+ghost use Rattle.lk_found.specs.Judging.{HasKnownType, HasOperand, IsRuled, TellsNoName, code_in, typed_in};
+ghost use Rattle.lk_found.specs.Findings.{IsFound, IsFoundType, JudgedForm, mark_at};
+ghost use Rattle.lk_check_walk.specs.Judging.{SettlesOne, SettlesThree, SettlesTwo};
+ghost use Rattle.lk_check_walk.specs.Walks.{IsIn, IsSound, Settles, Tells};
 
-use crate::addresses::Address;
-use crate::arguments::{Given, call_ruled};
 use crate::checker::Checker;
-use crate::found::{At, Found, TypeFound};
-use crate::ruled::{
-    Ruled, arrow_ruled, assign_ruled, binary_ruled, cast_ruled, choice_ruled, comma_ruled,
-    dot_ruled, index_ruled, paren_ruled, prefix_ruled, sizeof_expr_ruled, sizeof_type_ruled,
-    step_ruled,
-};
 use lk_base::{Kind, Name, NoMemory};
 use lk_check_expr::{Look, character, number};
+use lk_found::{
+    At, Found, Given, Ruled, TypeFound, arrow_ruled, assign_ruled, binary_ruled, call_ruled,
+    cast_ruled, choice_ruled, comma_ruled, dot_ruled, index_ruled, look_of_call, look_of_cast,
+    look_of_one, look_of_three, look_of_two, paren_ruled, prefix_ruled, sizeof_expr_ruled,
+    sizeof_type_ruled, step_ruled,
+};
 use lk_tree::{AssignOperator, BinaryOperator, Expr, PrefixOperator, StepOperator};
 use lk_typed::{Role, Typed, Verdict};
 
@@ -37,59 +35,6 @@ pub(crate) fn at_expr(e: &Expr) -> At
         spot: e.spot,
         ordinal: e.ordinal,
     }
-}
-
-/// Of an expression with one operand nothing is asked but whether a `sizeof` stands in it.
-fn look_of_one(a: &Look) -> Look
-    ensures { (env : Env) (x : spec.Look) →
-        IsLook env a.now x → IsLook env result (plain_look x.holds_sizeof) }
-{
-    Look::plain(a.holds_sizeof)
-}
-
-/// Whether one of two things holds.
-pub(crate) fn either(first: bool, second: bool) -> bool
-    ensures { result ≡ first || second }
-{
-    first || second
-}
-
-/// The same of one with two operands.
-fn look_of_two(a: &Look, b: &Look) -> Look
-    ensures { (env : Env) (x y : spec.Look) → IsLook env a.now x → IsLook env b.now y →
-        IsLook env result (plain_look (x.holds_sizeof || y.holds_sizeof)) }
-{
-    let holds = either(a.holds_sizeof, b.holds_sizeof);
-    Look::plain(holds)
-}
-
-/// The same of one with three operands.
-fn look_of_three(a: &Look, b: &Look, c: &Look) -> Look
-    ensures { (env : Env) (x y z : spec.Look) → IsLook env a.now x → IsLook env b.now y → IsLook env c.now z →
-        IsLook env result (plain_look (x.holds_sizeof || y.holds_sizeof || z.holds_sizeof)) }
-{
-    let first = either(a.holds_sizeof, b.holds_sizeof);
-    let holds = either(first, c.holds_sizeof);
-    Look::plain(holds)
-}
-
-/// The same of a call, by what holds of its arguments.
-fn look_of_call(f: &Look, in_arguments: bool) -> Look
-    ensures { (env : Env) (x : spec.Look) (holds : Bool) → IsLook env f.now x → in_arguments ≡ holds →
-        IsLook env result (plain_look (x.holds_sizeof || holds)) }
-{
-    let holds = either(f.holds_sizeof, in_arguments);
-    Look::plain(holds)
-}
-
-/// The same of a cast.
-fn look_of_cast(target: &TypeFound, a: &Look) -> Look
-    ensures { (env : Env) (holds : Bool) (x : spec.Look) → target.now.holds_sizeof ≡ holds →
-        IsLook env a.now x →
-        IsLook env result (plain_look (holds || x.holds_sizeof)) }
-{
-    let holds = either(target.holds_sizeof, a.holds_sizeof);
-    Look::plain(holds)
 }
 
 impl Checker {

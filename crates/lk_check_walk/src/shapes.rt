@@ -1,53 +1,14 @@
 //! The type of a declarator, made of the type on its left from its outermost form to its name (C99 6.7.5).
-ghost use Rattle.std.specs.Prelude.{◌≡◌, ◌&&◌, ◌||◌, IfOk, OnOk, IfSome, All, reverse};
-ghost use Rattle.std.specs.Option.{option_map};
-ghost use Rattle.lk_types.specs.Table.{IsKnown};
-ghost use Rattle.lk_typed.specs.Meaning.{meaning};
+ghost use Rattle.std.specs.Prelude.{◌≡◌, IfOk, OnOk, All, reverse};
 ghost use Rattle.lk_typed.specs.Told.{Span};
+ghost use Rattle.lk_found.specs.Shaped.{form_at, forms_in, IsKnownAt, IsKnownLeft, IsLeft};
 ghost use Rattle.lk_check_walk.specs.Moves.{Puts};
-ghost use Rattle.lk_check_walk.specs.Shaped.{form_at, forms_in, IsKnownAt, IsKnownLeft, IsLeft, IsStep, IsShaped};
-ghost use Rattle.lk_check_walk.specs.Shapes.{IsElement};
+ghost use Rattle.lk_check_walk.specs.Shaped.{IsStep, IsShaped};
 ghost use Rattle.lk_check_walk.specs.Walks.{IsIn, IsSound};
 
 use crate::checker::Checker;
-use crate::found::At;
-use crate::layers::{Element, Layer, made_by};
 use lk_base::NoMemory;
-use lk_types::TypeId;
-
-/// A form of a declarator.
-#[derive(Drop)]
-pub(crate) struct LayerAt {
-    /// The node of the form.
-    pub(crate) at: At,
-    /// What it makes.
-    pub(crate) layer: Layer,
-}
-
-/// The type on the left of a form.
-#[derive(Clone, Copy)]
-pub(crate) struct Left {
-    /// The type, where no fault takes it away.
-    pub(crate) ty: Option<TypeId>,
-    /// What is asked of it as the type of elements.
-    pub(crate) element: Element,
-    /// Whether a type that the forms before this one made is over a bound.
-    pub(crate) is_large: bool,
-}
-
-/// Whether two things hold.
-pub(crate) fn both(one: bool, other: bool) -> bool
-    ensures { result ≡ (one && other) }
-{
-    one && other
-}
-
-/// Whether one of two things holds.
-pub(crate) fn either(one: bool, other: bool) -> bool
-    ensures { result ≡ (one || other) }
-{
-    one || other
-}
+use lk_found::{LayerAt, Left, either, made_by};
 
 impl Checker {
     /// What a form makes of the type on its left; its code is kept.

@@ -8,9 +8,9 @@ ghost use Rattle.lk_check_walk.specs.Walking.{IsFurther};
 ghost use Rattle.lk_check_walk.specs.Walks.{IsSound};
 
 use crate::checker::Checker;
-use crate::gathered::{Gathered, Specified};
 use lk_base::{Name, NoMemory};
 use lk_check_decl::Holder;
+use lk_found::{Gathered, Specified};
 use lk_names::TagUse;
 use lk_tree::{Item, Member, Specifier};
 

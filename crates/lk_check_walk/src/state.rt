@@ -15,13 +15,14 @@ ghost use Rattle.lk_typed.specs.Typings.{field_in};
 ghost use Rattle.lk_typed.specs.declared.members.Members.TheVariants as members;
 ghost use Rattle.lk_names.specs.InScope.{HasStruct};
 ghost use Rattle.lk_names.specs.Uses.{rules_use};
-ghost use Rattle.lk_check_walk.specs.Moves.{env_of, begun_where, Grows, GrowsAlone, GoesOn, IsMeant, KeepsBegun, RecordsTag};
-ghost use Rattle.lk_check_walk.specs.Structs.{member_of};
+ghost use Rattle.lk_found.specs.Begun.{begun_where, KeepsBegun};
+ghost use Rattle.lk_found.specs.Structs.{member_of};
+ghost use Rattle.lk_check_walk.specs.Moves.{env_of, Grows, GrowsAlone, GoesOn, IsMeant, RecordsTag};
 ghost use Rattle.lk_check_walk.specs.Walks.{IsIn, IsSound};
 
 use crate::checker::Checker;
-use crate::tagged::known_struct;
 use lk_base::{Name, NoMemory, Seq};
+use lk_found::known_struct;
 use lk_names::TagUse;
 use lk_typed::{Field, Members, Tag, TagMeaning};
 use lk_types::{CType, StructMember, TypeId};

@@ -1,15 +1,13 @@
 //! Type names (C99 6.7.6).
 ghost use Rattle.std.specs.Prelude.{IfOk, OnOk};
-ghost use Rattle.lk_check_walk.specs.Judging.{HasKnownType};
+ghost use Rattle.lk_found.specs.Judging.{HasKnownType};
 ghost use Rattle.lk_check_walk.specs.Walking.{IsFurther, NamesType};
 ghost use Rattle.lk_check_walk.specs.Walks.{IsSound};
 
 use crate::checker::Checker;
-use crate::declarators::Asked;
-use crate::found::{At, TypeFound};
-use crate::shapes::either;
 use lk_base::NoMemory;
 use lk_check_decl::Holder;
+use lk_found::{Asked, At, TypeFound, either};
 use lk_tree::TypeName;
 
 impl Checker {

@@ -21,7 +21,7 @@ use Rattle.lk_typed.specs.declared.names.Meaning.TheVariants as means
 use Rattle.lk_check_expr.proofs.FunctionRows.{row_there}
 use Rattle.lk_check_expr.specs.Functions.{row_of, rows_of, spelling}
 use Rattle.lk_check_expr.specs.declared.library.LibraryFunction.{LibraryFunction as Known}
-use Rattle.lk_check_walk.specs.declared.records.Meant.{Meant}
+use Rattle.lk_found.specs.declared.records.Meant.{Meant}
 use Rattle.lk_elab_expr.specs.CalledWords.{IsWordIn}
 use Rattle.lk_elab_expr.specs.Calling.{IsCalled, IsCalledBy}
 use Rattle.lk_elab_expr.specs.PassedArguments.{passes_to}

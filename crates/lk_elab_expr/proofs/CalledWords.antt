@@ -12,7 +12,7 @@ use Rattle.lk_typed.specs.Expressions.{expression}
 use Rattle.lk_typed.specs.Forms.{role_in_address, role_in_parentheses}
 use Rattle.lk_typed.specs.Typing.{Judged}
 use Rattle.lk_check_expr.specs.Looks.{is_address}
-use Rattle.lk_check_walk.specs.Uses.{found_by}
+use Rattle.lk_found.specs.Uses.{found_by}
 use Rattle.lk_elab_expr.specs.CalledWords.{HasRoutine, HasWord, IsEntityOf, IsRoutineIn}
 use Rattle.lk_elab_expr.specs.Starting.{IsStarted}
 use Rattle.lk_elab_expr.specs.declared.elaborator.Elaborator.{Elaborator}

@@ -22,9 +22,9 @@ use Rattle.lk_typed.specs.declared.role.Role.TheVariants as role
 use Rattle.lk_typed.specs.declared.typed.ExprType.{ExprType}
 use Rattle.lk_typed.specs.declared.typed.ExprType.TheVariants.{Listed, PointerTo}
 use Rattle.lk_typed.specs.declared.typed.Typed.{Typed}
-use Rattle.lk_check_walk.specs.Walks.{IsFound, IsFoundTyping}
-use Rattle.lk_check_walk.specs.declared.found.Found.{Found}
-use Rattle.lk_check_walk.specs.declared.records.Meant.{Meant}
+use Rattle.lk_found.specs.Findings.{IsFound, IsFoundTyping}
+use Rattle.lk_found.specs.declared.found.Found.{Found}
+use Rattle.lk_found.specs.declared.records.Meant.{Meant}
 use Rattle.lk_elab_expr.specs.Leading.{Grows, GoesOn, Leads, entity_by, local_by}
 use Rattle.lk_elab_expr.specs.Standing.{PartStandsAs, StandsAs}
 use Rattle.lk_elab_expr.specs.Telling.{IsMeant, IsTold, IsTrueOf, IsTrueOfName}

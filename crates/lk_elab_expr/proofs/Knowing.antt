@@ -10,8 +10,8 @@ use Rattle.lk_typed.specs.Ty.{Ty, Void, Int, ThreadId, Mutex, Cond, Pointer, Arr
 use Rattle.lk_typed.specs.Typing.{Typing}
 use Rattle.lk_typed.specs.Typings.{ForEach, IsTyping}
 use Rattle.lk_typed.specs.declared.typed.Typed.{Typed}
-use Rattle.lk_check_walk.specs.Walks.{IsFoundTyping}
-use Rattle.lk_check_walk.specs.declared.found.Found.{Found}
+use Rattle.lk_found.specs.Findings.{IsFoundTyping}
+use Rattle.lk_found.specs.declared.found.Found.{Found}
 use Rattle.lk_elab_expr.specs.Known.{HasTyping, HasValue, IsFoundAt}
 
 pub some_none : {A : Type 0} {a : A} → ◌≡◌ {A = Option A} None (Some a) → ⊥

@@ -16,7 +16,7 @@ use Rattle.lk_typed.specs.declared.expression.TypedExpr.{TypedExpr}
 use Rattle.lk_typed.specs.declared.names.Duration.{Duration}
 use Rattle.lk_typed.specs.declared.names.Duration.TheVariants.{Static, Automatic}
 use Rattle.lk_typed.specs.declared.names.Meaning.TheVariants as means
-use Rattle.lk_check_walk.specs.declared.records.Meant.{Meant}
+use Rattle.lk_found.specs.declared.records.Meant.{Meant}
 use Rattle.lk_elab_expr.specs.Leading.{Leads, entity_by, local_by}
 use Rattle.lk_elab_expr.specs.Leaves.{IsSizeofForm, IsStorage}
 use Rattle.lk_elab_expr.specs.Standing.{MakesOwn}

@@ -22,7 +22,7 @@ use Rattle.lk_types.specs.Table.{Table}
 use Rattle.lk_check_expr.specs.Arguments.{IsPassedAt}
 use Rattle.lk_check_expr.specs.declared.library.Passing.{Passing}
 use Rattle.lk_check_expr.specs.declared.library.Passing.TheVariants as passing
-use Rattle.lk_check_walk.proofs.Turns.{drop_next, drop_none}
+use Rattle.lk_found.proofs.Turns.{drop_next, drop_none}
 use Rattle.lk_elab_expr.specs.Converting.{ConvertedTo, Gives, IsGivenAs, StandsAnyhow}
 use Rattle.lk_elab_expr.specs.Known.{OfEach}
 use Rattle.lk_elab_expr.specs.Leading.{Grows}

@@ -13,8 +13,8 @@ use Rattle.lk_typed.specs.Units as units
 use Rattle.lk_typed.specs.Units.{IsNode}
 use Rattle.lk_typed.specs.Units.IsNode.{node_of}
 use Rattle.lk_typed.specs.declared.entity.Use.{Use}
-use Rattle.lk_check_walk.specs.Truth.{IsSoInside}
-use Rattle.lk_check_walk.specs.Uses.{HasUses, IsOfUse, found_by, name_written, word_in}
+use Rattle.lk_found.specs.Truth.{IsSoInside}
+use Rattle.lk_found.specs.Uses.{HasUses, IsOfUse, found_by, name_written, word_in}
 use Rattle.lk_elab_expr.specs.Naming.{AreFirstUses, IsUseAt}
 
 same_pair : {a b : ℕ} {u v : Use} → a ≡ b → u ≡ v → ◌≡◌ {A = ℕ × Use} (a, u) (b, v)

@@ -13,8 +13,8 @@ use Rattle.lk_typed.specs.Typings.{IsTyping}
 use Rattle.lk_typed.specs.declared.constant.Constant.{Constant}
 use Rattle.lk_typed.specs.declared.typed.ExprType.{ExprType}
 use Rattle.lk_typed.specs.declared.typed.Typed.{Typed}
-use Rattle.lk_check_walk.specs.Walks.{IsFound}
-use Rattle.lk_check_walk.specs.declared.found.Found.{Found}
+use Rattle.lk_found.specs.Findings.{IsFound}
+use Rattle.lk_found.specs.declared.found.Found.{Found}
 use Rattle.lk_elab_expr.specs.Telling.{IsTrueOf, IsTrueOfName}
 use Rattle.lk_elab_expr.specs.declared.elaborator.Elaborator.{Elaborator}
 

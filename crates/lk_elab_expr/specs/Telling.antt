@@ -16,9 +16,9 @@ use Rattle.lk_typed.specs.Nodes.{Node, AnExpression, ATypeName}
 use Rattle.lk_typed.specs.Stands.{Stands}
 use Rattle.lk_typed.specs.declared.members.Field.{Field as FieldFound}
 use Rattle.lk_typed.specs.declared.members.Members.TheVariants as members
-use Rattle.lk_check_walk.specs.Walks.{IsFound}
-use Rattle.lk_check_walk.specs.declared.found.Found.{Found}
-use Rattle.lk_check_walk.specs.declared.records.Meant.{Meant}
+use Rattle.lk_found.specs.Findings.{IsFound}
+use Rattle.lk_found.specs.declared.found.Found.{Found}
+use Rattle.lk_found.specs.declared.records.Meant.{Meant}
 use Rattle.lk_elab_expr.specs.declared.elaborator.Elaborator.{Elaborator}
 
 -- what was found of a name is what it stands for

@@ -18,7 +18,7 @@ use crate::unreached::nowhere;
 use indexmap::IndexMap;
 use lk_base::{Name, NoMemory, Seq, Spot};
 use lk_check_decl::composite_if_equal;
-use lk_check_walk::Records;
+use lk_found::Records;
 use lk_typed::{Declaration, Defines, Entity, EntityKind, Linkage, Use};
 use lk_types::{TypeId, TypeTable, predeclared_types_stay};
 use std::alloc::Global;

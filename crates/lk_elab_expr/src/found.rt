@@ -6,7 +6,7 @@ ghost use Rattle.lk_typed.specs.Elaborated as spec;
 ghost use Rattle.lk_typed.specs.Expressions.{expression};
 ghost use Rattle.lk_typed.specs.Typings.{IsOperand};
 ghost use Rattle.lk_check_expr.specs.Functions.{row_of};
-ghost use Rattle.lk_check_walk.specs.Judging.{HasOperand};
+ghost use Rattle.lk_found.specs.Judging.{HasOperand};
 ghost use Rattle.lk_elab_expr.specs.Known.{HasConstant, HasNodeType, HasTyping, HasValue, IsFoundAt, IsNamedAt, OfEach};
 ghost use Rattle.lk_elab_expr.specs.Leading.{Grows};
 ghost use Rattle.lk_elab_expr.specs.Telling.{IsMeant};
@@ -16,7 +16,7 @@ use crate::type_numbers::{is_number, known, node_type};
 use crate::unreached::nowhere;
 use lk_base::NoMemory;
 use lk_check_expr::LibraryFunction;
-use lk_check_walk::{Found, Meant};
+use lk_found::{Found, Meant};
 use lk_typed::{Constant, ExprType, Typed, TypedExpr, value};
 use lk_types::{TypeId, TypeTable};
 

@@ -6,7 +6,7 @@ ghost use Rattle.lk_typed.specs.Env.{Env};
 ghost use Rattle.lk_typed.specs.Expressions.{expression};
 ghost use Rattle.lk_typed.specs.Tables.{Tables};
 ghost use Rattle.lk_typed.specs.declared.expression.TypedForm.{out-TypedForm};
-ghost use Rattle.lk_check_walk.specs.Uses.{found_by};
+ghost use Rattle.lk_found.specs.Uses.{found_by};
 ghost use Rattle.lk_elab_expr.specs.CalledWords.{HasWord, IsEntityOf};
 ghost use Rattle.lk_elab_expr.specs.Known.{OfEach};
 ghost use Rattle.lk_elab_expr.specs.Leading.{Leads};
@@ -28,7 +28,7 @@ pub(crate) struct NamedWord<'a> {
 }
 
 /// The name that an expression is, perhaps in parentheses.
-#[tactic(auto, using(lk_check_walk::proofs::Words::silent_word), unfolding(lk_check_walk::proofs::Words::is_silent))]
+#[tactic(auto, using(lk_found::proofs::Words::silent_word), unfolding(lk_found::proofs::Words::is_silent))]
 pub(crate) fn word_in(e: &Expr) -> Option<NamedWord<'_>>
     ensures word { (env : Env) →
         (expression e.now env).look.word ≡ found_by env (option_map (λ w. w.name.now) result) }

@@ -24,11 +24,11 @@ use Rattle.lk_typed.specs.Typings.{IsTyping}
 use Rattle.lk_typed.specs.Words.{whole_of}
 use Rattle.lk_typed.specs.declared.members.Field.{Field as FieldFound}
 use Rattle.lk_typed.specs.declared.members.Members.TheVariants as members
-use Rattle.lk_check_walk.specs.Addresses.{kept_of, prefix_address}
-use Rattle.lk_check_walk.specs.declared.addresses.Address.{Address}
+use Rattle.lk_found.specs.Addresses.{kept_of, prefix_address}
+use Rattle.lk_found.specs.declared.addresses.Address.{Address}
+use Rattle.lk_found.specs.Findings.{IsFoundTyping}
+use Rattle.lk_found.specs.declared.found.Found.{Found}
 use Rattle.lk_elab_expr.specs.Fields.{IsFieldNumber, number_of_name}
-use Rattle.lk_check_walk.specs.Walks.{IsFoundTyping}
-use Rattle.lk_check_walk.specs.declared.found.Found.{Found}
 use Rattle.lk_elab_expr.specs.Known.{IsFoundAt, OfEach}
 use Rattle.lk_elab_expr.specs.Telling.{HasFields, IsTold, IsTrueOf}
 use Rattle.lk_elab_expr.specs.declared.elaborator.Elaborator.{Elaborator}

@@ -26,7 +26,7 @@ use Rattle.lk_typed.specs.declared.entity.Entity.{Entity}
 use Rattle.lk_typed.specs.declared.initialiser.StaticObject.{StaticObject}
 use Rattle.lk_typed.specs.declared.statement.TypedStmt.{TypedStmt}
 use Rattle.lk_typed.specs.declared.unit.Local.{Local}
-use Rattle.lk_check_walk.specs.Named.{name_in}
+use Rattle.lk_found.specs.Named.{name_in}
 use Rattle.lk_elab_expr.specs.Leading.{GoesOn, Leads}
 use Rattle.lk_elab_expr.specs.PuttingLocals.{AreNumbered}
 use Rattle.lk_elab_expr.specs.declared.elaborator.Elaborator.{Elaborator}

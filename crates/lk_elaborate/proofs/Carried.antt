@@ -22,10 +22,10 @@ use Rattle.lk_typed.specs.declared.members.Members.{Members}
 use Rattle.lk_typed.specs.declared.members.Members.TheVariants as members
 use Rattle.lk_typed.specs.declared.names.Meaning.{Meaning}
 use Rattle.lk_typed.specs.declared.names.Meaning.TheVariants as means
-use Rattle.lk_check_walk.specs.Walks.{IsDeclaredAs, IsOfKind}
-use Rattle.lk_check_walk.specs.declared.records.DeclaredHere.{DeclaredHere}
-use Rattle.lk_check_walk.specs.declared.records.InitialiserKind.{InitialiserKind}
-use Rattle.lk_check_walk.specs.declared.records.InitialiserKind.TheVariants.{Word, Value}
+use Rattle.lk_found.specs.Findings.{IsDeclaredAs, IsOfKind}
+use Rattle.lk_found.specs.declared.records.DeclaredHere.{DeclaredHere}
+use Rattle.lk_found.specs.declared.records.InitialiserKind.{InitialiserKind}
+use Rattle.lk_found.specs.declared.records.InitialiserKind.TheVariants.{Word, Value}
 use Rattle.lk_elab_expr.proofs.Growing.{known_stays, told_stays}
 use Rattle.lk_elab_expr.specs.Leading.{GoesOn}
 use Rattle.lk_elab_expr.specs.declared.elaborator.Elaborator.{Elaborator}

@@ -33,9 +33,10 @@ use Rattle.lk_typed.specs.Units.{IsNode, at_end}
 use Rattle.lk_typed.specs.declared.names.Duration.{Duration}
 use Rattle.lk_typed.specs.declared.names.Meaning.TheVariants as means
 use Rattle.lk_typed.specs.declared.statement.LocalInit.{LocalInit}
-use Rattle.lk_check_walk.specs.Named.{name_in}
-use Rattle.lk_check_walk.specs.declared.declarators.DeclaredName.{DeclaredName}
-use Rattle.lk_check_walk.specs.declared.records.DeclaredHere.{DeclaredHere}
+use Rattle.lk_found.specs.Named.{name_in}
+use Rattle.lk_found.specs.declared.declarators.DeclaredName.{DeclaredName}
+use Rattle.lk_found.specs.declared.records.DeclaredHere.{DeclaredHere}
+use Rattle.lk_found.specs.Findings.{IsDeclaredAs}
 use Rattle.lk_elab_expr.proofs.Growing.{leads_back}
 use Rattle.lk_elab_expr.specs.Leading.{GoesOn, Leads}
 use Rattle.lk_elab_expr.specs.declared.elaborator.Elaborator.{Elaborator}
@@ -44,7 +45,6 @@ use Rattle.lk_elaborate.specs.Declaring.{MakesDeclarator, MakesLocalInit, MakesN
 use Rattle.lk_elaborate.specs.LocalParts.{GivesLocalInit}
 use Rattle.lk_elaborate.specs.Making.{MakesDeclaration, StandIn}
 use Rattle.lk_elaborate.specs.Source.{IsToldSource}
-use Rattle.lk_check_walk.specs.Walks.{IsDeclaredAs}
 
 -- ---- the name that a declarator declares is found behind it
 

@@ -36,10 +36,9 @@ use Rattle.lk_rules.specs.LayerLaws.{DeclaratorTree, declarator_parts_told}
 use Rattle.lk_rules.proofs.Layered.{declarators_follow_their_forms}
 use Rattle.lk_nodes.proofs.Lists.{With}
 use Rattle.lk_nodes.proofs.Trees.{extend_nothing}
-use Rattle.lk_check_walk.proofs.FormsOf.{told_by}
-use Rattle.lk_check_walk.proofs.WalkedForms.{form_of}
+use Rattle.lk_found.proofs.FormsOf.{told_by, form_of}
+use Rattle.lk_found.specs.Walked.{layer_of}
 use Rattle.lk_elaborate.specs.PuttingParameters.{HasBeside, HasBesideInside}
-use Rattle.lk_check_walk.specs.Walked.{layer_of}
 
 -- ---- a declarator that is a name alone makes nothing of the type on its left
 

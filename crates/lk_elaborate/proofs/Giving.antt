@@ -39,9 +39,9 @@ use Rattle.lk_typed.specs.declared.members.Members.{Members}
 use Rattle.lk_typed.specs.declared.members.Members.TheVariants as members
 use Rattle.lk_nodes.specs.Settled.{Holds}
 use Rattle.lk_nodes.specs.Settled.Holds.{itself}
-use Rattle.lk_check_walk.specs.Structs.{listed, member_of}
-use Rattle.lk_check_walk.specs.declared.records.InitialiserKind.{InitialiserKind}
-use Rattle.lk_check_walk.specs.declared.records.InitialiserKind.TheVariants as kind
+use Rattle.lk_found.specs.Structs.{listed, member_of}
+use Rattle.lk_found.specs.declared.records.InitialiserKind.{InitialiserKind}
+use Rattle.lk_found.specs.declared.records.InitialiserKind.TheVariants as kind
 use Rattle.lk_elab_expr.specs.declared.elaborator.Elaborator.{Elaborator}
 use Rattle.lk_elaborate.specs.Giving.{AreGivenAs, AreNodes, GivesTo, GivesToEntries, GivesToEntry, GivesToExpr, GivesToList, GivesToText, Puts, count_in, part_given}
 use Rattle.lk_elaborate.specs.Giving.AreGivenAs.{no_more, next}

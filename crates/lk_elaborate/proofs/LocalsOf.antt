@@ -21,7 +21,7 @@ use Rattle.lk_typed.specs.Units.{IsNode}
 use Rattle.lk_typed.specs.Units.IsNode.{node_of}
 use Rattle.lk_typed.specs.declared.entity.Use.{Use}
 use Rattle.lk_typed.specs.declared.unit.Local.{Local}
-use Rattle.lk_check_walk.specs.Uses.{address_by, address_in}
+use Rattle.lk_found.specs.Uses.{address_by, address_in}
 use Rattle.lk_elab_expr.proofs.Numbers.{means_on}
 use Rattle.lk_elab_expr.specs.PuttingLocals.{IsLocalSo}
 use Rattle.lk_elab_expr.specs.declared.elaborator.Elaborator.{Elaborator}

@@ -40,7 +40,7 @@ use Rattle.lk_typed.specs.declared.typed.ExprType.TheVariants.{Listed}
 use Rattle.lk_elab_expr.proofs.Gathering.{at_split, same_or_not}
 use Rattle.lk_elab_expr.proofs.Growing.{grows_same, leads_before}
 use Rattle.lk_elab_expr.proofs.Numbers.{means_led}
-use Rattle.lk_check_walk.specs.declared.found.At.{At}
+use Rattle.lk_found.specs.declared.found.At.{At}
 use Rattle.lk_elab_expr.specs.Elaborating.{ElaboratesTo}
 use Rattle.lk_elab_expr.specs.Leading.{Grows, Leads, entity_by, local_by}
 use Rattle.lk_elab_expr.specs.Telling.{IsTrueOf}

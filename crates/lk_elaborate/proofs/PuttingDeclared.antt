@@ -37,9 +37,9 @@ use Rattle.lk_typed.specs.declared.unit.Local.{Local}
 use Rattle.lk_check_decl.specs.Twins.{scope_of}
 use Rattle.lk_check_decl.specs.declared.words.Scope.{Scope as CodeScope}
 use Rattle.lk_check_decl.specs.declared.words.Scope.TheVariants as scopes
-use Rattle.lk_check_walk.specs.Named.{name_in}
-use Rattle.lk_check_walk.specs.declared.declarators.DeclaredName.{DeclaredName}
-use Rattle.lk_check_walk.specs.declared.records.DeclaredHere.{DeclaredHere}
+use Rattle.lk_found.specs.Named.{name_in}
+use Rattle.lk_found.specs.declared.declarators.DeclaredName.{DeclaredName}
+use Rattle.lk_found.specs.declared.records.DeclaredHere.{DeclaredHere}
 use Rattle.lk_elab_expr.proofs.Growing.{grows_same}
 use Rattle.lk_elab_expr.specs.Gathering.{Gathers}
 use Rattle.lk_elab_expr.specs.Leading.{GoesOn, Grows}

@@ -14,10 +14,10 @@ use Rattle.lk_typed.specs.Typing as typing
 use Rattle.lk_typed.specs.Typing.{Inside, NotAddress, Nowhere, NullAddress, FunctionAddress, Typing}
 use Rattle.lk_typed.specs.declared.constant.Constant.{Constant}
 use Rattle.lk_typed.specs.declared.constant.Constant.TheVariants as constant
-use Rattle.lk_check_walk.specs.Addresses.{binary_address, cast_address, kept_of, moved_by_operator}
-use Rattle.lk_check_walk.specs.declared.addresses.Address.{Address}
-use Rattle.lk_check_walk.specs.declared.addresses.Address.TheVariants as kept
-use Rattle.lk_check_walk.specs.declared.addresses.Place.{Place}
+use Rattle.lk_found.specs.Addresses.{binary_address, cast_address, kept_of, moved_by_operator}
+use Rattle.lk_found.specs.declared.addresses.Address.{Address}
+use Rattle.lk_found.specs.declared.addresses.Address.TheVariants as kept
+use Rattle.lk_found.specs.declared.addresses.Place.{Place}
 use Rattle.lk_elaborate.specs.Reaching.{MovesFrom, is_reached, position_in}
 use Rattle.lk_elaborate.specs.Reaching.MovesFrom.{unknown, outside, along}
 use Rattle.lk_elaborate.specs.declared.positions.Position.{Position}

@@ -16,9 +16,9 @@ use Rattle.lk_typed.specs.Nodes.{ADeclaration, AnInitialiser, at}
 use Rattle.lk_typed.specs.Tables.{Tables}
 use Rattle.lk_typed.specs.Told.{SpecifierTold}
 use Rattle.lk_typed.specs.declared.statement.LocalInit.{LocalInit}
-use Rattle.lk_check_walk.specs.Named.{name_in}
-use Rattle.lk_check_walk.specs.declared.declarators.DeclaredName.{DeclaredName}
-use Rattle.lk_check_walk.specs.declared.records.DeclaredHere.{DeclaredHere}
+use Rattle.lk_found.specs.Named.{name_in}
+use Rattle.lk_found.specs.declared.declarators.DeclaredName.{DeclaredName}
+use Rattle.lk_found.specs.declared.records.DeclaredHere.{DeclaredHere}
 use Rattle.lk_elab_expr.specs.Leading.{Leads}
 use Rattle.lk_elab_expr.specs.declared.elaborator.Elaborator.{Elaborator}
 use Rattle.lk_elaborate.specs.Making.{MakesOf, StandIn}

@@ -8,7 +8,7 @@ use Rattle.lk_typed.specs.declared.members.Members.TheVariants as members
 use Rattle.lk_typed.specs.declared.initialiser.StaticObject.{StaticObject}
 use Rattle.lk_typed.specs.declared.unit.Body.{Body}
 use Rattle.lk_typed.specs.declared.unit.TypedUnit.{TypedUnit}
-use Rattle.lk_check_walk.specs.Recorded.{Recorded}
+use Rattle.lk_found.specs.Recorded.{Recorded}
 use Rattle.lk_check_walk.specs.declared.checker.Checked.{Checked}
 use Rattle.lk_elab_expr.specs.Gathering.{AreFinished}
 use Rattle.lk_elab_expr.specs.declared.elaborator.Elaborator.{Elaborator}

@@ -21,7 +21,7 @@ use Rattle.lk_typed.specs.declared.entity.EntityKind.{EntityKind}
 use Rattle.lk_typed.specs.declared.entity.Linkage.{Linkage}
 use Rattle.lk_typed.specs.declared.initialiser.StaticObject.{StaticObject}
 use Rattle.lk_typed.specs.declared.unit.Local.{Local}
-use Rattle.lk_check_walk.specs.declared.found.At.{At}
+use Rattle.lk_found.specs.declared.found.At.{At}
 use Rattle.lk_elab_expr.specs.Gathering.{IsGathered, declaration_of}
 use Rattle.lk_elab_expr.specs.PuttingLocals.{AreNumbered, IsLocalSo}
 use Rattle.lk_elab_expr.specs.PuttingLocals as put

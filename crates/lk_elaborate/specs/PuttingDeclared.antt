@@ -26,10 +26,10 @@ use Rattle.lk_typed.specs.declared.initialiser.StaticObject.{StaticObject}
 use Rattle.lk_typed.specs.declared.unit.Local.{Local}
 use Rattle.lk_check_decl.specs.Twins.{scope_of}
 use Rattle.lk_check_decl.specs.declared.words.Scope.{Scope as CodeScope}
-use Rattle.lk_check_walk.specs.Named.{name_in}
-use Rattle.lk_check_walk.specs.Walks.{IsDeclaredAs}
-use Rattle.lk_check_walk.specs.declared.declarators.DeclaredName.{DeclaredName}
-use Rattle.lk_check_walk.specs.declared.records.DeclaredHere.{DeclaredHere}
+use Rattle.lk_found.specs.Named.{name_in}
+use Rattle.lk_found.specs.Findings.{IsDeclaredAs}
+use Rattle.lk_found.specs.declared.declarators.DeclaredName.{DeclaredName}
+use Rattle.lk_found.specs.declared.records.DeclaredHere.{DeclaredHere}
 use Rattle.lk_elab_expr.specs.Gathering.{IsGathered}
 use Rattle.lk_elab_expr.specs.PuttingLocals.{AreNumbered}
 use Rattle.lk_elab_expr.specs.PuttingLocals as put

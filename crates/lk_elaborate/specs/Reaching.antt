@@ -12,9 +12,9 @@ use Rattle.lk_typed.specs.Ty.{Ty, Pointer, Struct, is_array}
 use Rattle.lk_typed.specs.Typing as spec
 use Rattle.lk_typed.specs.Typing.{AtObject, AtText, FunctionAddress, Inside, NotAddress, Nowhere, NullAddress, Typing}
 use Rattle.lk_typed.specs.Typings.{IsTyping}
-use Rattle.lk_check_walk.specs.Addresses.{declared_address, kept_of}
-use Rattle.lk_check_walk.specs.declared.addresses.Address.{Address}
-use Rattle.lk_check_walk.specs.declared.addresses.Address.TheVariants as kept
+use Rattle.lk_found.specs.Addresses.{declared_address, kept_of}
+use Rattle.lk_found.specs.declared.addresses.Address.{Address}
+use Rattle.lk_found.specs.declared.addresses.Address.TheVariants as kept
 use Rattle.lk_elab_expr.specs.Fields.{IsFieldNumber}
 use Rattle.lk_elab_expr.specs.Telling.{IsTold}
 use Rattle.lk_elab_expr.specs.declared.elaborator.Elaborator.{Elaborator}

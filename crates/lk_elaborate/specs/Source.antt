@@ -23,11 +23,11 @@ use Rattle.lk_typed.specs.Ty.{Ty}
 use Rattle.lk_typed.specs.Typings.{structs_in, HasKnownFields}
 use Rattle.lk_typed.specs.Units.{IsNode, at_end}
 use Rattle.lk_nodes.specs.Settled.{AreSettled}
-use Rattle.lk_check_walk.specs.Structs.{AreListed}
-use Rattle.lk_check_walk.specs.Uses.{taken_in, word_in}
-use Rattle.lk_check_walk.specs.Walks.{IsDeclaredAs, IsOfKind}
-use Rattle.lk_check_walk.specs.declared.records.DeclaredHere.{DeclaredHere}
-use Rattle.lk_check_walk.specs.declared.records.InitialiserKind.{InitialiserKind}
+use Rattle.lk_found.specs.Structs.{AreListed}
+use Rattle.lk_found.specs.Uses.{taken_in, word_in}
+use Rattle.lk_found.specs.Findings.{IsDeclaredAs, IsOfKind}
+use Rattle.lk_found.specs.declared.records.DeclaredHere.{DeclaredHere}
+use Rattle.lk_found.specs.declared.records.InitialiserKind.{InitialiserKind}
 use Rattle.lk_check_unit.specs.Sources.{AreUses}
 use Rattle.lk_elab_expr.specs.Telling.{IsTold}
 use Rattle.lk_elab_expr.specs.declared.elaborator.Elaborator.{Elaborator}

@@ -4,8 +4,8 @@ ghost use Rattle.std.specs.Option.{option_map};
 ghost use Rattle.lk_typed.specs.Expressions.{declarator_layer};
 ghost use Rattle.lk_typed.specs.Locals.{parameter_name};
 ghost use Rattle.lk_typed.specs.Meaning.{meaning};
-ghost use Rattle.lk_check_walk.specs.Named.{name_in};
-ghost use Rattle.lk_check_walk.specs.Walked.{layer_of};
+ghost use Rattle.lk_found.specs.Named.{name_in};
+ghost use Rattle.lk_found.specs.Walked.{layer_of};
 ghost use Rattle.lk_elab_expr.specs.Leading.{GoesOn};
 ghost use Rattle.lk_elab_expr.specs.PuttingLocals.{PutsLocalOf};
 ghost use Rattle.lk_elaborate.specs.PuttingParameters.{AreTypesOf, HasBeside, HasBesideInside};
@@ -13,8 +13,8 @@ ghost use Rattle.lk_elaborate.specs.PuttingParameters.{PutsParameter, PutsParame
 
 use crate::type_forms::parameter_types;
 use lk_base::{Boxed, Name, NoMemory, Spot};
-use lk_check_walk::{DeclaredName, declared_name};
 use lk_elab_expr::{Elaborator, nowhere, put_local};
+use lk_found::{DeclaredName, declared_name};
 use lk_tree::{Declarator, DeclaratorForm, Parameter};
 use lk_types::{TypeId, TypeIds};
 

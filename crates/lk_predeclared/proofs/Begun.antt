@@ -7,7 +7,7 @@ use Rattle.lk_typed.specs.Library.{predeclared_names, predeclared_types}
 use Rattle.lk_typed.specs.Names.{declared_in}
 use Rattle.lk_typed.specs.Units.{around}
 use Rattle.lk_names.specs.InScope.{InScope, env_in, nothing_in_scope}
-use Rattle.lk_check_walk.specs.Structs.{HasMembers, listed}
+use Rattle.lk_found.specs.Structs.{HasMembers, listed}
 use Rattle.lk_check_walk.specs.Walks.{IsIn, IsSound}
 use Rattle.lk_check_walk.specs.declared.checker.Checker.{Checker}
 use Rattle.lk_check_walk.specs.declared.checker.Outside.{Outside}

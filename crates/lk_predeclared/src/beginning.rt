@@ -4,7 +4,7 @@ ghost use Rattle.lk_tree.specs.declared.statement.Unit.{Unit};
 ghost use Rattle.lk_typed.specs.Env.{Name};
 ghost use Rattle.lk_typed.specs.Units.{around};
 ghost use Rattle.lk_rules.specs.Keeping.{none_kept};
-ghost use Rattle.lk_check_walk.specs.Recorded.{nothing_recorded};
+ghost use Rattle.lk_found.specs.Recorded.{nothing_recorded};
 ghost use Rattle.lk_check_walk.specs.Walks.{IsIn, IsSound, kept_in};
 ghost use Rattle.lk_predeclared.specs.Beginning.{IsOutsideOf};
 

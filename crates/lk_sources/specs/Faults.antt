@@ -2,7 +2,7 @@
 use Rattle.std.specs.Prelude.{◌≡◌, List, [], ◌∷◌}
 use Rattle.std.specs.List.{AllByRecursion}
 use Rattle.lk_base.specs.declared.refusal.Refusal.{Refusal}
-use Rattle.lk_check_walk.specs.Walks.{refusal_of}
+use Rattle.lk_found.specs.Findings.{refusal_of}
 use Rattle.lk_tree.specs.declared.statement.Unit.{Unit}
 use Rattle.lk_typed.specs.Env.{Name}
 use Rattle.lk_typed.specs.Faults.{Fault}

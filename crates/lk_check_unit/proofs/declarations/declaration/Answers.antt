@@ -3,7 +3,7 @@ use Rattle.std.specs.Prelude.{if◌then◌else◌}
 use Rattle.std.proofs.lemmas.Result.{on_ok_weaker}
 use Rattle.lk_typed.specs.DeclarationRules.{InDeclaration}
 use Rattle.lk_typed.specs.Declarations.{is_alone}
-use Rattle.lk_check_walk.specs.Specified.{breaches_in}
+use Rattle.lk_found.specs.Specified.{breaches_in}
 use Rattle.lk_check_walk.specs.Specifying.{KeepsAt, Specifies}
 use Rattle.lk_check_unit.specs.InitDeclarators.{DeclaresAll}
 use Rattle.lk_check_unit.proofs.Asked.{grows_further}

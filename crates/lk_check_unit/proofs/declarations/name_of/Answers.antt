@@ -1,7 +1,7 @@
 use Rattle.std.proofs.Common.{◌∙◌, sym, ap}
 use Rattle.std.specs.Option.{option_map}
 use Rattle.std.proofs.lemmas.Result.{IfOk-weaker}
-use Rattle.lk_check_walk.specs.Named.{name_in}
+use Rattle.lk_found.specs.Named.{name_in}
 use Rattle.lk_check_unit.proofs.Declares.{name_found, no_name_found, waits_known}
 use Rattle.lk_check_unit.proofs.Naming.{further_puts}
 use Rattle.lk_check_unit.proofs.declarations.name_of.Goals as goal

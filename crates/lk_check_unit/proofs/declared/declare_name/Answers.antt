@@ -1,6 +1,6 @@
 use Rattle.std.proofs.Common.{refl, ap}
 use Rattle.lk_typed.specs.Env.{Declared}
-use Rattle.lk_check_walk.specs.Named.{name_in}
+use Rattle.lk_found.specs.Named.{name_in}
 use Rattle.lk_check_unit.proofs.Naming.{further_puts, further_same, further_then, known_unchanged, name_declared, pending_listed, puts_known, same_known, same_sound, type_unchanged, waits_later}
 use Rattle.lk_check_unit.proofs.declared.declare_name.Goals as goal
 

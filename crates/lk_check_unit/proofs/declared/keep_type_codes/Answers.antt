@@ -1,6 +1,6 @@
 use Rattle.std.proofs.Common.{None, refl, sym, subst}
 use Rattle.std.proofs.lemmas.Result.{IfOk-weaker}
-use Rattle.lk_check_walk.specs.Named.{name_in}
+use Rattle.lk_found.specs.Named.{name_in}
 use Rattle.lk_check_unit.specs.Declaring.{AsksType}
 use Rattle.lk_check_unit.proofs.Naming.{both_ok, no_type_asked, type_asked}
 use Rattle.lk_check_unit.proofs.declared.keep_type_codes.Goals as goal

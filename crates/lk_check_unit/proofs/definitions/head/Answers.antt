@@ -1,7 +1,7 @@
 use Rattle.std.proofs.Common.{false, subst}
 use Rattle.lk_typed.specs.DeclarationRules.{InDefinition}
+use Rattle.lk_found.specs.Specified.{breaches_in}
 use Rattle.lk_check_walk.proofs.GoingOn.{is_further, then_further}
-use Rattle.lk_check_walk.specs.Specified.{breaches_in}
 use Rattle.lk_check_walk.specs.Specifying.{KeepsAt, Specifies}
 use Rattle.lk_check_unit.specs.Definitions.{NamesFunction}
 use Rattle.lk_check_unit.proofs.Headed.{head_known, head_walked, marked}

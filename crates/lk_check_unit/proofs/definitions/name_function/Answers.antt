@@ -2,7 +2,7 @@ use Rattle.std.proofs.Common.{subst}
 use Rattle.std.specs.Prelude.{IfOk, None}
 use Rattle.lk_check_decl.specs.declared.words.Given.TheVariants.{Body}
 use Rattle.lk_check_decl.specs.declared.words.Scope.TheVariants.{File}
-use Rattle.lk_check_walk.specs.Named.{name_in}
+use Rattle.lk_found.specs.Named.{name_in}
 use Rattle.lk_check_unit.specs.Declaring.{DeclaresName, WaitsIn}
 use Rattle.lk_check_unit.proofs.Defining.{function_named}
 use Rattle.lk_check_unit.proofs.definitions.name_function.Goals as goal

@@ -1,7 +1,7 @@
 use Rattle.std.proofs.Common.{◌∙◌, sym, ap, subst}
 use Rattle.std.specs.Option.{option_map}
 use Rattle.std.proofs.lemmas.Result.{on_ok_weaker}
-use Rattle.lk_check_walk.specs.Named.{name_in}
+use Rattle.lk_found.specs.Named.{name_in}
 use Rattle.lk_check_unit.specs.Definitions.{DefinesName}
 use Rattle.lk_check_unit.proofs.Defining.{nothing_named}
 use Rattle.lk_check_unit.proofs.Naming.{further_same, same_itself}

@@ -4,7 +4,7 @@ use Rattle.lk_types.specs.Table.{IsKnown}
 use Rattle.lk_typed.specs.Expressions.{expr_word}
 use Rattle.lk_typed.specs.Meaning.{meaning}
 use Rattle.lk_check_unit.specs.Initialising.{IsNoWord, IsWord}
-use Rattle.lk_check_walk.specs.declared.records.InitialiserKind.TheVariants.{Value, Word}
+use Rattle.lk_found.specs.declared.records.InitialiserKind.TheVariants.{Value, Word}
 use Rattle.lk_check_unit.proofs.OfKinds.{grows_recorded, kind_recorded, value_kind, word_kind}
 use Rattle.lk_check_unit.proofs.initialisers.expression.Goals as goal
 

@@ -3,7 +3,7 @@ use Rattle.lk_typed.specs.Elements.{HasFewElements}
 use Rattle.lk_typed.specs.Meaning.{IsReady}
 use Rattle.lk_names.specs.InScope.{InScope, IsKnownScope}
 use Rattle.lk_types.specs.Table.{Table}
-use Rattle.lk_check_walk.specs.Structs.{AreListed}
+use Rattle.lk_found.specs.Structs.{AreListed}
 use Rattle.lk_check_walk.specs.declared.checker.Outside.{Outside}
 use Rattle.lk_predeclared.specs.Beginning.{IsOutsideOf}
 use Rattle.lk_check_unit.specs.Later.{AsksAll}

@@ -1,6 +1,6 @@
 use Rattle.std.proofs.Common.{◌∙◌, ◌++◌, ◌∷◌, [], ap, map, take}
-use Rattle.lk_check_walk.proofs.Completing.{taken_more}
-use Rattle.lk_check_walk.specs.Structs.{member_of}
+use Rattle.lk_found.proofs.Completing.{taken_more}
+use Rattle.lk_found.specs.Structs.{member_of}
 use Rattle.lk_check_walk.proofs.state.listed.Goals as goal
 
 pub loop-field-preserved : goal.loop-field-preserved

@@ -1,5 +1,5 @@
 use Rattle.std.proofs.Common.{◌≡◌, take, map}
-use Rattle.lk_check_walk.specs.Structs.{member_of}
+use Rattle.lk_found.specs.Structs.{member_of}
 use Rattle.lk_check_walk.proofs.state.listed.Given as goal
 
 abbrev pub invariant-loop-field : goal.invariant-loop-field

@@ -3,7 +3,7 @@ use Rattle.std.specs.Option.{option_map}
 use Rattle.std.proofs.lemmas.Option.{IfSome_then}
 use Rattle.lk_typed.specs.Expressions.{expression}
 use Rattle.lk_typed.specs.Forms.{role_in_parentheses}
-use Rattle.lk_check_walk.specs.Uses.{found_by}
+use Rattle.lk_found.specs.Uses.{found_by}
 use Rattle.lk_elab_expr.specs.CalledWords.{HasWord}
 use Rattle.lk_elab_expr.proofs.CalledWords.{found_as, has_word, has_word_inside, word_at, word_inside}
 use Rattle.lk_elab_expr.proofs.names.+word_in.Goals as goal

@@ -1,5 +1,5 @@
 use Rattle.std.proofs.Common.{refl, rules}
-use Rattle.lk_check_walk.specs.Named.{name_in}
+use Rattle.lk_found.specs.Named.{name_in}
 use Rattle.lk_elaborate.proofs.PuttingDeclared.{local_put, typedef_put}
 use Rattle.lk_elaborate.proofs.declarations.put_declared.Goals as goal
 

@@ -2,7 +2,7 @@ use Rattle.std.proofs.Common.{◌∙◌, ap}
 use Rattle.lk_tree.specs.declared.expression.DeclaratorForm.TheOpen.{DeclaratorForm-F}
 use Rattle.lk_tree.specs.declared.expression.DeclaratorForm.TheVariants as form
 use Rattle.lk_typed.specs.Expressions.{declarator_layer}
-use Rattle.lk_check_walk.proofs.WalkedForms.{form_of}
+use Rattle.lk_found.proofs.FormsOf.{form_of}
 use Rattle.lk_elaborate.proofs.FunctionTypes.{name_by, never_name}
 use Rattle.lk_elaborate.proofs.parameters.+is_name.Goals as goal
 

@@ -1,6 +1,6 @@
 use Rattle.std.proofs.Common.{◌∙◌, ap, sym}
 use Rattle.std.specs.Option.{option_map}
-use Rattle.lk_check_walk.specs.Named.{name_in}
+use Rattle.lk_found.specs.Named.{name_in}
 use Rattle.lk_elaborate.proofs.ParametersMore.{named_put, unnamed_put}
 use Rattle.lk_elaborate.proofs.parameters.put_parameter.Goals as goal
 

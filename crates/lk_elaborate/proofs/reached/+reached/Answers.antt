@@ -4,7 +4,7 @@ use Rattle.lk_tree.specs.declared.expression.Expr.{Expr}
 use Rattle.lk_typed.specs.Addresses.{inside, member_at, value}
 use Rattle.lk_typed.specs.Ty.{Struct}
 use Rattle.lk_typed.specs.Typing.{Typing}
-use Rattle.lk_check_walk.specs.Addresses.{prefix_address}
+use Rattle.lk_found.specs.Addresses.{prefix_address}
 use Rattle.lk_elaborate.specs.Reaching.{IsConvertedReached, IsReached, IsMemberBehind, IsMemberOf, IsMovedTo, OfTyping, address_in, is_reached}
 use Rattle.lk_elaborate.proofs.Addressing.{same_some}
 use Rattle.lk_elaborate.proofs.AddressesByForm.{arrow_reached, binary_reached, cast_is_reached, index_reached, kept_address, kept_value, member_reached, not_null_converted, null_converted, paren_reached, prefix_reached, text_reached, true_of, word_reached}

@@ -5,11 +5,6 @@ use Rattle.std.specs.Option.{option_map, option_copied}
 use Rattle.lk_types.specs.Building.{IsPassed}
 use Rattle.lk_typed.specs.DeclarationRules.{InType}
 use Rattle.lk_typed.specs.Meaning.{meaning}
-use Rattle.lk_check_walk.proofs.Passing.{bare_found, named_found}
-use Rattle.lk_check_walk.proofs.Whole.{declarator_is}
-use Rattle.lk_check_walk.specs.Parameters.{FindsParameters, ListsParameters, SettlesParameter, types_listed}
-use Rattle.lk_check_walk.specs.Specifying.{Specifies, AreSpecified, GathersEnum, GathersStruct, KeepsAt}
-use Rattle.lk_check_walk.specs.Walked.{WalksForms, WalksInner, FindsSize}
 use Rattle.std.specs.Int.{w32}
 use Rattle.std.proofs.lemmas.Int.{to_z-of_z}
 use Rattle.std.proofs.lemmas.List.{length-take-le, take_all}
@@ -17,14 +12,6 @@ use Rattle.lk_typed.specs.Env.{AsOperand, as_operand, extend, nothing, look_up, 
 use Rattle.lk_typed.specs.Expressions.{breach_at, expression, plainly, specifiers_found}
 use Rattle.lk_typed.specs.Forms.{role_in_parentheses, role_in_prefix}
 use Rattle.lk_typed.specs.Names.{IsKnownRole}
-use Rattle.lk_check_walk.specs.Arguments.{JudgesArguments, function_in}
-use Rattle.lk_check_walk.specs.Walking.{Judges, JudgesSides, JudgesTwo, NamesType, behind_left, behind_operand, operand_in}
-use Rattle.lk_check_walk.specs.Walks.{Settles}
-use Rattle.lk_check_walk.proofs.Argued.{AreArgued, argued_then, argument_judged, argument_taken, none_argued, operands_longer}
-use Rattle.lk_check_walk.proofs.Arms.{arm_call, arm_cast, arm_none, arm_one, arm_sizeof_type, arm_three, arm_two, in_role, judged_further, judged_operand, layer_is, sides_judged, two_judged}
-use Rattle.lk_check_walk.proofs.Further.{named_further, operand_further, role_known_further, then_further}
-use Rattle.lk_check_walk.proofs.Recordings.{further_recorded, judged_recorded, named_recorded}
-use Rattle.lk_check_walk.proofs.Walking.{no_walk}
 use Rattle.lk_base.specs.declared.code.Code.TheVariants.{BitField}
 use Rattle.lk_typed.specs.Faults.{breach}
 use Rattle.lk_tree.specs.declared.expression.Item.{out-Item}
@@ -36,24 +23,45 @@ use Rattle.lk_typed.specs.Redeclared.{tag_rules}
 use Rattle.lk_typed.specs.Structs.{struct_begun}
 use Rattle.lk_typed.specs.Told.{before_first, enum_named, no_specifier, of_type_alone, struct_named, struct_use, typedef_of, written_value}
 use Rattle.lk_check_decl.specs.Twins.{holder_of}
-use Rattle.lk_check_walk.proofs.Defines.{arm, arm_begins, begun_gathered, enum_gathered, further_refl, further_then, grows_further, same_further, named_gathered, nothing_put, spec_layer, storage_put, struct_gathered, word_gathered, word_put}
-use Rattle.lk_check_walk.specs.Specified.{breaches_in}
-use Rattle.lk_check_walk.specs.declared.fields.MembersFound.{MembersFound}
-use Rattle.lk_check_walk.specs.declared.found.At.{At}
-use Rattle.lk_check_walk.proofs.FieldsGrow.{fields_grow, fields_same}
-use Rattle.lk_check_walk.proofs.KeepsAll.{in_same}
-use Rattle.lk_check_walk.proofs.Turns.{drop_next, drop_none}
-use Rattle.lk_check_walk.proofs.TypeNamed.{named_alone, named_with}
-use Rattle.lk_check_walk.specs.Counting.{constant_found}
-use Rattle.lk_check_walk.specs.MembersOf.{DeclaresMembers, HasFields}
-use Rattle.lk_check_walk.proofs.WalkedForms.{size_found}
 use Rattle.lk_tree.specs.declared.expression.DeclaratorForm.TheVariants as shape
-use Rattle.lk_check_walk.proofs.GoingOn as on
-use Rattle.lk_check_walk.proofs.Listing as listing
-use Rattle.lk_check_walk.proofs.WalkedForms as walked
 use Rattle.lk_tree.specs.declared.expression.ExprForm.TheVariants as form
 use Rattle.lk_tree.specs.declared.expression.MemberDeclarator.TheVariants as member
 use Rattle.lk_tree.specs.declared.expression.Specifier.TheVariants as specifier_form
+use Rattle.lk_found.specs.Parameters.{types_listed}
+use Rattle.lk_found.specs.Arguments.{function_in}
+use Rattle.lk_found.proofs.Argued.{argument_taken, operands_longer}
+use Rattle.lk_found.proofs.Forms.{in_role, layer_is}
+use Rattle.lk_found.proofs.Defines.{nothing_put, spec_layer, storage_put, word_put}
+use Rattle.lk_found.specs.Specified.{breaches_in}
+use Rattle.lk_found.specs.declared.fields.MembersFound.{MembersFound}
+use Rattle.lk_found.specs.declared.found.At.{At}
+use Rattle.lk_found.proofs.FieldsGrow.{fields_grow, fields_same}
+use Rattle.lk_found.proofs.Turns.{drop_next, drop_none}
+use Rattle.lk_found.specs.MembersOf.{HasFields}
+use Rattle.lk_found.proofs.Listing as lists
+use Rattle.lk_found.proofs.FormsOf as forms
+use Rattle.lk_check_walk.proofs.Passing.{bare_found, named_found}
+use Rattle.lk_check_walk.proofs.Whole.{declarator_is}
+use Rattle.lk_check_walk.specs.Parameters.{FindsParameters, ListsParameters, SettlesParameter}
+use Rattle.lk_check_walk.specs.Specifying.{Specifies, AreSpecified, GathersEnum, GathersStruct, KeepsAt}
+use Rattle.lk_check_walk.specs.Walked.{WalksForms, WalksInner, FindsSize}
+use Rattle.lk_check_walk.specs.Arguments.{JudgesArguments}
+use Rattle.lk_check_walk.specs.Walking.{Judges, JudgesSides, JudgesTwo, NamesType, behind_left, behind_operand, operand_in}
+use Rattle.lk_check_walk.specs.Walks.{Settles}
+use Rattle.lk_check_walk.proofs.Argued.{AreArgued, argued_then, argument_judged, none_argued}
+use Rattle.lk_check_walk.proofs.Arms.{arm_call, arm_cast, arm_none, arm_one, arm_sizeof_type, arm_three, arm_two, judged_further, judged_operand, sides_judged, two_judged}
+use Rattle.lk_check_walk.proofs.Further.{named_further, operand_further, role_known_further, then_further}
+use Rattle.lk_check_walk.proofs.Recordings.{further_recorded, judged_recorded, named_recorded}
+use Rattle.lk_check_walk.proofs.Walking.{no_walk}
+use Rattle.lk_check_walk.proofs.Defines.{arm, arm_begins, begun_gathered, enum_gathered, further_refl, further_then, grows_further, same_further, named_gathered, struct_gathered, word_gathered}
+use Rattle.lk_check_walk.proofs.KeepsAll.{in_same}
+use Rattle.lk_check_walk.proofs.TypeNamed.{named_alone, named_with}
+use Rattle.lk_check_walk.specs.Counting.{constant_found}
+use Rattle.lk_check_walk.specs.MembersOf.{DeclaresMembers}
+use Rattle.lk_check_walk.proofs.WalkedForms.{size_found}
+use Rattle.lk_check_walk.proofs.GoingOn as on
+use Rattle.lk_check_walk.proofs.Listing as listing
+use Rattle.lk_check_walk.proofs.WalkedForms as walked
 use Rattle.lk_check_walk.proofs.Counts as counts
 use Rattle.lk_check_walk.proofs.Finds as finds
 use Rattle.lk_check_walk.proofs.Gathers as gathers
@@ -801,7 +809,7 @@ pub forms-returns-in_ok-walked-in-Star-clause-walked : goal.forms-returns-in_ok-
 forms-returns-in_ok-walked-in-Star-clause-walked t c =
     let new = c.inner_forms.new.self in
     walked.star_walks c.args.self.now new new c.args.in_size c.args.d.now c.at_declarator-at.result c.at_declarator-at.ensures.spot c.at_declarator-at.ensures.ordinal _ c.in-Star.inner c.in_ok-inside-in-Star.inside
-    c.in_ok-walked-in-Star.walked (walked.form_of c.args.d.now _ _ c.in-Star.is (shape.rolls-Star _ c.in-Star.inner)) c.in_ok-inside-in-Star.ensures.walked c.in_ok-walked-in-Star.ensures
+    c.in_ok-walked-in-Star.walked (forms.form_of c.args.d.now _ _ c.in-Star.is (shape.rolls-Star _ c.in-Star.inner)) c.in_ok-inside-in-Star.ensures.walked c.in_ok-walked-in-Star.ensures
 
 pub forms-returns-in_ok-walked-in-Star-clause-known : goal.forms-returns-in_ok-walked-in-Star-clause-known
 forms-returns-in_ok-walked-in-Star-clause-known t c =
@@ -809,7 +817,7 @@ forms-returns-in_ok-walked-in-Star-clause-known t c =
 
 pub forms-returns-in-Named-clause-walked : goal.forms-returns-in-Named-clause-walked
 forms-returns-in-Named-clause-walked t c =
-    walked.name_walks c.args.self.now c.args.in_size c.args.d.now _ c.new.result c.requires (walked.form_of c.args.d.now _ _ c.in-Named.is (shape.rolls-Named _)) c.new.ensures.layers c.new.ensures.is_name
+    walked.name_walks c.args.self.now c.args.in_size c.args.d.now _ c.new.result c.requires (forms.form_of c.args.d.now _ _ c.in-Named.is (shape.rolls-Named _)) c.new.ensures.layers c.new.ensures.is_name
     c.new.ensures.holds_sizeof c.new.ensures.parameters
 
 pub forms-returns-in-Named-clause-further : goal.forms-returns-in-Named-clause-further
@@ -822,14 +830,14 @@ pub forms-returns-in_ok-walked-in-Group-clause-walked : goal.forms-returns-in_ok
 forms-returns-in_ok-walked-in-Group-clause-walked t c =
     let new = c.forms.new.self in
     let w = c.in_ok-walked-in-Group.walked in
-    walked.group_walks c.args.self.now new c.args.in_size c.args.d.now c.in-Group.inner w (walked.form_of c.args.d.now _ _ c.in-Group.is (shape.rolls-Group c.in-Group.inner))
+    walked.group_walks c.args.self.now new c.args.in_size c.args.d.now c.in-Group.inner w (forms.form_of c.args.d.now _ _ c.in-Group.is (shape.rolls-Group c.in-Group.inner))
     (subst (λ d. WalksForms c.args.self.now new c.args.in_size d w) c.get.ensures c.in_ok-walked-in-Group.ensures.walked)
 
 pub forms-returns-in_ok-walked-in-ArrayOf-clause-walked : goal.forms-returns-in_ok-walked-in-ArrayOf-clause-walked
 forms-returns-in_ok-walked-in-ArrayOf-clause-walked t c =
     walked.array_walks c.args.self.now c.inner_forms-in-ArrayOf.new.self c.array_size.new.self c.args.in_size c.args.d.now c.at_declarator-at.result c.at_declarator-at.ensures.spot
     c.at_declarator-at.ensures.ordinal c.in-ArrayOf.inner c.in-ArrayOf.size c.in_ok-inside-in-ArrayOf.inside c.in_ok-walked-in-ArrayOf.walked c.in_ok-found-in-ArrayOf.found
-    (walked.form_of c.args.d.now _ _ c.in-ArrayOf.is (shape.rolls-ArrayOf c.in-ArrayOf.inner c.in-ArrayOf.size)) c.in_ok-inside-in-ArrayOf.ensures.walked c.in_ok-inside-in-ArrayOf.ensures.known
+    (forms.form_of c.args.d.now _ _ c.in-ArrayOf.is (shape.rolls-ArrayOf c.in-ArrayOf.inner c.in-ArrayOf.size)) c.in_ok-inside-in-ArrayOf.ensures.walked c.in_ok-inside-in-ArrayOf.ensures.known
     c.in_ok-found-in-ArrayOf.ensures.found c.in_ok-walked-in-ArrayOf.ensures
 
 pub forms-returns-in_ok-walked-in-ArrayOf-clause-further : goal.forms-returns-in_ok-walked-in-ArrayOf-clause-further
@@ -851,7 +859,7 @@ forms-returns-in_ok-walked-in-FunctionOf-clause-walked t c =
     let found = c.in_ok-found-in-FunctionOf.found in
     walked.function_walks c.args.self.now middle new c.args.in_size c.args.d.now c.at_declarator-at.result c.at_declarator-at.ensures.spot c.at_declarator-at.ensures.ordinal c.in-FunctionOf.inner c.in-FunctionOf.list
     c.in-FunctionOf.dots c.in_ok-inside-in-FunctionOf.inside c.in_ok-walked-in-FunctionOf.walked found
-    (walked.form_of c.args.d.now _ _ c.in-FunctionOf.is (shape.rolls-FunctionOf c.in-FunctionOf.inner c.in-FunctionOf.list c.in-FunctionOf.dots)) c.in_ok-inside-in-FunctionOf.ensures.walked
+    (forms.form_of c.args.d.now _ _ c.in-FunctionOf.is (shape.rolls-FunctionOf c.in-FunctionOf.inner c.in-FunctionOf.list c.in-FunctionOf.dots)) c.in_ok-inside-in-FunctionOf.ensures.walked
     c.in_ok-inside-in-FunctionOf.ensures.known (subst (λ ps. FindsParameters middle new c.args.in_size ps c.in-FunctionOf.dots found) c.list.ensures c.in_ok-found-in-FunctionOf.ensures.found)
     c.in_ok-walked-in-FunctionOf.ensures
 
@@ -894,7 +902,7 @@ pub each_parameter-loop-p-init : goal.each_parameter-loop-p-init
 each_parameter-loop-p-init t c =
     let listed = c.new-listed.result in
     let e = c.new-listed.ensures in
-    (on.same_further c.args.self.now c.requires, listing.none_known c.args.self.now.types listed e.types, listing.none_listed c.args.self.now c.args.in_size c.args.is_lone listed c.requires e.types e.has_void e.holds_sizeof)
+    (on.same_further c.args.self.now c.requires, lists.none_known c.args.self.now.types listed e.types, listing.none_listed c.args.self.now c.args.in_size c.args.is_lone listed c.requires e.types e.has_void e.holds_sizeof)
 
 pub each_parameter-loop-p-preserved : goal.each_parameter-loop-p-preserved
 each_parameter-loop-p-preserved t c =
@@ -912,14 +920,14 @@ each_parameter-loop-p-preserved t c =
     let p = c.p-item.result in (
       on.then_further old now next c.loop-p.invariant.0 further,
       subst (λ ts. IfSome ts (All (IsPassed next.types))) (sym put.types)
-          (listing.last_known next.types (types_listed before) found.ty (listing.params_known now next sound further (types_listed before) c.loop-p.invariant.1) c.in_ok-found.ensures.known),
-      subst (λ ps. ListsParameters old next c.args.in_size c.args.is_lone ps after) (listing.take_next ps i p c.p-item.is c.loop-p-test.true)
+          (lists.last_known next.types (types_listed before) found.ty (listing.params_known now next sound further (types_listed before) c.loop-p.invariant.1) c.in_ok-found.ensures.known),
+      subst (λ ps. ListsParameters old next c.args.in_size c.args.is_lone ps after) (lists.take_next ps i p c.p-item.is c.loop-p-test.true)
           (listing.listed_more old now next c.args.in_size c.args.is_lone (take i ps) p before after found sound further c.loop-p.invariant.2 c.loop-p.invariant.1 c.in_ok-found.ensures.found put.types put.has_void put.holds_sizeof),
     )
 
 pub each_parameter-returns-clause-listed : goal.each_parameter-returns-clause-listed
 each_parameter-returns-clause-listed t c =
-    subst (λ ps. ListsParameters c.args.self.now c.loop-p.self c.args.in_size c.args.is_lone ps c.loop-p.listed) (listing.take_all c.args.list.now c.loop-p.p-index c.loop-p-test.false) c.loop-p.invariant.2
+    subst (λ ps. ListsParameters c.args.self.now c.loop-p.self c.args.in_size c.args.is_lone ps c.loop-p.listed) (lists.take_all c.args.list.now c.loop-p.p-index c.loop-p-test.false) c.loop-p.invariant.2
 
 pub each_parameter-returns-clause-further : goal.each_parameter-returns-clause-further
 each_parameter-returns-clause-further t c = c.loop-p.invariant.0
@@ -955,7 +963,7 @@ parameters-returns-clause-known t c =
     let new = c.leave_scope.new.self in
     let listed = c.in_ok-listed.listed in
     record {
-      types = listing.all_types_known new.types c.is_lone-is_lone.result listed c.all_types-types.result c.all_types-types.ensures
+      types = lists.all_types_known new.types c.is_lone-is_lone.result listed c.all_types-types.result c.all_types-types.ensures
           (listing.params_known second new c.in_ok-listed.ensures.further.sound (on.grows_further second new c.in_ok-scope.ensures.grows c.in_ok-scope.ensures.structs) (types_listed listed) c.in_ok-listed.ensures.known);
       scope = c.in_ok-scope.ensures.known;
     }

@@ -1,15 +1,16 @@
 use Rattle.std.proofs.Common.{take, All, IfSome, ◌+◌, ◌*◌, max, drop}
 use Rattle.lk_types.specs.Building.{IsPassed}
-use Rattle.lk_check_walk.specs.Parameters.{ListsParameters, types_listed}
-use Rattle.lk_check_walk.specs.Walking.{IsFurther}
 use Rattle.lk_tree.specs.declared.expression.Expr.{size-Expr}
-use Rattle.lk_check_walk.proofs.Argued.{AreArgued}
 use Rattle.lk_types.specs.Table.{IsKnown}
 use Rattle.lk_typed.specs.Told.{before_first}
+use Rattle.lk_found.specs.Parameters.{types_listed}
+use Rattle.lk_found.specs.MembersOf.{HasFields}
+use Rattle.lk_check_walk.specs.Parameters.{ListsParameters}
+use Rattle.lk_check_walk.specs.Walking.{IsFurther}
+use Rattle.lk_check_walk.proofs.Argued.{AreArgued}
 use Rattle.lk_check_walk.proofs.Counts.{LeavesItems}
 use Rattle.lk_check_walk.proofs.Finds.{LeavesDeclarators, LeavesMembers}
 use Rattle.lk_check_walk.proofs.Gathers.{LeavesSpecifiers}
-use Rattle.lk_check_walk.specs.MembersOf.{HasFields}
 use Rattle.lk_check_walk.specs.Walks.{IsSound}
 use Rattle.lk_check_walk.proofs.checker.Checker.+walk.Given as goal
 

@@ -2,10 +2,10 @@ use Rattle.std.specs.Option.{option_copied}
 use Rattle.lk_typed.specs.Env.{extend}
 use Rattle.lk_typed.specs.Told.{struct_meant_by}
 use Rattle.std.specs.List.{slice_get}
+use Rattle.lk_found.proofs.Defines.{not_yet_begun}
+use Rattle.lk_found.specs.Begun.{definition_begun}
 use Rattle.lk_check_walk.proofs.Completing.{begun_meant}
-use Rattle.lk_check_walk.proofs.Defines.{not_yet_begun}
 use Rattle.lk_check_walk.proofs.Tags.{tag_still}
-use Rattle.lk_check_walk.specs.Moves.{definition_begun}
 use Rattle.lk_check_walk.proofs.checker.Checker.begin_definition.Goals as goal
 
 pub returns-clause-behind : goal.returns-clause-behind

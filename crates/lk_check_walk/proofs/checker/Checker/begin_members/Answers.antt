@@ -6,7 +6,8 @@ use Rattle.lk_typed.specs.Told.{steps}
 use Rattle.lk_typed.specs.Typings.{members_in}
 use Rattle.lk_typed.specs.declared.members.Members.TheVariants.{NotYet, Begun}
 use Rattle.lk_names.specs.InScope.{InScope}
-use Rattle.lk_check_walk.proofs.Completing.{begun_stays, got_set, step_sound}
+use Rattle.lk_found.proofs.Completing.{begun_stays, got_set}
+use Rattle.lk_check_walk.proofs.Completing.{step_sound}
 use Rattle.lk_check_walk.proofs.States.{goes_on}
 use Rattle.lk_check_walk.proofs.checker.Checker.begin_members.Goals as goal
 

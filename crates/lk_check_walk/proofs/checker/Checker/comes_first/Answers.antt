@@ -1,6 +1,7 @@
 use Rattle.std.proofs.Common.{◌∙◌, sym, ap}
 use Rattle.lk_typed.specs.Stands.{fault_at}
-use Rattle.lk_check_walk.specs.Walks.{first_of, mark_at}
+use Rattle.lk_found.specs.Findings.{mark_at}
+use Rattle.lk_check_walk.specs.Walks.{first_of}
 use Rattle.lk_check_walk.proofs.checker.Checker.comes_first.Goals as goal
 
 pub returns-in-Some : goal.returns-in-Some

@@ -5,9 +5,10 @@ use Rattle.lk_typed.specs.Env.{Completes, Known as KnownFields, extend}
 use Rattle.lk_typed.specs.Told.{steps}
 use Rattle.lk_typed.specs.Typings.{field_in, members_in}
 use Rattle.lk_typed.specs.declared.members.Members.TheVariants.{Begun, Known}
-use Rattle.lk_check_walk.proofs.Completing.{can_complete, completed_sound, fields_stay, parts_known}
+use Rattle.lk_found.proofs.Completing.{fields_stay, parts_known}
+use Rattle.lk_found.specs.Structs.{member_of}
+use Rattle.lk_check_walk.proofs.Completing.{can_complete, completed_sound}
 use Rattle.lk_check_walk.proofs.States.{goes_on}
-use Rattle.lk_check_walk.specs.Structs.{member_of}
 use Rattle.lk_check_walk.specs.Walks.{IsIn}
 use Rattle.lk_check_walk.proofs.checker.Checker.complete_members.Goals as goal
 

@@ -3,8 +3,9 @@ use Rattle.std.specs.Option.{option_copied}
 use Rattle.lk_typed.specs.Env.{Env}
 use Rattle.lk_typed.specs.Redeclared.{DefinesStruct, may_use}
 use Rattle.lk_typed.specs.Told.{tag_found}
-use Rattle.lk_check_walk.proofs.Completing.{admitted_meant, as_many, blank, refused_meant}
-use Rattle.lk_check_walk.proofs.Tags.{definition_admitted, definition_refused}
+use Rattle.lk_found.proofs.Completing.{blank}
+use Rattle.lk_found.proofs.Tags.{definition_admitted, definition_refused}
+use Rattle.lk_check_walk.proofs.Completing.{admitted_meant, as_many, refused_meant}
 use Rattle.lk_check_walk.specs.Moves.{RecordsTag}
 use Rattle.lk_check_walk.proofs.checker.Checker.defined_struct.Goals as goal
 

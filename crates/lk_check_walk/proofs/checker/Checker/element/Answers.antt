@@ -4,8 +4,8 @@ use Rattle.lk_typed.specs.Meaning.{meaning}
 use Rattle.lk_typed.specs.Sizes.{is_broken, is_complete}
 use Rattle.lk_typed.specs.Typings.{structs_in}
 use Rattle.lk_typed.specs.declared.members.Members.{Members}
+use Rattle.lk_found.specs.Shapes.{IsElementIn}
 use Rattle.lk_check_walk.proofs.PartsOfObjects.{part_if_complete}
-use Rattle.lk_check_walk.specs.Shapes.{IsElementIn}
 use Rattle.lk_check_walk.proofs.checker.Checker.element.Goals as goal
 
 pub returns-in-Some-clause-part : goal.returns-in-Some-clause-part

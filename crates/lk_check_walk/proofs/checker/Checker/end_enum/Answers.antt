@@ -1,8 +1,8 @@
 use Rattle.std.proofs.Common.{◌++◌, ◌∷◌, ◌∙◌, [], subst}
 use Rattle.std.specs.Prelude.{◌||◌}
-use Rattle.lk_check_walk.proofs.Defines.{int_flipped}
+use Rattle.lk_found.proofs.Defines.{int_flipped}
+use Rattle.lk_found.specs.Specified.{IsGathered}
 use Rattle.lk_check_walk.proofs.NamedTypes.{gathered_stays}
-use Rattle.lk_check_walk.specs.Specified.{IsGathered}
 use Rattle.lk_check_walk.proofs.checker.Checker.end_enum.Goals as goal
 
 pub returns-clause-put : goal.returns-clause-put

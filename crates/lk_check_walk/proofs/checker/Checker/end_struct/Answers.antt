@@ -1,11 +1,11 @@
 use Rattle.std.proofs.Common.{◌++◌, ◌∷◌, [], subst, sym}
 use Rattle.std.specs.Prelude.{◌||◌}
 use Rattle.lk_names.specs.InScope.{InScope}
+use Rattle.lk_found.specs.Specified.{IsGathered}
+use Rattle.lk_found.specs.Specifying.{KeepsOthersBegun}
 use Rattle.lk_check_walk.proofs.Defines.{grows_then}
 use Rattle.lk_check_walk.proofs.NamedTypes.{gathered_stays}
 use Rattle.lk_check_walk.proofs.States.{stays_in}
-use Rattle.lk_check_walk.specs.Specified.{IsGathered}
-use Rattle.lk_check_walk.specs.Specifying.{KeepsOthersBegun}
 use Rattle.lk_check_walk.proofs.checker.Checker.end_struct.Goals as goal
 
 pub returns-clause-grows : goal.returns-clause-grows

@@ -1,7 +1,7 @@
 use Rattle.std.proofs.Common.{◌∷◌, [], take, subst}
-use Rattle.lk_check_walk.proofs.Completing.{taken_more}
+use Rattle.lk_found.proofs.Completing.{taken_more}
+use Rattle.lk_found.specs.Specified.{breach_in, breaches_in}
 use Rattle.lk_check_walk.proofs.KeepsAll.{none_kept, same_refl, same_then, then_kept}
-use Rattle.lk_check_walk.specs.Specified.{breach_in, breaches_in}
 use Rattle.lk_check_walk.specs.Specifying.{KeepsAt}
 use Rattle.lk_check_walk.proofs.checker.Checker.keep_all.Goals as goal
 

@@ -1,5 +1,5 @@
 use Rattle.std.proofs.Common.{take}
-use Rattle.lk_check_walk.specs.Specified.{breaches_in}
+use Rattle.lk_found.specs.Specified.{breaches_in}
 use Rattle.lk_check_walk.specs.Specifying.{IsSame, KeepsAt}
 use Rattle.lk_check_walk.proofs.checker.Checker.keep_all.Given as goal
 

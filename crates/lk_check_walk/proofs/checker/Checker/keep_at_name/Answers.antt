@@ -4,9 +4,10 @@ use Rattle.lk_typed.specs.Meaning.{meaning}
 use Rattle.lk_typed.specs.NodeRules.{plain_name}
 use Rattle.lk_typed.specs.Redeclared.{name_rules}
 use Rattle.lk_rules.specs.Keeping.{KeepsCodes}
-use Rattle.lk_check_walk.proofs.Adjusting.{name_kept}
-use Rattle.lk_check_walk.specs.Named.{named_at}
-use Rattle.lk_check_walk.specs.Walks.{kept_in, mark_at}
+use Rattle.lk_found.proofs.Adjusting.{name_kept}
+use Rattle.lk_found.specs.Named.{named_at}
+use Rattle.lk_found.specs.Findings.{mark_at}
+use Rattle.lk_check_walk.specs.Walks.{kept_in}
 use Rattle.lk_check_walk.proofs.checker.Checker.keep_at_name.Goals as goal
 
 pub returns-clause-same : goal.returns-clause-same

@@ -1,7 +1,7 @@
 use Rattle.std.proofs.Common.{Option, ◌∷◌, [], sym, subst}
 use Rattle.lk_typed.specs.Env.{Name}
+use Rattle.lk_found.specs.Specified.{name_told}
 use Rattle.lk_check_walk.proofs.KeepsAll.{told_one}
-use Rattle.lk_check_walk.specs.Specified.{name_told}
 use Rattle.lk_check_walk.specs.Specifying.{KeepsAt}
 use Rattle.lk_check_walk.proofs.checker.Checker.keep_breach.Goals as goal
 

@@ -3,9 +3,10 @@ use Rattle.lk_typed.specs.NodeRules.{item_meaning, plain_name}
 use Rattle.lk_typed.specs.Redeclared.{name_rules}
 use Rattle.lk_rules.proofs.Kept.{codes_are_kept_in_turn}
 use Rattle.lk_rules.specs.Keeping.{KeepsCodes}
-use Rattle.lk_check_walk.proofs.Keepings.{kept_told}
+use Rattle.lk_found.proofs.Keepings.{kept_told}
+use Rattle.lk_found.specs.Findings.{mark_at}
 use Rattle.lk_check_walk.proofs.States.{same_in}
-use Rattle.lk_check_walk.specs.Walks.{kept_in, mark_at}
+use Rattle.lk_check_walk.specs.Walks.{kept_in}
 use Rattle.lk_check_walk.proofs.checker.Checker.keep_item.Goals as goal
 
 pub keep_name-requires-clause-meaning : goal.keep_name-requires-clause-meaning

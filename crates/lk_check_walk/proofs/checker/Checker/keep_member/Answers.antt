@@ -3,10 +3,11 @@ use Rattle.std.specs.Prelude.{if◌then◌else◌, option_map}
 use Rattle.lk_base.specs.declared.code.Code.TheVariants.{BitField}
 use Rattle.lk_typed.specs.Faults.{breach}
 use Rattle.lk_rules.specs.Keeping.{KeepsCodes, keep}
+use Rattle.lk_found.specs.Specified.{breaches_in}
+use Rattle.lk_found.specs.Findings.{mark_at}
 use Rattle.lk_check_walk.proofs.KeepsAll.{bit_field_kept, same_then, then_kept, told_same}
-use Rattle.lk_check_walk.specs.Specified.{breaches_in}
 use Rattle.lk_check_walk.specs.Specifying.{KeepsAt}
-use Rattle.lk_check_walk.specs.Walks.{kept_in, mark_at}
+use Rattle.lk_check_walk.specs.Walks.{kept_in}
 use Rattle.lk_check_walk.proofs.checker.Checker.keep_member.Goals as goal
 
 pub returns-clause-kept : goal.returns-clause-kept

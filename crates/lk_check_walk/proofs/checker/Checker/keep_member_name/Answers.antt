@@ -5,10 +5,11 @@ use Rattle.lk_typed.specs.Meaning.{meaning}
 use Rattle.lk_typed.specs.Sizes.{is_complete}
 use Rattle.lk_typed.specs.Typings.{field_in, structs_in}
 use Rattle.lk_rules.specs.Keeping.{KeepsCodes, keep}
+use Rattle.lk_found.proofs.MemberCodes.{name_kept}
+use Rattle.lk_found.specs.MembersOf.{member_breach}
+use Rattle.lk_found.specs.Findings.{mark_at}
 use Rattle.lk_check_walk.proofs.KeepsAll.{told_same}
-use Rattle.lk_check_walk.proofs.MemberCodes.{name_kept}
-use Rattle.lk_check_walk.specs.MembersOf.{member_breach}
-use Rattle.lk_check_walk.specs.Walks.{kept_in, mark_at}
+use Rattle.lk_check_walk.specs.Walks.{kept_in}
 use Rattle.lk_check_walk.proofs.checker.Checker.keep_member_name.Goals as goal
 
 pub returns-clause-kept : goal.returns-clause-kept

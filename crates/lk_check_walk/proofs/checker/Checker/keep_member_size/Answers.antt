@@ -3,10 +3,11 @@ use Rattle.std.specs.Prelude.{is_some, option_map}
 use Rattle.lk_typed.specs.Faults.{breach}
 use Rattle.lk_typed.specs.Typings.{field_in}
 use Rattle.lk_rules.specs.Keeping.{KeepsCodes, keep}
+use Rattle.lk_found.proofs.MemberCodes.{larger_codes, larger_is, size_before, size_kept}
+use Rattle.lk_found.specs.Findings.{mark_at}
 use Rattle.lk_check_walk.proofs.KeepsAll.{told_same}
-use Rattle.lk_check_walk.proofs.MemberCodes.{larger_codes, larger_is, size_before, size_kept}
 use Rattle.lk_check_walk.proofs.Shaping.{fields_are}
-use Rattle.lk_check_walk.specs.Walks.{kept_in, mark_at}
+use Rattle.lk_check_walk.specs.Walks.{kept_in}
 use Rattle.lk_check_walk.proofs.checker.Checker.keep_member_size.Goals as goal
 
 pub returns-clause-kept : goal.returns-clause-kept

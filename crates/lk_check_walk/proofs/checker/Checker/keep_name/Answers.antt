@@ -5,8 +5,9 @@ use Rattle.lk_typed.specs.NodeRules.{plain_name}
 use Rattle.lk_typed.specs.Redeclared.{name_rules}
 use Rattle.lk_rules.proofs.Kept.{the_lesser_is_kept}
 use Rattle.lk_rules.specs.Keeping.{KeepsCodes, keep}
-use Rattle.lk_check_walk.proofs.Keepings.{named_told}
-use Rattle.lk_check_walk.specs.Walks.{kept_in, mark_at}
+use Rattle.lk_found.proofs.Keepings.{named_told}
+use Rattle.lk_found.specs.Findings.{mark_at}
+use Rattle.lk_check_walk.specs.Walks.{kept_in}
 use Rattle.lk_check_walk.proofs.checker.Checker.keep_name.Goals as goal
 
 pub returns-clause-keeps : goal.returns-clause-keeps

@@ -3,10 +3,12 @@ use Rattle.std.specs.Option.{option_map}
 use Rattle.lk_typed.specs.Meaning.{meaning}
 use Rattle.lk_typed.specs.MemberRules.{member_rules}
 use Rattle.lk_typed.specs.Typings.{field_in}
+use Rattle.lk_found.specs.MembersOf.{is_free}
+use Rattle.lk_found.specs.Named.{name_in}
+use Rattle.lk_found.specs.Findings.{mark_at}
 use Rattle.lk_check_walk.proofs.KeepsAll.{one_each}
-use Rattle.lk_check_walk.specs.MembersOf.{KeepsName, is_free}
-use Rattle.lk_check_walk.specs.Named.{name_in}
-use Rattle.lk_check_walk.specs.Walks.{kept_in, mark_at}
+use Rattle.lk_check_walk.specs.MembersOf.{KeepsName}
+use Rattle.lk_check_walk.specs.Walks.{kept_in}
 use Rattle.lk_check_walk.proofs.checker.Checker.keep_name_of.Goals as goal
 
 pub returns-in_ok-is_free-in-Some-clause-kept : goal.returns-in_ok-is_free-in-Some-clause-kept

@@ -3,7 +3,7 @@ use Rattle.std.specs.Option.{option_copied, option_map}
 use Rattle.std.specs.Prelude.{IfSome}
 use Rattle.lk_typed.specs.Env.{look_up}
 use Rattle.lk_typed.specs.Names.{IsKnownMeaning, IsKnownName, declared_in, meaning_in}
-use Rattle.lk_check_walk.specs.Uses.{IsMeant}
+use Rattle.lk_found.specs.Uses.{IsMeant}
 use Rattle.lk_check_walk.proofs.checker.Checker.meant_here.Goals as goal
 
 pub returns-in-Some : goal.returns-in-Some

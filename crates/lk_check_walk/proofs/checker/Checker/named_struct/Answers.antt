@@ -3,10 +3,12 @@ use Rattle.lk_typed.specs.Env.{Env}
 use Rattle.lk_typed.specs.Redeclared.{may_use, tag_meant}
 use Rattle.lk_typed.specs.Told.{struct_meant}
 use Rattle.lk_names.specs.Uses.{rules_use}
+use Rattle.lk_found.proofs.Tags.{naming_admitted, naming_refused}
+use Rattle.lk_found.specs.Begun.{begun_where}
 use Rattle.lk_check_walk.proofs.NamedTypes.{struct_admitted, struct_refused}
 use Rattle.lk_check_walk.proofs.States.{stays_in}
-use Rattle.lk_check_walk.proofs.Tags.{naming_admitted, naming_refused, tag_still}
-use Rattle.lk_check_walk.specs.Moves.{RecordsTag, begun_where}
+use Rattle.lk_check_walk.proofs.Tags.{tag_still}
+use Rattle.lk_check_walk.specs.Moves.{RecordsTag}
 use Rattle.lk_check_walk.proofs.checker.Checker.named_struct.Goals as goal
 
 pub returns-then-not-admits-clause-named : goal.returns-then-not-admits-clause-named

@@ -1,7 +1,7 @@
 use Rattle.std.proofs.Common.{◌≡◌, [], ap, subst, sym, rules}
 use Rattle.lk_types.specs.Table.{Table}
 use Rattle.lk_typed.proofs.Elements.{few_first}
-use Rattle.lk_check_walk.specs.Structs.{AreListed}
+use Rattle.lk_found.specs.Structs.{AreListed}
 use Rattle.lk_check_walk.proofs.checker.Checker.new.Goals as goal
 
 none_listed : (table : Table) → table.members ≡ [] → AreListed table []

@@ -3,9 +3,9 @@ use Rattle.std.specs.Prelude.{IfSome}
 use Rattle.lk_typed.specs.Meaning.{meaning}
 use Rattle.lk_typed.specs.Sizes.{is_broken, is_complete}
 use Rattle.lk_typed.specs.Typings.{structs_in}
-use Rattle.lk_check_walk.proofs.FieldsGrow.{fields_push}
+use Rattle.lk_found.proofs.FieldsGrow.{fields_push}
+use Rattle.lk_found.specs.MembersOf.{IsSizeWith}
 use Rattle.lk_check_walk.proofs.PartsOfObjects.{part_if_complete}
-use Rattle.lk_check_walk.specs.MembersOf.{IsSizeWith}
 use Rattle.lk_check_walk.proofs.checker.Checker.put_field_of.Goals as goal
 
 pub returns-clause-fields : goal.returns-clause-fields

@@ -9,13 +9,14 @@ use Rattle.lk_typed.specs.Sizes.{is_complete}
 use Rattle.lk_typed.specs.Told.{then_member}
 use Rattle.lk_typed.specs.Typings.{structs_in}
 use Rattle.lk_names.specs.InScope.{InScope}
-use Rattle.lk_check_walk.proofs.FieldsGrow.{fields_same}
+use Rattle.lk_found.proofs.FieldsGrow.{fields_same}
+use Rattle.lk_found.proofs.MemberCodes.{as_bit_field, tells_of, untyped, untyped_codes}
+use Rattle.lk_found.specs.Keepings.{KeepsEach}
+use Rattle.lk_found.specs.MembersOf.{HasFields, IsSizeWith, IsThereWhere, TellsFields, member_codes, member_of}
+use Rattle.lk_found.specs.declared.fields.MembersFound.{MembersFound}
 use Rattle.lk_check_walk.proofs.KeepsAll.{in_same, sound_same}
-use Rattle.lk_check_walk.proofs.MemberCodes.{as_bit_field, puts_member, puts_none, tells_of, untyped, untyped_codes}
-use Rattle.lk_check_walk.specs.Keepings.{KeepsEach}
-use Rattle.lk_check_walk.specs.MembersOf.{HasFields, IsSizeWith, IsThereWhere, TellsFields, member_codes, member_of}
+use Rattle.lk_check_walk.proofs.MemberCodes.{puts_member, puts_none}
 use Rattle.lk_check_walk.specs.Walks.{kept_in}
-use Rattle.lk_check_walk.specs.declared.fields.MembersFound.{MembersFound}
 use Rattle.lk_check_walk.proofs.checker.Checker.put_member.Goals as goal
 
 pub size_with-requires-clause-fields : goal.size_with-requires-clause-fields

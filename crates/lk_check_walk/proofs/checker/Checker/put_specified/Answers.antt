@@ -1,6 +1,6 @@
 use Rattle.std.proofs.Common.{ap}
-use Rattle.lk_check_walk.proofs.FieldsGrow.{fields_same}
-use Rattle.lk_check_walk.specs.declared.fields.MembersFound.{MembersFound}
+use Rattle.lk_found.proofs.FieldsGrow.{fields_same}
+use Rattle.lk_found.specs.declared.fields.MembersFound.{MembersFound}
 use Rattle.lk_check_walk.proofs.checker.Checker.put_specified.Goals as goal
 
 pub returns-clause-fields : goal.returns-clause-fields

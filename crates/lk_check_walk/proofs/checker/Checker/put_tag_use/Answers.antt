@@ -5,7 +5,7 @@ use Rattle.lk_typed.specs.HolderRules.{optional_tag_rules}
 use Rattle.lk_typed.specs.Redeclared.{may_use}
 use Rattle.lk_typed.specs.Told.{tag_found}
 use Rattle.lk_names.specs.Uses.{rules_use}
-use Rattle.lk_check_walk.specs.Specified.{IsGathered}
+use Rattle.lk_found.specs.Specified.{IsGathered}
 use Rattle.lk_check_walk.proofs.checker.Checker.put_tag_use.Goals as goal
 
 pub returns : goal.returns

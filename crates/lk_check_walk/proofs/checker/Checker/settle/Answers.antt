@@ -1,8 +1,9 @@
 use Rattle.std.proofs.Common.{refl}
 use Rattle.std.specs.Prelude.{option_map}
 use Rattle.lk_typed.specs.Faults.{breach}
-use Rattle.lk_check_walk.specs.Judging.{code_in}
-use Rattle.lk_check_walk.proofs.Settling.{settled, told_plainly}
+use Rattle.lk_found.specs.Judging.{code_in}
+use Rattle.lk_found.proofs.Settling.{told_plainly}
+use Rattle.lk_check_walk.proofs.Settling.{settled}
 use Rattle.lk_check_walk.proofs.checker.Checker.settle.Goals as goal
 
 pub returns : goal.returns

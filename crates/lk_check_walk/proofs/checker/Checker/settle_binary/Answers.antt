@@ -3,7 +3,7 @@ use Rattle.lk_tree.specs.declared.expression.DeclaratorForm.TheOpen.{ExprForm-F}
 use Rattle.lk_typed.specs.Addresses.{value}
 use Rattle.lk_typed.specs.Operators.{binary_rule}
 use Rattle.lk_typed.specs.Typing.{with_two}
-use Rattle.lk_check_walk.specs.Judging.{IsRuled}
+use Rattle.lk_found.specs.Judging.{IsRuled}
 use Rattle.lk_check_walk.proofs.Settling.{structs_are}
 use Rattle.lk_check_walk.proofs.checker.Checker.settle_binary.Goals as goal
 

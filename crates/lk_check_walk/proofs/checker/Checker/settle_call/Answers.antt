@@ -1,8 +1,8 @@
 use Rattle.std.proofs.Common.{sym}
 use Rattle.lk_tree.specs.declared.expression.DeclaratorForm.TheOpen.{ExprForm-F}
 use Rattle.lk_typed.specs.ExprRules.{any_holds_sizeof}
-use Rattle.lk_check_walk.proofs.Argued.{given_elsewhere}
-use Rattle.lk_check_walk.proofs.Lasting.{found_elsewhere}
+use Rattle.lk_found.proofs.Argued.{given_elsewhere}
+use Rattle.lk_found.proofs.Lasting.{found_elsewhere}
 use Rattle.lk_check_walk.proofs.checker.Checker.settle_call.Goals as goal
 
 pub returns : goal.returns

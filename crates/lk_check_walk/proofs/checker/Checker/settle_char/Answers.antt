@@ -4,7 +4,7 @@ use Rattle.std.proofs.lemmas.Int.{to_z-of_z}
 use Rattle.lk_tree.specs.declared.expression.DeclaratorForm.TheOpen.{ExprForm-F}
 use Rattle.lk_typed.specs.Typings.{IsVerdict}
 use Rattle.lk_typed.specs.Words.{char_rule}
-use Rattle.lk_check_walk.proofs.Rules.{plainly}
+use Rattle.lk_found.proofs.Rules.{plainly}
 use Rattle.lk_check_walk.proofs.checker.Checker.settle_char.Goals as goal
 
 pub returns : goal.returns

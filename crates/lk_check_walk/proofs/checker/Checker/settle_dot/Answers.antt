@@ -2,7 +2,7 @@ use Rattle.std.proofs.Common.{subst}
 use Rattle.lk_tree.specs.declared.expression.DeclaratorForm.TheOpen.{ExprForm-F}
 use Rattle.lk_typed.specs.Places.{dot_rule}
 use Rattle.lk_typed.specs.Typing.{with_one}
-use Rattle.lk_check_walk.specs.Judging.{IsRuled}
+use Rattle.lk_found.specs.Judging.{IsRuled}
 use Rattle.lk_check_walk.proofs.Settling.{structs_are}
 use Rattle.lk_check_walk.proofs.checker.Checker.settle_dot.Goals as goal
 

@@ -1,7 +1,7 @@
 use Rattle.std.proofs.Common.{refl}
 use Rattle.lk_tree.specs.declared.expression.DeclaratorForm.TheOpen.{ExprForm-F}
 use Rattle.lk_typed.specs.Words.{number_rule}
-use Rattle.lk_check_walk.proofs.Rules.{plainly}
+use Rattle.lk_found.proofs.Rules.{plainly}
 use Rattle.lk_check_walk.proofs.checker.Checker.settle_number.Goals as goal
 
 pub returns : goal.returns

@@ -1,8 +1,8 @@
 use Rattle.std.specs.Option.{option_map}
 use Rattle.lk_tree.specs.declared.expression.Parameter.{out-Parameter}
 use Rattle.lk_typed.specs.Meaning.{meaning}
+use Rattle.lk_found.specs.Parameters.{name_of}
 use Rattle.lk_check_walk.proofs.Settled.{is_named_by, settled, settled_further}
-use Rattle.lk_check_walk.specs.Parameters.{name_of}
 use Rattle.lk_check_walk.proofs.checker.Checker.settle_parameter.Goals as goal
 
 pub returns-clause-further : goal.returns-clause-further

@@ -3,12 +3,13 @@ use Rattle.std.specs.Prelude.{option_map}
 use Rattle.lk_tree.specs.declared.expression.DeclaratorForm.TheOpen.{ExprForm-F}
 use Rattle.lk_typed.specs.Faults.{breach}
 use Rattle.lk_typed.specs.Typing.{AtText}
-use Rattle.lk_check_walk.specs.Judging.{code_in}
+use Rattle.lk_found.specs.Judging.{code_in}
+use Rattle.lk_found.specs.declared.found.Found.{Found}
+use Rattle.lk_found.specs.declared.ruled.Ruled.{Ruled}
+use Rattle.lk_found.proofs.Settling.{told_plainly}
 use Rattle.lk_check_walk.specs.declared.checker.Checker.{Checker}
-use Rattle.lk_check_walk.specs.declared.found.Found.{Found}
-use Rattle.lk_check_walk.specs.declared.ruled.Ruled.{Ruled}
 use Rattle.lk_check_walk.proofs.Growing.{sound_longer}
-use Rattle.lk_check_walk.proofs.Settling.{settled, told_plainly}
+use Rattle.lk_check_walk.proofs.Settling.{settled}
 use Rattle.lk_check_walk.proofs.Walking.{text_settles}
 use Rattle.lk_check_walk.proofs.checker.Checker.settle_text.Goals as goal
 

@@ -2,7 +2,7 @@ use Rattle.std.proofs.Common.{refl, sym, ap}
 use Rattle.std.specs.Prelude.{option_map}
 use Rattle.lk_tree.specs.declared.expression.DeclaratorForm.TheOpen.{ExprForm-F}
 use Rattle.lk_typed.specs.Expressions.{AWord, breach_at}
-use Rattle.lk_check_walk.specs.Judging.{code_in}
+use Rattle.lk_found.specs.Judging.{code_in}
 use Rattle.lk_check_walk.proofs.Settling.{settled}
 use Rattle.lk_check_walk.proofs.checker.Checker.settle_word.Goals as goal
 

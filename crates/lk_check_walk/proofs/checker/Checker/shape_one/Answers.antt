@@ -5,11 +5,12 @@ use Rattle.lk_types.specs.Building.{IsTable, IsLonger}
 use Rattle.lk_types.specs.Table.{Table}
 use Rattle.lk_typed.specs.Meaning.{meaning}
 use Rattle.lk_rules.specs.Keeping.{KeepsCodes}
-use Rattle.lk_check_walk.proofs.Keepings.{kept_told}
-use Rattle.lk_check_walk.proofs.Shaping.{fields_are, unnamed_rules}
+use Rattle.lk_found.proofs.Keepings.{kept_told}
+use Rattle.lk_found.proofs.Shaping.{unnamed_rules}
+use Rattle.lk_found.specs.Shaped.{form_at, type_in}
+use Rattle.lk_found.specs.Shapes.{IsElement, IsGrown, rules_of}
+use Rattle.lk_check_walk.proofs.Shaping.{fields_are}
 use Rattle.lk_check_walk.proofs.States.{grown_sound}
-use Rattle.lk_check_walk.specs.Shaped.{form_at, type_in}
-use Rattle.lk_check_walk.specs.Shapes.{IsElement, IsGrown, rules_of}
 use Rattle.lk_check_walk.specs.Walks.{kept_in}
 use Rattle.lk_check_walk.proofs.checker.Checker.shape_one.Goals as goal
 

@@ -11,14 +11,16 @@ use Rattle.lk_typed.specs.Nodes.{IsMember}
 use Rattle.lk_typed.specs.Sizes.{is_complete}
 use Rattle.lk_typed.specs.Typings.{field_in, structs_in}
 use Rattle.lk_rules.specs.Keeping.{KeepsCodes}
+use Rattle.lk_found.proofs.MemberCodes.{free_complete, if_free, size_there, there_where}
+use Rattle.lk_found.specs.Declarators.{name_codes}
+use Rattle.lk_found.specs.Keepings.{codes_at}
+use Rattle.lk_found.specs.MembersOf.{IsLarger, IsSizeWith, is_free}
+use Rattle.lk_found.specs.Findings.{mark_at}
 use Rattle.lk_check_walk.proofs.Arms.{somewhere}
 use Rattle.lk_check_walk.proofs.KeepsAll.{in_same, one_each, same_then, sound_same, then_each}
-use Rattle.lk_check_walk.proofs.MemberCodes.{free_complete, if_free, size_there, there_where}
-use Rattle.lk_check_walk.specs.Declarators.{name_codes}
-use Rattle.lk_check_walk.specs.Keepings.{codes_at}
-use Rattle.lk_check_walk.specs.MembersOf.{IsLarger, IsSizeWith, KeepsName, is_free}
+use Rattle.lk_check_walk.specs.MembersOf.{KeepsName}
 use Rattle.lk_check_walk.specs.Walking.{operand_in}
-use Rattle.lk_check_walk.specs.Walks.{kept_in, mark_at}
+use Rattle.lk_check_walk.specs.Walks.{kept_in}
 use Rattle.lk_check_walk.proofs.checker.Checker.size_with.Goals as goal
 
 pub keep_member_size-requires-clause-sound : goal.keep_member_size-requires-clause-sound

@@ -6,7 +6,8 @@ use Rattle.lk_typed.specs.Told.{steps, struct_meant, tag_found}
 use Rattle.lk_typed.specs.declared.members.Members.{Members}
 use Rattle.lk_typed.specs.declared.members.Members.TheVariants.{NotYet, Begun}
 use Rattle.lk_names.specs.Uses.{rules_use}
-use Rattle.lk_check_walk.proofs.Completing.{as_many, begun_before, known_meant, last_is, may_begin, new_meant, open_is}
+use Rattle.lk_found.proofs.Completing.{begun_before, last_is, may_begin, open_is}
+use Rattle.lk_check_walk.proofs.Completing.{as_many, known_meant, new_meant}
 use Rattle.lk_check_walk.specs.Moves.{env_of}
 use Rattle.lk_check_walk.proofs.Tags.{tag_new, tag_none, tag_still}
 use Rattle.lk_check_walk.proofs.checker.Checker.struct_for.Goals as goal

@@ -3,9 +3,10 @@ use Rattle.lk_typed.specs.Env.{Env}
 use Rattle.lk_typed.specs.Redeclared.{TagUse, tag_rules}
 use Rattle.lk_typed.specs.Told.{struct_named}
 use Rattle.lk_names.specs.Uses.{rules_use}
+use Rattle.lk_found.specs.Begun.{begun_if_admitted}
 use Rattle.lk_check_walk.proofs.NamedTypes.{named_put}
 use Rattle.lk_check_walk.specs.Naming.{IsNamedType}
-use Rattle.lk_check_walk.specs.Moves.{RecordsTag, begun_if_admitted}
+use Rattle.lk_check_walk.specs.Moves.{RecordsTag}
 use Rattle.lk_check_walk.proofs.checker.Checker.struct_named.Goals as goal
 
 pub returns-clause-put : goal.returns-clause-put

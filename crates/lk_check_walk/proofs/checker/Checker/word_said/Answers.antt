@@ -4,8 +4,8 @@ use Rattle.lk_typed.specs.Names.{IsKnownName, declared_in}
 use Rattle.lk_typed.specs.Words.{use_of_declared}
 use Rattle.lk_check_expr.specs.Looks.{IsLook, word_look}
 use Rattle.lk_check_expr.specs.NameUses.{IsUse}
-use Rattle.lk_check_walk.specs.Judging.{IsRuled}
-use Rattle.lk_check_walk.proofs.Named.{known_copied, mapped_copied, named_so}
+use Rattle.lk_found.specs.Judging.{IsRuled}
+use Rattle.lk_found.proofs.Named.{known_copied, mapped_copied, named_so}
 use Rattle.lk_check_walk.proofs.checker.Checker.word_said.Goals as goal
 
 pub word_ruled-ruled-requires-clause-known : goal.word_ruled-ruled-requires-clause-known

@@ -1,7 +1,0 @@
-//! Laws of what is found of declarators.
-ghost use Rattle.lk_check_walk.specs.FormsOf.{TypesFollowForms};
-
-/// The type that a declarator makes is the one that its forms make one after another.
-pub fn types_follow_forms()
-    ensures { TypesFollowForms }
-{}

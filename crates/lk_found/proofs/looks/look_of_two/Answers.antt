@@ -1,0 +1,10 @@
+use Rattle.std.proofs.Common.{◌∙◌, sym, ap, subst}
+use Rattle.std.specs.Prelude.{◌||◌}
+use Rattle.lk_typed.specs.Typing.{plain_look}
+use Rattle.lk_check_expr.specs.Looks.{IsLook}
+use Rattle.lk_found.proofs.looks.look_of_two.Goals as goal
+
+pub returns : goal.returns
+returns c = λ env x y p q.
+    subst (λ b. IsLook env c.plain.result (plain_look b))
+    (c.either-holds.ensures ∙ ap (λ b. b || c.args.b.now.holds_sizeof) (sym p.holds_sizeof) ∙ ap (λ b. x.holds_sizeof || b) (sym q.holds_sizeof)) (c.plain.ensures env)
