@@ -1,11 +1,6 @@
--- The labels and switches of the code, in the words of the rules.
-use Rattle.lk_typed.specs.Labels as labels
+-- The switches of the code, in the words of the rules.
 use Rattle.lk_typed.specs.StatementRules as spec
-use Rattle.lk_check_decl.specs.declared.switches.Label.{Label}
 use Rattle.lk_check_decl.specs.declared.switches.Switch.{Switch}
-
-abbrev pub label_of : Label → labels.Label
-label_of l = record { name = l.name; ordinal = l.ordinal }
 
 abbrev pub switch_of : Switch → spec.Switch
 switch_of s = record { kind = s.kind; values = s.values; has_default = s.has_default }

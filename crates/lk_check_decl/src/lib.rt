@@ -39,8 +39,5 @@ pub use storages::{
     defines_of, has_extern, has_static, has_typedef, linkage_of, may_have, may_lack_size,
     specifier_code,
 };
-pub use switches::{
-    Label, Switch, break_code, case_code, case_value, continue_code, default_code, goto_code,
-    label_code,
-};
+pub use switches::{Switch, break_code, case_code, case_value, continue_code, default_code};
 pub use words::{Given, Holder, Scope};

@@ -1,26 +1,16 @@
-//! The rules of labels, jumps and cases: code 26, and 24 of a case (C99 6.8.1, 6.8.4.2, 6.8.6).
-ghost use Rattle.std.specs.Prelude.{◌≡◌, ◌&&◌, ◌||◌, ℕ, Some, map, is_some, nat_lt, option_copied};
+//! The rules of `break`, `continue` and cases: code 26, and 24 of a case (C99 6.8.1, 6.8.4.2, 6.8.6).
+ghost use Rattle.std.specs.Prelude.{◌≡◌, ◌&&◌, ◌||◌, Some, is_some, option_copied};
 ghost use Rattle.std.specs.List.{list_any};
 ghost use Rattle.std.specs.Option.{option_map};
-ghost use Rattle.lk_typed.specs.Labels.{has_label, has_label_before};
 ghost use Rattle.lk_typed.specs.StatementRules as spec;
 ghost use Rattle.lk_typed.specs.StatementRules.{Around};
 ghost use Rattle.lk_check_decl.specs.Breaches.{told};
-ghost use Rattle.lk_check_decl.specs.Switches.{label_of, switch_of};
+ghost use Rattle.lk_check_decl.specs.Switches.{switch_of};
 
 use crate::breaches::unless;
 use lk_arith::{convert, promoted};
-use lk_base::{Code, Kind, Name, Seq};
+use lk_base::{Code, Kind, Seq};
 use lk_typed::{Constant, lesser};
-
-/// A label of a function (C99 6.8.1).
-#[derive(Drop)]
-pub struct Label {
-    /// Its name.
-    pub name: Name,
-    /// The number of its node.
-    pub ordinal: u32,
-}
 
 /// A `switch`, as far as it stands before a statement in it.
 #[derive(Drop)]
@@ -31,46 +21,6 @@ pub struct Switch {
     pub values: Seq<Option<i128>>,
     /// Whether it has a `default` already.
     pub has_default: bool,
-}
-
-/// Whether a label of this name is there.
-fn has_label(labels: &[Label], name: &Name) -> bool
-    ensures { result ≡ has_label (map label_of labels.now) name.now }
-{
-    for label in labels {
-        if *name == label.name {
-            return true;
-        }
-    }
-    false
-}
-
-/// Whether a label of this name is there before the node with this number.
-fn has_label_before(labels: &[Label], name: &Name, ordinal: u32) -> bool
-    ensures { result ≡ has_label_before (map label_of labels.now) name.now ordinal }
-{
-    for label in labels {
-        if *name == label.name && label.ordinal < ordinal {
-            return true;
-        }
-    }
-    false
-}
-
-/// The code of `goto name;`: 26 where the function has no such label (C99 6.8.6.1, 1).
-pub fn goto_code(labels: &[Label], name: &Name) -> Option<Code>
-    ensures { (around : Around) → around.labels ≡ map label_of labels.now →
-        result ≡ told (spec.goto_rules around name.now) }
-{
-    unless(has_label(labels, name), Code::BadLabel)
-}
-
-/// The code of `name:`, the node with this number: 26 where the function has the label before it (C99 6.8.1, 3).
-pub fn label_code(labels: &[Label], name: &Name, ordinal: u32) -> Option<Code>
-    ensures { (around : Around) → around.labels ≡ map label_of labels.now →
-        result ≡ told (spec.label_rules around name.now ordinal) }
-{
-    unless(!has_label_before(labels, name, ordinal), Code::BadLabel)
 }
 
 /// The code of `break;`: 26 outside a loop and a `switch` (C99 6.8.6.3, 1).

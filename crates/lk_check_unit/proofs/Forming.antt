@@ -1,5 +1,5 @@
 -- Statements whose parts are walked, form by form.
-use Rattle.std.proofs.Common.{◌≡◌, ◌∙◌, ◌++◌, ℕ, Bool, true, false, List, [], ◌∷◌, Option, Some, None, map, refl, sym, ap, subst}
+use Rattle.std.proofs.Common.{◌≡◌, ◌∙◌, ◌++◌, ℕ, Bool, true, false, List, [], ◌∷◌, Option, Some, None, refl, sym, ap, subst}
 use Rattle.std.specs.Prelude.{◌&&◌, IfOk, is_some, option_map, if◌then◌else◌}
 use Rattle.std.proofs.lemmas.Result.{IfOk-weaker}
 use Rattle.std.specs.declared.result.Result.{Result}
@@ -29,7 +29,8 @@ use Rattle.lk_names.specs.declared.names.Mark.{Mark}
 use Rattle.lk_rules.specs.Keeping.{KeepsCodes}
 use Rattle.lk_check_decl.specs.declared.switches.Switch.{Switch}
 use Rattle.lk_check_decl.specs.Breaches.{told}
-use Rattle.lk_check_decl.specs.Switches.{label_of, switch_of}
+use Rattle.lk_check_decl.specs.Switches.{switch_of}
+use Rattle.lk_labels.specs.Leasts.{AreLabels}
 use Rattle.lk_found.proofs.Environments.{extend_both}
 use Rattle.lk_check_walk.proofs.Gathers.{both_assoc}
 use Rattle.lk_check_walk.proofs.Walking.{no_walk}
@@ -169,7 +170,7 @@ all_typed e here ps is = ap (λ b. has_expr_type e here && b) (sym is)
 
 module _ (n : ℕ) where
   pub labelled : (name : List ℕ) (inner : Stmt) (c0 c1 : Checker) (b0 b1 : Body) (code : Option Code) → WalksStatement inner c0 c1 b0 b1 →
-      ((around : Around) → around.labels ≡ map label_of b0.labels → code ≡ told (label_rules around name n)) → WalksForm (StmtForm-F.Label name inner) n c0 c1 b0 b1 code
+      ((around : Around) → AreLabels b0.labels around.labels → code ≡ told (label_rules around name n)) → WalksForm (StmtForm-F.Label name inner) n c0 c1 b0 b1 code
   labelled name inner c0 c1 b0 b1 code walks is at_end env around round = (walks at_end env around round, is around round.stands.labels)
 
   pub defaulted : (inner : Stmt) (c0 c1 : Checker) (b0 b1 b2 : Body) (code : Option Code) → WalksStatement inner c0 c1 b1 b2 →
@@ -303,7 +304,7 @@ module _ (n : ℕ) where
           asked_code c2 c3 (Some e) condition_rules asked refl asks (extend here (scoped (statement inner) here).additions)
           (plain_behind env c1 c2 here (scoped (statement inner) here).additions (turning_parts inner here around) round.plain (walks env here around round).walks)
 
-  pub jumped : (name : List ℕ) (checker : Checker) (body : Body) (code : Option Code) → IsSound checker → ((around : Around) → around.labels ≡ map label_of body.labels → code ≡ told (goto_rules around name)) →
+  pub jumped : (name : List ℕ) (checker : Checker) (body : Body) (code : Option Code) → IsSound checker → ((around : Around) → AreLabels body.labels around.labels → code ≡ told (goto_rules around name)) →
       WalksForm (StmtForm-F.Goto name) n checker checker body body code
   jumped name checker body code sound is at_end env around round =
       (passes_only at_end checker checker body env around nothing [] (no_walk at_end checker env sound round.plain.is_in) round.stands, is around round.stands.labels)

@@ -21,7 +21,6 @@ pub mod NamesTold
 pub mod Initials
 pub mod Items
 pub mod Joined
-pub mod Labelling
 pub mod Later
 pub mod Nameless
 pub mod Names

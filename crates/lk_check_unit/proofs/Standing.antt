@@ -1,5 +1,5 @@
 -- Where a state stands: some environment, what nothing converts, and what stands round a statement.
-use Rattle.std.proofs.Common.{◌≡◌, ◌∙◌, ℕ, Bool, true, false, List, [], ◌∷◌, Option, Some, None, map, refl, ap}
+use Rattle.std.proofs.Common.{◌≡◌, ◌∙◌, ℕ, Bool, true, false, List, [], ◌∷◌, Option, Some, None, refl, ap}
 use Rattle.std.specs.Prelude.{IfSome, option_map, if◌then◌else◌, ◌||◌}
 use Rattle.std.specs.List.{list_any}
 use Rattle.lk_types.proofs.GrowLemmas.{known_same}
@@ -12,7 +12,6 @@ use Rattle.lk_typed.specs.Nodes.{Placed}
 use Rattle.lk_typed.specs.StatementRules.{Around}
 use Rattle.lk_names.specs.InScope.{env_in}
 use Rattle.lk_names.specs.declared.names.Mark.{Mark}
-use Rattle.lk_check_decl.specs.Switches.{label_of, switch_of}
 use Rattle.lk_found.specs.declared.found.Stands.{Stands}
 use Rattle.lk_check_walk.specs.Walks.{IsSound, StandsIn, Walks}
 use Rattle.lk_check_walk.specs.declared.checker.Checker.{Checker}
@@ -96,24 +95,4 @@ round_entered old new mark body env around enters round =
       plain = plain_entered old new mark env enters round.plain;
       result = ap (λ t. option_map (meaning t) body.returned) enters.beside.types ∙ round.result;
       stands = round.stands;
-    }
-
--- some statement stands in any state
-abbrev pub around_in : Body → Around
-around_in body = record { labels = map label_of body.labels; in_loop = body.in_loop; switch = option_map switch_of body.switch }
-
-abbrev pub somewhere_in : Checker → Body → Env
-somewhere_in checker body = record (somewhere checker) { result = option_map (meaning checker.types) body.returned }
-
-pub round_somewhere : (checker : Checker) (body : Body) → IsRound checker body (somewhere_in checker body) (around_in body)
-round_somewhere checker body =
-    record {
-      plain =
-          record {
-            is_in = record { scope = refl; defined = λ name. any_of checker.outside.defined.keys name; externs = λ name. any_of checker.outside.externs.keys name };
-            role = refl;
-            in_size = refl;
-          };
-      result = refl;
-      stands = record { labels = refl; in_loop = refl; switch = refl };
     }

@@ -22,7 +22,8 @@ use Rattle.lk_typed.specs.StatementRules.{Around, in_body_of_loop, return_rules}
 use Rattle.lk_typed.specs.Statements.{StmtTeller, StmtTold, adding, all_in_turn, around_behind, of_form, or_nothing, scoped, statement}
 use Rattle.lk_typed.specs.Ty.{Ty}
 use Rattle.lk_check_decl.specs.Breaches.{told}
-use Rattle.lk_check_decl.specs.Switches.{label_of, switch_of}
+use Rattle.lk_check_decl.specs.Switches.{switch_of}
+use Rattle.lk_labels.specs.Leasts.{AreLabels}
 use Rattle.lk_found.specs.declared.found.At.{At}
 use Rattle.lk_check_walk.specs.Walks.{IsIn, IsSound, Walks}
 use Rattle.lk_check_walk.specs.declared.checker.Checker.{Checker}
@@ -39,7 +40,7 @@ pub record IsPlain (checker : Checker) (env : Env) : Type 0 where
 
 -- the code's word for what stands round a statement
 pub record IsAround (body : Body) (around : Around) : Type 0 where
-  pub labels : around.labels ≡ map label_of body.labels
+  pub labels : AreLabels body.labels around.labels
   pub in_loop : around.in_loop ≡ body.in_loop
   pub switch : around.switch ≡ option_map switch_of body.switch
 

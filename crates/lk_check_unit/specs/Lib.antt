@@ -5,7 +5,6 @@ pub mod Declaring
 pub mod Definitions
 pub mod InitDeclarators
 pub mod Initialising
-pub mod Labelled
 pub mod Later
 pub mod Scoping
 pub mod Sources

@@ -1,14 +1,15 @@
 //! What stands round a statement in its function.
 
-use lk_base::{Code, Seq};
-use lk_check_decl::{Label, Switch};
+use lk_base::Code;
+use lk_check_decl::Switch;
+use lk_labels::Labels;
 use lk_types::TypeId;
 
 /// The body of a function.
 #[derive(Drop)]
 pub(crate) struct Body {
     /// The labels of the function.
-    pub(crate) labels: Seq<Label>,
+    pub(crate) labels: Labels,
     /// The result of the function, where its type is known.
     pub(crate) returned: Option<TypeId>,
     /// The innermost switch round the statement, as far as it stands before it.

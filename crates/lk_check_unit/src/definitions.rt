@@ -1,5 +1,5 @@
 //! Definitions of functions (C99 6.9.1).
-ghost use Rattle.std.specs.Prelude.{◌≡◌, Some, length, map, IfOk, IfSome, OnOk};
+ghost use Rattle.std.specs.Prelude.{◌≡◌, Some, length, IfOk, IfSome, OnOk};
 ghost use Rattle.std.specs.Option.{option_map};
 ghost use Rattle.lk_tree.specs.declared.statement.StmtForm.{out-StmtForm};
 ghost use Rattle.lk_types.specs.Table.{IsKnown};
@@ -9,7 +9,6 @@ ghost use Rattle.lk_typed.specs.Labels.{labels};
 ghost use Rattle.lk_typed.specs.Meaning.{meaning};
 ghost use Rattle.lk_typed.specs.NodeParts as spec;
 ghost use Rattle.lk_typed.specs.StatementRules.{in_function};
-ghost use Rattle.lk_check_decl.specs.Switches.{label_of};
 ghost use Rattle.lk_found.specs.Named.{name_in};
 ghost use Rattle.lk_check_walk.specs.Specifying.{IsSame, KeepsAt};
 ghost use Rattle.lk_check_walk.specs.Walking.{IsFurther};
@@ -20,13 +19,13 @@ ghost use Rattle.lk_check_unit.specs.Definitions.{IsKnownHeaded, NamesFunction, 
 
 use crate::body::Body;
 use crate::declared::declare_name;
-use crate::labels::put_labels;
 use crate::scopes::{enter, leave};
 use crate::statements::block_items;
-use lk_base::{NoMemory, Seq};
-use lk_check_decl::{Given, Holder, Label, Scope, definition_code};
+use lk_base::NoMemory;
+use lk_check_decl::{Given, Holder, Scope, definition_code};
 use lk_check_walk::Checker;
 use lk_found::{Asked, At, DeclaratorFound, DeclaredName, declared_name};
+use lk_labels::labels_of;
 use lk_names::{LeftScope, Mark};
 use lk_tree::{BlockItem, Declarator, Function, Init, Stmt, StmtForm, Storage};
 use lk_typed::form;
@@ -185,15 +184,6 @@ fn head(checker: &mut Checker, node: &Function) -> Result<Headed, NoMemory>
         returned,
         parameters,
     })
-}
-
-/// The labels of a function.
-fn labels_of(alloc: Global, s: &Stmt) -> Result<Seq<Label>, NoMemory>
-    ensures { IfOk result (λ found. map label_of found ≡ labels s.now) }
-{
-    let mut found = Seq::new(Vec::new(alloc));
-    put_labels(s, &mut found)?;
-    Ok(found)
 }
 
 /// What stands round the items of a body, in a function with this result.

@@ -16,7 +16,6 @@ mod externals;
 mod heads;
 mod initialisers;
 mod keeping;
-mod labels;
 mod pending;
 mod returning;
 mod scopes;
@@ -26,7 +25,6 @@ mod statements;
 mod written;
 
 pub use definitions::items_of;
-pub use labels::put_labels;
 pub use lk_check_walk::Checked;
 pub use source::{check, check_faults};
 pub use written::braces_of;

@@ -16,8 +16,9 @@ use crate::keeping::keep_code;
 use crate::returning::returning;
 use crate::scopes::{enter, leave};
 use lk_base::{Boxed, Code, Name, NoMemory};
-use lk_check_decl::{break_code, continue_code, goto_code, label_code};
+use lk_check_decl::{break_code, continue_code};
 use lk_check_walk::Checker;
+use lk_labels::{goto_code, label_code};
 use lk_tree::{BlockItem, Expr, ForFirst, Stmt, StmtForm};
 
 /// An expression statement: its code.
@@ -52,7 +53,7 @@ fn labelled(
     ensures walks { IfOk result (WalksForm (StmtForm-F.Label name.now inner.now) ordinal
         checker.old checker.new body.old body.new) }
 {
-    let code = label_code(body.labels.list(), name, ordinal);
+    let code = label_code(&body.labels, name, ordinal);
     statement(checker, inner, body)?;
     Ok(code)
 }
@@ -314,7 +315,7 @@ fn statement_parts(
         StmtForm::For(first, test, step, inner) => {
             for_loop(checker, inner.get(), first, test, step, body)
         }
-        StmtForm::Goto(name) => Ok(goto_code(body.labels.list(), name)),
+        StmtForm::Goto(name) => Ok(goto_code(&body.labels, name)),
         StmtForm::Continue => Ok(continue_code(body.in_loop)),
         StmtForm::Break => Ok(break_code(body.in_loop, body.switch.is_some())),
         StmtForm::Return(e) => returning(checker, e, body),

@@ -24,7 +24,7 @@ use Rattle.lk_typed.specs.Words.{use_of_declared, whole_of}
 use Rattle.lk_rules.proofs.Found.{Layer, expressions_follow_their_rules}
 use Rattle.lk_found.specs.Addresses.{binary_address, cast_address, declared_address, name_address, prefix_address}
 use Rattle.lk_found.specs.Judging.{Gives}
-use Rattle.lk_found.proofs.Given.{binary_gives, cast_gives, index_gives, name_gives, prefix_gives}
+use Rattle.lk_found.proofs.GivenAddresses.{binary_gives, cast_gives, index_gives, name_gives, prefix_gives}
 
 some_none : {A : Type 0} {a : A} → ◌≡◌ {A = Option A} None (Some a) → ⊥
 some_none e = false≢true (ap is_some e)

@@ -1,5 +1,5 @@
 -- What is made of the items of a body makes its block.
-use Rattle.std.proofs.Common.{◌≡◌, ◌∙◌, ℕ, false, Some, List, [], ◌∷◌, inl, inr, map, refl, sym, ap, subst}
+use Rattle.std.proofs.Common.{◌≡◌, ◌∙◌, ℕ, false, Some, List, [], ◌∷◌, inl, inr, refl, ap, subst}
 use Rattle.lk_tree.specs.declared.statement.BlockItem.{BlockItem}
 use Rattle.lk_tree.specs.declared.statement.Function.{Function as Definition}
 use Rattle.lk_tree.specs.declared.statement.StmtForm.{out-StmtForm}
@@ -15,16 +15,16 @@ use Rattle.lk_typed.specs.TypedStatements.{MakesStmt}
 use Rattle.lk_typed.specs.declared.statement.TypedItem.{TypedItem}
 use Rattle.lk_typed.specs.declared.statement.TypedItem.TheOpen.{TypedStmtForm-F}
 use Rattle.lk_typed.specs.declared.statement.TypedStmt.{TypedStmt}
-use Rattle.lk_check_decl.specs.Switches.{label_of}
+use Rattle.lk_labels.specs.Leasts.{AreLabels}
 use Rattle.lk_elab_expr.specs.declared.elaborator.Elaborator.{Elaborator}
 use Rattle.lk_elaborate.proofs.Carried.{in_rest, node_part}
 use Rattle.lk_elaborate.specs.Defining.{IsRoundIn, MakesBlock, inside}
 use Rattle.lk_elaborate.specs.Making.{MakesItems, StandIn}
 use Rattle.lk_elaborate.specs.declared.statements.Around.{Around}
 
-pub round_in : (walk : Elaborator) (node : Definition) (t : ℕ) (round : Around) → map label_of round.labels ≡ labels node.body → IsKnown walk.types round.returned →
+pub round_in : (walk : Elaborator) (node : Definition) (t : ℕ) (round : Around) → AreLabels round.labels (labels node.body) → IsKnown walk.types round.returned →
     result_of (Some (meaning walk.types t)) ≡ Some (meaning walk.types round.returned) → IsRoundIn walk node t round
-round_in walk node t round labelled known returned env role type = record { role = role; labels = sym labelled; known = known; result = ap result_of type ∙ returned }
+round_in walk node t round labelled known returned env role type = record { role = role; labels = labelled; known = known; result = ap result_of type ∙ returned }
 
 items_stand : (walk : Elaborator) (env : Env) (node : Definition) → StandIn walk (at env (ADefinition node) ∷ []) →
     StandIn walk (items_in_turn (in_function (labels node.body)) (inside env node) (body_items (out-StmtForm node.body.form)))

@@ -1,8 +1,6 @@
 -- What is made of the parts of a statement makes the statement.
-use Rattle.std.proofs.Common.{◌≡◌, ◌∙◌, ◌++◌, ◌<◌, get_or, length, ℕ, false, Option, Some, None, List, [], ◌∷◌, map, inl, refl, sym, ap, subst, append_assoc}
-use Rattle.std.proofs.lemmas.List.{append-nil, get_or-map, length-map}
-use Rattle.std.proofs.lemmas.List.Elements.{Contains-get_or}
-use Rattle.std.specs.List.{Contains}
+use Rattle.std.proofs.Common.{◌≡◌, ◌∙◌, ◌++◌, ℕ, false, Option, Some, None, List, [], ◌∷◌, inl, refl, sym, ap, subst, append_assoc}
+use Rattle.std.proofs.lemmas.List.{append-nil}
 use Rattle.lk_tree.specs.declared.declaration.Declare.{Declare}
 use Rattle.lk_tree.specs.declared.expression.Expr.{Expr}
 use Rattle.lk_tree.specs.declared.statement.BlockItem.{BlockItem, out-BlockItem}
@@ -14,6 +12,7 @@ use Rattle.lk_tree.specs.declared.statement.StmtForm.{StmtForm, out-StmtForm}
 use Rattle.lk_typed.proofs.Meanings.{meaning_stays}
 use Rattle.lk_typed.specs.Elaborated.{IsConverted}
 use Rattle.lk_typed.specs.Env.{Env, Name, AsOperand, enter, extend}
+use Rattle.lk_typed.specs.Labels.{Label}
 use Rattle.lk_typed.specs.Meaning.{meaning, IsKnownType, IsReady}
 use Rattle.lk_typed.specs.Nodes.{Placed, AStatement, AnExpression, at}
 use Rattle.lk_typed.specs.Parts.{added_by, behind, first_adds, first_part, item_adds, item_around, item_part, items_in_turn, perhaps, statement_parts, to_result}
@@ -32,6 +31,7 @@ use Rattle.lk_typed.specs.declared.statement.TypedStmt.{TypedStmt}
 use Rattle.lk_typed.specs.declared.statement.TypedItem.TheOpen.{TypedItem-F, TypedStmtForm-F}
 use Rattle.lk_typed.specs.declared.typed.ExprType.{ExprType}
 use Rattle.lk_typed.specs.declared.typed.ExprType.TheVariants.{Listed}
+use Rattle.lk_labels.specs.Leasts.{AreLabels, LabelNamed}
 use Rattle.lk_elab_expr.proofs.Growing.{grows_on, known_stays, leads_back, true_on, type_on}
 use Rattle.lk_elab_expr.specs.Elaborating.{Elaborates, ElaboratesConverted, ElaboratesTo, ElaboratesValue}
 use Rattle.lk_elab_expr.specs.Known.{OfEach}
@@ -40,13 +40,9 @@ use Rattle.lk_elab_expr.specs.Telling.{IsTrueOf}
 use Rattle.lk_elab_expr.specs.declared.elaborator.Elaborator.{Elaborator}
 use Rattle.lk_elaborate.proofs.Carried.{first_stand, goes_then, head_stands, parts_stand, rest_stand, stand_on, tail_stands}
 use Rattle.lk_elaborate.specs.Asking.{HasPromoted}
-use Rattle.lk_elaborate.specs.Making.{HasCases, IsRound, LabelNamed, MakesDeclaration, MakesElse, MakesFirst, MakesForm, MakesGiven, MakesItem, MakesItems, MakesPerhaps, MakesStatement, MakesSwitched, MakesValue, OpenForm, StandIn}
+use Rattle.lk_elaborate.specs.Making.{HasCases, IsRound, MakesDeclaration, MakesElse, MakesFirst, MakesForm, MakesGiven, MakesItem, MakesItems, MakesPerhaps, MakesStatement, MakesSwitched, MakesValue, OpenForm, StandIn}
 use Rattle.lk_elaborate.specs.declared.cases.Cases.{Cases}
 use Rattle.lk_elaborate.specs.declared.statements.Around.{Around}
-
--- an element's image is among those of all
-pub contains_map : {A B : Type 0} (f : A → B) (xs : List A) (i : ℕ) (x : A) → i < length xs → x ≡ get_or xs i x → Contains (map f xs) (f x)
-contains_map f xs i x below is = subst (Contains (map f xs)) (get_or-map f xs i x (f x) below ∙ ap f (sym is)) (Contains-get_or (map f xs) i (f x) (subst (λ n. i < n) (sym (length-map xs f)) below))
 
 -- ---- expressions
 
@@ -217,9 +213,10 @@ module _ (round : Around) where
       made
 
   -- a goto, by a label of the function
-  pub gone : (a b : Elaborator) (name : Name) (n : ℕ) → LabelNamed round.labels name n → MakesForm a b round (StmtForm-F.Goto name) (TypedStmtForm-F.Goto n)
-  gone a b name n named env around is stands tables leads s t form made =
-      IsStmt.goto form (subst (λ ls. Contains ls named.label) (sym is.labels) named.there) named.is
+  pub gone : (a b : Elaborator) (name : Name) (n : ℕ) → ((found : List Label) → AreLabels round.labels found → LabelNamed found name n) → MakesForm a b round (StmtForm-F.Goto name) (TypedStmtForm-F.Goto n)
+  gone a b name n names env around is stands tables leads s t form made =
+      let named = names around.labels is.labels in
+      IsStmt.goto form named.there named.is
       (subst (λ m. MakesStmt s (TypedStmtForm-F.Goto m) t) (sym named.ordinal) made)
 
   -- ---- a part that may be missing

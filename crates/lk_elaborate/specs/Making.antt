@@ -1,6 +1,5 @@
 -- What is made of the statements of a source (C99 6.8), in tables to which the state leads.
-use Rattle.std.specs.Prelude.{ℕ, ◌≡◌, ◌++◌, false, true, Option, Some, None, List, [], ◌∷◌, map, option_map}
-use Rattle.std.specs.List.{Contains}
+use Rattle.std.specs.Prelude.{ℕ, ◌≡◌, ◌++◌, false, Option, Some, None, List, [], ◌∷◌, option_map}
 use Rattle.lk_base.specs.declared.kind.Kind.{Kind}
 use Rattle.lk_tree.specs.declared.declaration.Declare.{Declare}
 use Rattle.lk_tree.specs.declared.expression.Expr.{Expr}
@@ -16,8 +15,6 @@ use Rattle.lk_typed.specs.Addresses.{value}
 use Rattle.lk_typed.specs.Elaborated.{InPlace, IsConverted, IsValue, typing_at}
 use Rattle.lk_typed.specs.Env.{Env, Name, AsOperand, ConvertedTo}
 use Rattle.lk_typed.specs.Expressions.{expr_constant}
-use Rattle.lk_typed.specs.Labels as labels
-use Rattle.lk_typed.specs.Labels.{is_name}
 use Rattle.lk_typed.specs.LocalInits.{IsBlockDeclaration}
 use Rattle.lk_typed.specs.Meaning.{meaning}
 use Rattle.lk_typed.specs.Nodes.{Placed, ADeclaration, AStatement, AnExpression, at}
@@ -40,8 +37,7 @@ use Rattle.lk_typed.specs.declared.statement.TypedItem.{TypedItem}
 use Rattle.lk_typed.specs.declared.statement.TypedItem.TheOpen.{TypedStmtForm-F}
 use Rattle.lk_typed.specs.declared.statement.TypedStmt.{TypedStmt}
 use Rattle.lk_typed.specs.declared.statement.TypedStmtForm.{TypedStmtForm}
-use Rattle.lk_check_decl.specs.Switches.{label_of}
-use Rattle.lk_check_decl.specs.declared.switches.Label.{Label}
+use Rattle.lk_labels.specs.Leasts.{AreLabels}
 use Rattle.lk_check_unit.specs.Bodies.{item_told, items_told, told_of}
 use Rattle.lk_elab_expr.specs.Leading.{Grows, GoesOn, Leads}
 use Rattle.lk_elab_expr.specs.declared.elaborator.Elaborator.{Elaborator}
@@ -59,7 +55,7 @@ pub record StandIn (walk : Elaborator) (placed : List Placed) : Type 0 where
 -- the code's word for what stands round a statement, in a function with this result
 pub record IsRound (walk : Elaborator) (round : Around) (env : Env) (around : spec.Around) : Type 0 where
   pub role : env.role ≡ AsOperand
-  pub labels : around.labels ≡ map label_of round.labels
+  pub labels : AreLabels round.labels around.labels
   pub known : IsKnown walk.types round.returned
   pub result : env.result ≡ Some (meaning walk.types round.returned)
 
@@ -205,15 +201,6 @@ PutsOfElse walk kind s old new =
 abbrev pub PutsOfItems : Elaborator → Option Kind → List BlockItem → Cases → Cases → Type 0
 PutsOfItems walk kind items old new =
     (env : Env) (around : spec.Around) → env.role ≡ AsOperand → StandIn walk (items_in_turn around env items) → PutsCases kind (items_told items env) old new
-
--- ---- labels (C99 6.8.6.1)
-
--- a label of the function with this name has this number
-pub record LabelNamed (found : List Label) (name : Name) (n : ℕ) : Type 0 where
-  pub label : labels.Label
-  pub there : Contains (map label_of found) label
-  pub is : is_name label.name name ≡ true
-  pub ordinal : label.ordinal ≡ n
 
 -- ---- a switch, an if and the head of a for
 

@@ -8,7 +8,6 @@ ghost use Rattle.lk_elaborate.specs.Outside.{GoesOutside};
 ghost use Rattle.lk_elaborate.specs.PuttingStatements.{PutsBlock};
 
 use crate::declarations::{declared_type, name_in, put_name};
-use crate::labels::labels_of;
 use crate::parameters::put_parameters;
 use crate::statements::{Around, block_items};
 use crate::type_forms::result_type;
@@ -16,6 +15,7 @@ use lk_base::{NoMemory, Seq};
 use lk_check_decl::Scope;
 use lk_check_unit::items_of;
 use lk_elab_expr::{Elaborator, Locals};
+use lk_labels::labels_of;
 use lk_tree::Function;
 use lk_typed::{Body, Local, TypedStmt, TypedStmtForm};
 use lk_types::TypeId;

@@ -20,10 +20,10 @@ use crate::cases::{Cases, cases_of};
 use crate::declarations::block_declaration;
 use crate::labels::label_named;
 use lk_base::{Boxed, Kind, Name, NoMemory, Seq};
-use lk_check_decl::Label;
 use lk_elab_expr::{
     Elaborator, converted, expression, given_value, promoted_type, value_at, value_node,
 };
+use lk_labels::Labels;
 use lk_tree::{BlockItem, Expr, ForFirst, Stmt, StmtForm};
 use lk_typed::{ExprType, TypedExpr, TypedFirst, TypedItem, TypedStmt, TypedStmtForm, kind_of};
 use lk_types::TypeId;
@@ -33,7 +33,7 @@ use std::alloc::Global;
 #[derive(Drop)]
 pub(crate) struct Around {
     /// The labels of the function.
-    pub(crate) labels: Seq<Label>,
+    pub(crate) labels: Labels,
     /// The result of the function.
     pub(crate) returned: TypeId,
 }
@@ -482,7 +482,7 @@ fn going(walk: &mut Elaborator, name: &Name, around: &Around) -> Result<TypedStm
     ensures goes_on { OnOk result (GoesOn walk.old walk.new) }
 {
     let _walk = walk;
-    let label = label_named(around.labels.list(), name)?;
+    let label = label_named(&around.labels, name)?;
     Ok(TypedStmtForm::Goto(label))
 }
 

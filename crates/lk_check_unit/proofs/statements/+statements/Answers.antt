@@ -1,10 +1,9 @@
 use Rattle.std.proofs.Common.{◌∙◌, Some, refl, sym, ap, subst, drop, ◌+◌, rules}
-use Rattle.std.specs.Prelude.{map, OnOk, IfOk}
+use Rattle.std.specs.Prelude.{OnOk, IfOk}
 use Rattle.std.proofs.lemmas.Result.{IfOk-weaker, on_ok_weaker}
 use Rattle.lk_tree.specs.declared.statement.StmtForm.{out-StmtForm}
 use Rattle.lk_tree.specs.declared.statement.StmtForm.TheVariants as form
 use Rattle.lk_tree.specs.declared.statement.BlockItem.TheOpen.{StmtForm-F}
-use Rattle.lk_check_decl.specs.Switches.{label_of}
 use Rattle.lk_check_walk.specs.Walks.{IsSound}
 use Rattle.lk_check_unit.specs.Bodies.{IsKnownResult, WalksForm, WalksItem, WalksScoped}
 use Rattle.lk_check_unit.proofs.Forming as forming
@@ -17,7 +16,7 @@ use Rattle.lk_check_unit.proofs.statements.+statements.Goals as goal
 pub labelled-returns-clause-walks : goal.labelled-returns-clause-walks
 labelled-returns-clause-walks t c =
     forming.labelled c.args.ordinal c.args.name.now c.args.inner.now c.args.checker.now c.statement.new.checker c.args.body.now c.statement.new.body c.label_code-code.result
-    c.in_ok-statement.ensures.walks (λ around is. c.label_code-code.ensures around (is ∙ ap (map label_of) (sym c.list.ensures)))
+    c.in_ok-statement.ensures.walks c.label_code-code.ensures
 
 pub case-returns-clause-stays : goal.case-returns-clause-stays
 case-returns-clause-stays t c =
@@ -282,7 +281,7 @@ statement_parts-returns-in-For-clause-walks t c =
 pub statement_parts-returns-in-Goto-clause-walks : goal.statement_parts-returns-in-Goto-clause-walks
 statement_parts-returns-in-Goto-clause-walks t c =
     subst (λ f. WalksForm f c.args.s.now.ordinal c.args.checker.now c.args.checker.now c.args.body.now c.args.body.now c.goto_code.result) (sym (shape.a_goto c.args.s.now.form c.in-Goto.name c.in-Goto.is))
-    (forming.jumped c.args.s.now.ordinal c.in-Goto.name c.args.checker.now c.args.body.now c.goto_code.result c.requires.sound (λ around is. c.goto_code.ensures around (is ∙ ap (map label_of) (sym c.list-in-Goto.ensures))))
+    (forming.jumped c.args.s.now.ordinal c.in-Goto.name c.args.checker.now c.args.body.now c.goto_code.result c.requires.sound c.goto_code.ensures)
 
 pub statement_parts-returns-in-Continue-clause-walks : goal.statement_parts-returns-in-Continue-clause-walks
 statement_parts-returns-in-Continue-clause-walks t c =

@@ -1,26 +1,18 @@
-//! The labels of a function (C99 6.8.1).
-ghost use Rattle.std.specs.Prelude.{◌≡◌, ◌++◌, ◌∷◌, [], map, OnOk};
+//! The labels of a statement (C99 6.2.1, 3).
+ghost use Rattle.std.specs.Prelude.{◌≡◌, IfOk, OnOk};
 ghost use Rattle.lk_typed.specs.Labels.{labels};
-ghost use Rattle.lk_check_decl.specs.Switches.{label_of};
-ghost use Rattle.lk_check_unit.specs.Labelled.{labels_of_items, labels_of_optional};
+ghost use Rattle.lk_labels.specs.Leasts.{AreLabels, put_labels};
+ghost use Rattle.lk_labels.specs.Parts.{labels_of_items, labels_of_optional};
 
-use lk_base::{Boxed, Name, NoMemory, Seq};
-use lk_check_decl::Label;
+use crate::labels::Labels;
+use lk_base::{Boxed, NoMemory};
 use lk_tree::{BlockItem, Stmt, StmtForm};
-
-/// Puts a label.
-fn put_label(name: &Name, ordinal: u32, out: &mut Seq<Label>) -> Result<(), NoMemory>
-    ensures { OnOk result (map label_of out.new ≡
-        map label_of out.old ++ record { name = name.now; ordinal = ordinal } ∷ []) }
-{
-    let name = name.copy()?;
-    out.push(Label { name, ordinal })
-}
+use std::alloc::Global;
 
 /// Puts the labels of the items of a block.
 #[cycle(labels)]
-fn put_items(items: &[BlockItem], out: &mut Seq<Label>) -> Result<(), NoMemory>
-    ensures { OnOk result (map label_of out.new ≡ map label_of out.old ++ labels_of_items items.now) }
+fn put_items(items: &[BlockItem], out: &mut Labels) -> Result<(), NoMemory>
+    ensures { OnOk result (out.new ≡ put_labels out.old (labels_of_items items.now)) }
 {
     for item in items {
         match item {
@@ -34,12 +26,12 @@ fn put_items(items: &[BlockItem], out: &mut Seq<Label>) -> Result<(), NoMemory>
 /// Puts the labels of a statement, in the order of the text.
 #[cycle(labels)]
 #[tactic(auto, unfolding(lk_typed::specs::Labels::labels))]
-pub fn put_labels(s: &Stmt, out: &mut Seq<Label>) -> Result<(), NoMemory>
-    ensures { OnOk result (map label_of out.new ≡ map label_of out.old ++ labels s.now) }
+fn put_labels(s: &Stmt, out: &mut Labels) -> Result<(), NoMemory>
+    ensures { OnOk result (out.new ≡ put_labels out.old (labels s.now)) }
 {
     match &s.form {
         StmtForm::Label(name, inner) => {
-            put_label(name, s.ordinal, out)?;
+            out.put(name, s.ordinal)?;
             put_labels(inner.get(), out)
         }
         StmtForm::Case(_, inner)
@@ -62,4 +54,13 @@ pub fn put_labels(s: &Stmt, out: &mut Seq<Label>) -> Result<(), NoMemory>
         | StmtForm::Break
         | StmtForm::Return(_) => Ok(()),
     }
+}
+
+/// The labels of a function, by its body.
+pub fn labels_of(alloc: Global, s: &Stmt) -> Result<Labels, NoMemory>
+    ensures { IfOk result (λ found. AreLabels found (labels s.now)) }
+{
+    let mut found = Labels::new(alloc);
+    put_labels(s, &mut found)?;
+    Ok(found)
 }

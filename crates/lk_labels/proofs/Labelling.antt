@@ -1,15 +1,14 @@
 -- The labels of a statement by its form.
-use Rattle.std.proofs.Common.{◌≡◌, ◌∙◌, ◌++◌, List, [], ◌∷◌, Some, map, refl, ap}
+use Rattle.std.proofs.Common.{◌≡◌, ◌∙◌, ◌++◌, List, [], ◌∷◌, Option, Some, map, refl, sym, ap}
 use Rattle.lk_tree.specs.declared.statement.BlockItem.TheFolds.{fold-BlockItem, fold-StmtForm, fold_out-BlockItem, fold_out-Stmt, fold_out-StmtForm, map-StmtForm, map-BlockItem}
 use Rattle.lk_tree.specs.declared.statement.BlockItem.TheOpen.{BlockItem-F, StmtForm-F}
 use Rattle.lk_tree.specs.declared.statement.BlockItem.{BlockItem, out-BlockItem}
 use Rattle.lk_tree.specs.declared.statement.Stmt.{Stmt}
-use Rattle.lk_tree.specs.declared.statement.StmtForm.{StmtForm, out-StmtForm}
+use Rattle.lk_tree.specs.declared.statement.StmtForm.{StmtForm, out-StmtForm, out-roll-StmtForm}
 use Rattle.lk_tree.specs.declared.statement.StmtForm.TheVariants as form
 use Rattle.lk_tree.specs.declared.expression.Expr.{Expr}
 use Rattle.lk_typed.specs.Labels.{Found, Label, all_of, in_form, in_item, in_stmt, labels}
-use Rattle.lk_check_unit.proofs.Shapes.{a_block, an_if}
-use Rattle.lk_check_unit.specs.Labelled.{labels_of_item, labels_of_items}
+use Rattle.lk_labels.specs.Parts.{labels_of_item, labels_of_items}
 
 unfoldable item_labels : BlockItem → List Label
 item_labels = fold-BlockItem (List Label) Found (List Label) in_item in_form in_stmt
@@ -36,6 +35,12 @@ one_item i = fold_out-BlockItem (List Label) Found (List Label) in_item in_form 
 all_items : (is : List BlockItem) → all_of (map item_labels is) ≡ labels_of_items is
 all_items [] = refl
 all_items (i ∷ is) = ap (λ xs. xs ++ all_of (map item_labels is)) (one_item i) ∙ ap (λ xs. labels_of_item (out-BlockItem i) ++ xs) (all_items is)
+
+a_block : (f : StmtForm) (items : List BlockItem) → f ≡ form.Block items → out-StmtForm f ≡ StmtForm-F.Block items
+a_block f items is = ap out-StmtForm (is ∙ sym (form.rolls-Block items)) ∙ out-roll-StmtForm (StmtForm-F.Block items)
+
+an_if : (f : StmtForm) (e : Expr) (taken : Stmt) (other : Option Stmt) → f ≡ form.If e taken other → out-StmtForm f ≡ StmtForm-F.If e taken other
+an_if f e taken other is = ap out-StmtForm (is ∙ sym (form.rolls-If e taken other)) ∙ out-roll-StmtForm (StmtForm-F.If e taken other)
 
 pub labels_of_block : (s : Stmt) (items : List BlockItem) → s.form ≡ form.Block items → labels s ≡ labels_of_items items
 labels_of_block s items is = labels_by_form s ∙ (ap (λ f. in_form (folded f) s.ordinal) (a_block s.form items is) ∙ all_items items)

@@ -1,0 +1,4 @@
+mod Labelling
+mod Listing
+pub mod Putting
+mod Telling
