@@ -1,14 +1,28 @@
 //! Declarations.
 ghost use Rattle.std.specs.Prelude.{◌≡◌, false};
 ghost use Rattle.lk_parse_decl.specs.Reading as spec;
+ghost use Rattle.lk_parse_expr.specs.Parts.{behind};
 ghost use Rattle.lk_parse_expr.specs.Readers.{Gives, separated_from};
 
 use crate::initialiser::read_initialiser;
 use lk_base::{Fault, Seq, Spot};
 use lk_lex::Punct;
 use lk_parse_expr::{Cursor, Found, Head, Naming, read_declarator, read_specifiers};
-use lk_tree::{Declarator, Declare, InitDeclarator};
+use lk_tree::{Declarator, Declare, Init, InitDeclarator};
 use std::alloc::Global;
+
+/// An initialiser, with what was read before it.
+fn initialiser_behind<B: Drop>(
+    alloc: Global,
+    cursor: &mut Cursor<'_>,
+    depth: usize,
+    before: B,
+) -> Result<(B, Found<Init>), Fault>
+    ensures { Gives (behind before (spec.initialiser depth) cursor.old) result cursor.new }
+{
+    let value = read_initialiser(alloc, cursor, depth)?;
+    Ok((before, value))
+}
 
 /// What is behind a declarator: its name is in scope in its initialiser.
 #[tactic(auto, unfolding(crate::specs::Reading::initialised))]
@@ -23,7 +37,7 @@ fn initialised(
 {
     let (declarator, head) = one.tree;
     let valued = cursor.sees(Punct::Equal);
-    cursor.declare_head(head, typedef)?;
+    let declarator = cursor.declared(declarator, head, typedef)?;
     if !valued {
         return Ok(Found {
             tree: InitDeclarator {
@@ -34,7 +48,7 @@ fn initialised(
         });
     }
     cursor.take();
-    let value = read_initialiser(alloc, cursor, depth)?;
+    let (declarator, value) = initialiser_behind(alloc, cursor, depth, declarator)?;
     Ok(Found {
         tree: InitDeclarator {
             declarator,
@@ -105,6 +119,20 @@ fn declarators(
     declarators_from(alloc, cursor, depth, typedef, turns, none)
 }
 
+/// The declarators of a declaration, perhaps none, with what was read before them.
+fn declarators_with<B: Drop>(
+    alloc: Global,
+    cursor: &mut Cursor<'_>,
+    depth: usize,
+    typedef: bool,
+    before: B,
+) -> Result<(B, Found<Seq<InitDeclarator>>), Fault>
+    ensures { Gives (behind before (spec.declarators depth typedef) cursor.old) result cursor.new }
+{
+    let list = declarators(alloc, cursor, depth, typedef)?;
+    Ok((before, list))
+}
+
 /// What is behind the first declarator of a declaration: its initialiser, and the other declarators, up to the `;`. `depth` is how
 /// many levels there are inside the declaration, and `typedef` says whether the names are declared as typedefs.
 ///
@@ -145,14 +173,14 @@ fn declaration_at(
     ensures { Gives (spec.declare_from depth spot cursor.old) result cursor.new }
 {
     let first = read_specifiers(alloc, cursor, depth)?;
-    let (specifiers, typedef) = first.tree;
-    let list = declarators(alloc, cursor, depth, typedef)?;
-    cursor.expect(Punct::Semicolon)?;
+    let typedef = first.tree.1;
+    let read = declarators_with(alloc, cursor, depth, typedef, first.first())?;
+    let (first, list) = cursor.closed(read, Punct::Semicolon)?;
     Ok(Found {
         tree: Declare {
             spot,
             ordinal: 0,
-            specifiers,
+            specifiers: first.tree,
             declarators: list.tree,
         },
         room: first.room.min(list.room),

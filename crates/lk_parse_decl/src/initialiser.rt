@@ -42,7 +42,7 @@ fn designator(
     }
     cursor.expect(Punct::OpenBracket)?;
     let index = read_expr(alloc, cursor, depth, 2)?;
-    cursor.expect(Punct::CloseBracket)?;
+    let index = cursor.closed(index, Punct::CloseBracket)?;
     Ok(Found {
         tree: Designator::Index(index.tree),
         room: index.room,
@@ -92,8 +92,7 @@ fn designators(
         });
     }
     let list = designator_list(alloc, cursor, depth)?;
-    cursor.expect(Punct::Equal)?;
-    Ok(list)
+    cursor.closed(list, Punct::Equal)
 }
 
 /// An entry of an initialiser in braces.
@@ -150,7 +149,7 @@ fn braced(
     cursor.take();
     let list = entries(alloc, cursor, depth)?;
     cursor.comma_if_any();
-    cursor.expect(Punct::CloseBrace)?;
+    let list = cursor.closed(list, Punct::CloseBrace)?;
     Ok(Found {
         tree: Init::List(InitList {
             spot,

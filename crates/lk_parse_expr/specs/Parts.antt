@@ -1,7 +1,9 @@
 -- Readers of parts of a form, where each is read by a function of its own.
 use Rattle.std.specs.Prelude.{ℕ, ◌-◌, min, Bool, List, Some, Ok, take, drop}
 use Rattle.lk_base.specs.declared.spot.Spot.{Spot}
+use Rattle.lk_lex.specs.declared.punct.Punct.{Punct}
 use Rattle.lk_lex.specs.declared.punct.Punct.TheVariants as p
+use Rattle.lk_lex.specs.declared.keyword.Keyword.{Keyword}
 use Rattle.lk_tree.specs.declared.expression.Expr.{Expr}
 use Rattle.lk_tree.specs.declared.expression.ExprForm.TheVariants as e
 use Rattle.lk_tree.specs.declared.expression.Specifier.{Specifier}
@@ -14,12 +16,28 @@ use Rattle.lk_parse_expr.specs.Input.{Names}
 use Rattle.lk_parse_expr.specs.Heads.{declare_head}
 use Rattle.lk_parse_expr.specs.Grammar.{expr_on, parameter_on}
 use Rattle.lk_parse_expr.specs.Readers as reader
-use Rattle.lk_parse_expr.specs.Readers.{Parser, and_then, ◌>>=◌, ◌>>◌, pure, expect, found, need}
+use Rattle.lk_parse_expr.specs.Readers.{Parser, and_then, ◌>>=◌, ◌>>◌, pure, expect, expect_key, found, need}
 use Rattle.lk_parse_expr.specs.Reading.{Readers, tag, struct_by, enum_by, array_of, function_of}
 
 -- the `)` behind parameters, where the scopes of the names end that were declared since there were so many; and those names
 abbrev pub close_parameters : ℕ → Parser Names
 close_parameters mark = λ i. and_then (expect p.CloseParen i) (λ _. λ j. Ok (drop mark i.names, record j { names = take mark j.names }))
+
+-- what is read behind something, with that
+abbrev pub behind : {A B : Type 0} → A → Parser B → Parser (A × B)
+behind before reads = reads >>= (λ next. pure (before, next))
+
+-- a punctuator behind something, which alone is kept
+abbrev pub closed : {A : Type 0} → A → Punct → Parser A
+closed before punct = expect punct >> pure before
+
+-- a token above something that leaves so many levels, which alone is kept
+abbrev pub rise : {A : Type 0} → A → ℕ → Parser A
+rise before room = need 1 room >> reader.take >> pure before
+
+-- a keyword behind something, which alone is kept
+abbrev pub closed_by_key : {A : Type 0} → A → Keyword → Parser A
+closed_by_key before keyword = expect_key keyword >> pure before
 
 module _ (m : ℕ) (below : Readers) where
   -- behind the `:` of a choice

@@ -10,6 +10,7 @@ ghost use Rattle.lk_parse_expr.specs.Reading as reading;
 ghost use Rattle.lk_parse_expr.specs.Words as words;
 ghost use Rattle.lk_parse_expr.specs.Heads as heads;
 ghost use Rattle.lk_lex.specs.declared.token.TokenKind.TheVariants as word;
+ghost use Rattle.lk_parse_expr.specs.Parts as part;
 ghost use Rattle.lk_parse_expr.specs.Parts.{close_parameters};
 
 use crate::naming::{Head, Naming};
@@ -221,6 +222,15 @@ impl<'t> Cursor<'t> {
         Ok(())
     }
 
+    /// Takes this punctuator, and gives back what was read before it.
+    #[tactic(auto, unfolding(crate::specs::Readers::expect))]
+    pub fn closed<B: Drop>(&mut self, before: B, punct: Punct) -> Result<B, Fault>
+        ensures { Gives (part.closed before punct self.old) result self.new }
+    {
+        self.expect(punct)?;
+        Ok(before)
+    }
+
     /// Takes this keyword.
     #[tactic(auto, unfolding(crate::specs::Readers::expect_key))]
     pub fn expect_key(&mut self, keyword: Keyword) -> Result<(), Fault>
@@ -231,6 +241,15 @@ impl<'t> Cursor<'t> {
         }
         self.take();
         Ok(())
+    }
+
+    /// Takes this keyword, and gives back what was read before it.
+    #[tactic(auto, unfolding(crate::specs::Readers::expect_key))]
+    pub fn closed_by_key<B: Drop>(&mut self, before: B, keyword: Keyword) -> Result<B, Fault>
+        ensures { Gives (part.closed_by_key before keyword self.old) result self.new }
+    {
+        self.expect_key(keyword)?;
+        Ok(before)
     }
 
     /// The next token, which is a word, as a name.
@@ -258,6 +277,14 @@ impl<'t> Cursor<'t> {
         Ok(name)
     }
 
+    /// Takes a name, and gives back what was read before it as well.
+    pub fn word_behind<B: Drop>(&mut self, before: B) -> Result<(B, Name), Fault>
+        ensures { Gives (part.behind before reader.word self.old) result self.new }
+    {
+        let name = self.word()?;
+        Ok((before, name))
+    }
+
     /// Asks for so many levels, where there are `room`.
     #[tactic(auto, unfolding(crate::specs::Readers::need))]
     pub fn need(&self, least: usize, room: usize) -> Result<(), Fault>
@@ -268,6 +295,16 @@ impl<'t> Cursor<'t> {
         } else {
             Err(self.exhaust())
         }
+    }
+
+    /// Takes a token above what was read, which leaves `room` levels and is given back: one of them has to be left.
+    #[tactic(auto, unfolding(crate::specs::Readers::need))]
+    pub fn rise<B: Drop>(&mut self, before: B, room: usize) -> Result<B, Fault>
+        ensures { Gives (part.rise before room self.old) result self.new }
+    {
+        self.need(1, room)?;
+        self.take();
+        Ok(before)
     }
 
     /// How many names are in scope.
@@ -412,17 +449,17 @@ impl<'t> Cursor<'t> {
         self.sees(Punct::Comma) && !is_ellipsis(self.second())
     }
 
-    /// Takes `, ...`, where a comma is next, and tells whether it was.
+    /// Takes `, ...`, where a comma is next, and tells whether it was, with what was read before it.
     #[tactic(auto, unfolding(crate::specs::Reading::dots))]
-    pub fn dots(&mut self) -> Result<bool, Fault>
-        ensures { Gives (reading.dots self.old) result self.new }
+    pub fn dots<B: Drop>(&mut self, before: B) -> Result<(B, bool), Fault>
+        ensures { Gives (part.behind before reading.dots self.old) result self.new }
     {
         if !self.sees(Punct::Comma) {
-            return Ok(false);
+            return Ok((before, false));
         }
         self.take();
         self.expect(Punct::Ellipsis)?;
-        Ok(true)
+        Ok((before, true))
     }
 
     /// Whether a declarator begins here, where it has a name by this rule.
@@ -459,6 +496,15 @@ impl<'t> Cursor<'t> {
         }
     }
 
+    /// Declares the name of a declarator, where it has one, and gives back what was read before.
+    pub fn declared<B: Drop>(&mut self, before: B, head: Head, typedef: bool) -> Result<B, NoMemory>
+        ensures given { IfOk result (λ given. given ≡ before) }
+        ensures names { OnOk result (self.new ≡ heads.declare_head head typedef self.old) }
+    {
+        self.declare_head(head, typedef)?;
+        Ok(before)
+    }
+
     /// Declares names one after another.
     #[tactic(auto, unfolding(crate::specs::Input::with_names))]
     pub fn declare_all(&mut self, names: Seq<(Name, bool)>) -> Result<(), NoMemory>
@@ -478,16 +524,20 @@ impl<'t> Cursor<'t> {
     }
 
     /// Takes the `)` behind parameters, where the scopes end of the names that were declared since there were
-    /// `mark` of them, and
-    /// hands those out.
+    /// `mark` of them, and hands those out, with what was read before.
     #[tactic(auto, unfolding(crate::specs::Readers::expect, crate::specs::Input::next))]
-    pub fn close_parameters(&mut self, mark: usize) -> Result<Seq<(Name, bool)>, Fault>
-        ensures { Gives (close_parameters mark self.old) result self.new }
+    pub fn close_parameters<B: Drop>(
+        &mut self,
+        mark: usize,
+        before: B,
+    ) -> Result<(B, Seq<(Name, bool)>), Fault>
+        ensures { Gives (part.behind before (close_parameters mark) self.old) result self.new }
     {
         if !self.sees(Punct::CloseParen) {
             return Err(self.refuse());
         }
         self.take();
-        Ok(self.leave_with_names(mark)?)
+        let names = self.leave_with_names(mark)?;
+        Ok((before, names))
     }
 }

@@ -1,6 +1,7 @@
 //! Declarators.
 ghost use Rattle.std.specs.Prelude.{◌≡◌, IfOk};
 ghost use Rattle.lk_parse_expr.specs.Grammar as grammar;
+ghost use Rattle.lk_parse_expr.specs.Heads as heads;
 ghost use Rattle.lk_parse_expr.specs.Input as input;
 ghost use Rattle.lk_parse_expr.specs.Nests.{NestsExpr};
 ghost use Rattle.lk_parse_expr.specs.NestsTypes.{NestsDeclarator, NestsMember, NestsItem};
@@ -14,6 +15,7 @@ use crate::found::Found;
 use crate::naming::{Head, Naming};
 use crate::types::Types;
 use lk_base::{Boxed, Fault, NoMemory, Seq, Spot};
+use lk_boxes::{boxed_beside, boxed_if_any};
 use lk_lex::Punct;
 use lk_tree::{Declarator, DeclaratorForm, Expr, Item, Member, Parameter, Qualifier};
 use std::alloc::Global;
@@ -29,29 +31,38 @@ fn at(spot: Spot, form: DeclaratorForm) -> Declarator
     }
 }
 
-/// The declarator in a box, where there is one.
-fn boxed(alloc: Global, inner: Option<Declarator>) -> Result<Option<Boxed<Declarator>>, NoMemory>
-    ensures { IfOk result (λ boxed. boxed ≡ inner) }
-{
-    match inner {
-        Some(declarator) => Ok(Some(Boxed::new(alloc, declarator)?)),
-        None => Ok(None),
-    }
-}
-
-/// A function without an ordinal yet.
+/// A function without an ordinal yet, with the head of its declarator.
 fn function(
     alloc: Global,
     spot: Spot,
-    inner: Option<Declarator>,
+    before: (Option<Declarator>, Head),
     parameters: Seq<Parameter>,
     dots: bool,
-) -> Result<Declarator, NoMemory>
-    ensures { IfOk result (λ tree. tree
-        ≡ grammar.declarator_on spot (form_of.FunctionOf inner parameters dots)) }
+) -> Result<(Declarator, Head), NoMemory>
+    ensures { IfOk result (λ made. made ≡
+        (grammar.declarator_on spot (form_of.FunctionOf before.0 parameters dots), before.1)) }
 {
-    let inner = boxed(alloc, inner)?;
-    Ok(at(spot, DeclaratorForm::FunctionOf(inner, parameters, dots)))
+    let (inner, head) = before;
+    let (inner, rest) = boxed_if_any(alloc, inner, (head, parameters))?;
+    let (head, parameters) = rest;
+    let form = DeclaratorForm::FunctionOf(inner, parameters, dots);
+    Ok((at(spot, form), head))
+}
+
+/// An array without an ordinal yet, with the head of its declarator.
+fn array(
+    alloc: Global,
+    spot: Spot,
+    before: (Option<Declarator>, Head),
+    size: Option<Boxed<Expr>>,
+) -> Result<(Declarator, Head), NoMemory>
+    ensures { IfOk result (λ made. made ≡
+        (grammar.declarator_on spot (form_of.ArrayOf before.0 size), heads.other before.1)) }
+{
+    let (inner, head) = before;
+    let (inner, rest) = boxed_if_any(alloc, inner, (head, size))?;
+    let (head, size) = rest;
+    Ok((at(spot, DeclaratorForm::ArrayOf(inner, size)), head.other()))
 }
 
 impl<
@@ -80,27 +91,38 @@ impl<
         })
     }
 
+    /// The size of an array, where there is one, with what was read before it.
+    fn size_behind<B: Drop>(
+        &self,
+        cursor: &mut Cursor<'_>,
+        before: B,
+    ) -> Result<(B, Found<Option<Boxed<Expr>>>), Fault>
+        requires expr { NestsExpr self.now.depth (E.pre self.now.expr) (E.post self.now.expr) }
+        ensures { Gives (part.behind before (spec.size self.now.depth (spec.readers self.now.depth))
+            cursor.old) result cursor.new }
+    {
+        let size = self.size(cursor)?;
+        Ok((before, size))
+    }
+
     /// Behind the `[` of an array of what comes before.
     #[tactic(auto, unfolding(crate::specs::Reading::array_of))]
     fn array_of(
         &self,
         cursor: &mut Cursor<'_>,
         spot: Spot,
-        inner: Option<Declarator>,
-        head: Head,
+        before: (Option<Declarator>, Head),
         room: usize,
     ) -> Result<Found<(Declarator, Head)>, Fault>
         requires expr { NestsExpr self.now.depth (E.pre self.now.expr) (E.post self.now.expr) }
         ensures { Gives (spec.array_of self.now.depth (spec.readers self.now.depth)
-            spot inner head room cursor.old) result cursor.new }
+            spot before.0 before.1 room cursor.old) result cursor.new }
     {
-        let size = self.size(cursor)?;
-        cursor.expect(Punct::CloseBracket)?;
-        let form = DeclaratorForm::ArrayOf(boxed(self.alloc, inner)?, size.tree);
-        Ok(Found {
-            tree: (at(spot, form), head.other()),
-            room: room.min(size.room),
-        })
+        let read = self.size_behind(cursor, before)?;
+        let (before, size) = cursor.closed(read, Punct::CloseBracket)?;
+        let room = room.min(size.room);
+        let tree = array(self.alloc, spot, before, size.tree)?;
+        Ok(Found { tree, room })
     }
 
     /// Behind the `(` of a function, whose parameters go out of scope at the `)`.
@@ -109,8 +131,7 @@ impl<
         &self,
         cursor: &mut Cursor<'_>,
         spot: Spot,
-        inner: Option<Declarator>,
-        head: Head,
+        before: (Option<Declarator>, Head),
         room: usize,
     ) -> Result<Found<(Declarator, Head)>, Fault>
         requires declarator { NestsDeclarator self.now.depth (D.pre self.now.declarator)
@@ -118,17 +139,18 @@ impl<
         requires member { NestsMember self.now.depth (M.pre self.now.member) (M.post self.now.member) }
         requires item { NestsItem self.now.depth (I.pre self.now.item) (I.post self.now.item) }
         ensures { Gives (spec.function_of self.now.depth (spec.readers self.now.depth)
-            spot inner head room cursor.old) result cursor.new }
+            spot before.0 before.1 room cursor.old) result cursor.new }
     {
         let mark = cursor.mark();
-        let list = self.parameters(cursor)?;
-        let names = cursor.close_parameters(mark)?;
+        let read = self.parameters_behind(cursor, before)?;
+        let (read, names) = cursor.close_parameters(mark, read)?;
+        let (before, list) = read;
+        let (inner, head) = before;
+        let room = room.min(list.room);
         let (parameters, dots) = list.tree;
-        let tree = function(self.alloc, spot, inner, parameters, dots)?;
-        Ok(Found {
-            tree: (tree, head.called(names)),
-            room: room.min(list.room),
-        })
+        let before = (inner, head.called(names));
+        let tree = function(self.alloc, spot, before, parameters, dots)?;
+        Ok(Found { tree, room })
     }
 
     /// An array of what comes before, whose `[` is next.
@@ -145,13 +167,8 @@ impl<
         cursor.need(1, before.room)?;
         cursor.take();
         let (inner, head) = before.tree;
-        self.array_of(
-            cursor,
-            spot,
-            Some(inner),
-            head,
-            before.room.saturating_sub(1),
-        )
+        let room = before.room.saturating_sub(1);
+        self.array_of(cursor, spot, (Some(inner), head), room)
     }
 
     /// A function behind what comes before, whose `(` is next.
@@ -171,13 +188,8 @@ impl<
         cursor.need(1, before.room)?;
         cursor.take();
         let (inner, head) = before.tree;
-        self.function_of(
-            cursor,
-            spot,
-            Some(inner),
-            head,
-            before.room.saturating_sub(1),
-        )
+        let room = before.room.saturating_sub(1);
+        self.function_of(cursor, spot, (Some(inner), head), room)
     }
 
     /// The arrays and functions behind a direct declarator.
@@ -236,12 +248,12 @@ impl<
         self.need_inside(cursor, naming)?;
         cursor.take();
         let found = self.inner_declarator(cursor, naming)?;
-        cursor.expect(Punct::CloseParen)?;
-        let (inner, head) = found.tree;
-        let form = DeclaratorForm::Group(Boxed::new(self.alloc, inner)?);
+        let Found { tree, room } = cursor.closed(found, Punct::CloseParen)?;
+        let (inner, head) = tree;
+        let (inner, head) = boxed_beside(self.alloc, inner, head)?;
         Ok(Found {
-            tree: (at(spot, form), head),
-            room: found.room,
+            tree: (at(spot, DeclaratorForm::Group(inner)), head),
+            room,
         })
     }
 
@@ -268,12 +280,17 @@ impl<
                 room: self.depth,
             });
         }
-        let found = self.inner_declarator(cursor, naming)?;
-        let (inner, head) = found.tree;
-        let form = DeclaratorForm::Star(qualifiers, Some(Boxed::new(self.alloc, inner)?));
+        let (qualifiers, found) = self.declarator_behind(cursor, qualifiers, naming)?;
+        let Found { tree, room } = found;
+        let (inner, head) = tree;
+        let (inner, rest) = boxed_beside(self.alloc, inner, (qualifiers, head))?;
+        let (qualifiers, head) = rest;
         Ok(Found {
-            tree: (at(spot, form), head.other()),
-            room: found.room,
+            tree: (
+                at(spot, DeclaratorForm::Star(qualifiers, Some(inner))),
+                head.other(),
+            ),
+            room,
         })
     }
 
@@ -317,11 +334,11 @@ impl<
                 return self.group(cursor, naming, spot);
             }
             cursor.take();
-            return self.function_of(cursor, spot, None, Head::Abstract, self.depth);
+            return self.function_of(cursor, spot, (None, Head::Abstract), self.depth);
         }
         if cursor.sees(Punct::OpenBracket) && naming.may_omit() {
             cursor.take();
-            return self.array_of(cursor, spot, None, Head::Abstract, self.depth);
+            return self.array_of(cursor, spot, (None, Head::Abstract), self.depth);
         }
         if !naming.may_name() {
             return Err(cursor.refuse());

@@ -13,6 +13,7 @@ use crate::found::Found;
 use crate::front::{Infix, Start, Suffix, begins_expr, infix_level, infix_of, start_of, suffix_of};
 use crate::words::level_of;
 use lk_base::{Boxed, Fault, NoMemory, Seq, Spot};
+use lk_boxes::{boxed_beside, boxed_three, boxed_two};
 use lk_lex::Punct;
 use lk_tree::{
     AssignOperator, BinaryOperator, Expr, ExprForm, PrefixOperator, StepOperator, TypeName,
@@ -40,21 +41,11 @@ fn at(spot: Spot, form: ExprForm) -> Expr
     }
 }
 
-/// Two expressions in boxes.
-fn pair(alloc: Global, left: Expr, right: Expr) -> Result<(Boxed<Expr>, Boxed<Expr>), NoMemory>
-    ensures { IfOk result (λ pair. pair ≡ (left, right)) }
-{
-    let left = Boxed::new(alloc, left)?;
-    let right = Boxed::new(alloc, right)?;
-    Ok((left, right))
-}
-
 /// A choice between two expressions.
 fn choice_of(alloc: Global, condition: Expr, yes: Expr, no: Expr) -> Result<ExprForm, NoMemory>
     ensures { IfOk result (λ form. form ≡ form_of.Choice condition yes no) }
 {
-    let (condition, yes) = pair(alloc, condition, yes)?;
-    let no = Boxed::new(alloc, no)?;
+    let (condition, yes, no) = boxed_three(alloc, condition, yes, no)?;
     Ok(ExprForm::Choice(condition, yes, no))
 }
 
@@ -70,6 +61,35 @@ impl<
         (self.expr)(self.alloc, cursor, self.depth, level)
     }
 
+    /// An expression inside, with what was read before it.
+    fn behind<B: Drop>(
+        &self,
+        cursor: &mut Cursor<'_>,
+        before: B,
+        level: u8,
+    ) -> Result<(B, Found<Expr>), Fault>
+        requires { NestsExpr self.now.depth (E.pre self.now.expr) (E.post self.now.expr) }
+        ensures { Gives (part.behind before ((spec.readers self.now.depth).expr level) cursor.old)
+            result cursor.new }
+    {
+        let inner = self.inside(cursor, level)?;
+        Ok((before, inner))
+    }
+
+    /// The arguments of a call, with what was read before them.
+    fn arguments_behind<B: Drop>(
+        &self,
+        cursor: &mut Cursor<'_>,
+        before: B,
+    ) -> Result<(B, Found<Seq<Expr>>), Fault>
+        requires { NestsExpr self.now.depth (E.pre self.now.expr) (E.post self.now.expr) }
+        ensures { Gives (part.behind before (spec.arguments self.now.depth (spec.readers self.now.depth))
+            cursor.old) result cursor.new }
+    {
+        let inner = self.arguments(cursor)?;
+        Ok((before, inner))
+    }
+
     /// An expression in parentheses, whose `(` is next.
     #[tactic(auto, unfolding(crate::specs::Reading::parens))]
     fn parens(&self, cursor: &mut Cursor<'_>, spot: Spot) -> Result<Found<Expr>, Fault>
@@ -80,7 +100,7 @@ impl<
         cursor.need(1, self.depth)?;
         cursor.take();
         let inner = self.inside(cursor, 0)?;
-        cursor.expect(Punct::CloseParen)?;
+        let inner = cursor.closed(inner, Punct::CloseParen)?;
         let form = ExprForm::Paren(Boxed::new(self.alloc, inner.tree)?);
         Ok(Found {
             tree: at(spot, form),
@@ -142,10 +162,10 @@ impl<
         ensures { Gives (spec.index self.now.depth (spec.readers self.now.depth)
             spot array cursor.old) result cursor.new }
     {
-        let inner = self.inside(cursor, 0)?;
-        cursor.expect(Punct::CloseBracket)?;
+        let read = self.behind(cursor, array, 0)?;
+        let (array, inner) = cursor.closed(read, Punct::CloseBracket)?;
         let room = array.room.saturating_sub(1).min(inner.room);
-        let (array, inner) = pair(self.alloc, array.tree, inner.tree)?;
+        let (array, inner) = boxed_two(self.alloc, array.tree, inner.tree)?;
         Ok(Found {
             tree: at(spot, ExprForm::Index(array, inner)),
             room,
@@ -164,12 +184,13 @@ impl<
         ensures { Gives (spec.call self.now.depth (spec.readers self.now.depth)
             spot function cursor.old) result cursor.new }
     {
-        let inner = self.arguments(cursor)?;
-        cursor.expect(Punct::CloseParen)?;
-        let form = ExprForm::Call(Boxed::new(self.alloc, function.tree)?, inner.tree);
+        let read = self.arguments_behind(cursor, function)?;
+        let (function, inner) = cursor.closed(read, Punct::CloseParen)?;
+        let room = function.room.saturating_sub(1).min(inner.room);
+        let (function, arguments) = boxed_beside(self.alloc, function.tree, inner.tree)?;
         Ok(Found {
-            tree: at(spot, form),
-            room: function.room.saturating_sub(1).min(inner.room),
+            tree: at(spot, ExprForm::Call(function, arguments)),
+            room,
         })
     }
 
@@ -183,11 +204,12 @@ impl<
         ensures { Gives (spec.suffixed self.now.depth (spec.readers self.now.depth)
             spot operand Suffix.Member cursor.old) result cursor.new }
     {
-        let name = cursor.word()?;
-        let form = ExprForm::Member(Boxed::new(self.alloc, operand.tree)?, name);
+        let (operand, name) = cursor.word_behind(operand)?;
+        let room = operand.room.saturating_sub(1);
+        let (operand, name) = boxed_beside(self.alloc, operand.tree, name)?;
         Ok(Found {
-            tree: at(spot, form),
-            room: operand.room.saturating_sub(1),
+            tree: at(spot, ExprForm::Member(operand, name)),
+            room,
         })
     }
 
@@ -201,11 +223,12 @@ impl<
         ensures { Gives (spec.suffixed self.now.depth (spec.readers self.now.depth)
             spot operand Suffix.Arrow cursor.old) result cursor.new }
     {
-        let name = cursor.word()?;
-        let form = ExprForm::Arrow(Boxed::new(self.alloc, operand.tree)?, name);
+        let (operand, name) = cursor.word_behind(operand)?;
+        let room = operand.room.saturating_sub(1);
+        let (operand, name) = boxed_beside(self.alloc, operand.tree, name)?;
         Ok(Found {
-            tree: at(spot, form),
-            room: operand.room.saturating_sub(1),
+            tree: at(spot, ExprForm::Arrow(operand, name)),
+            room,
         })
     }
 
@@ -263,9 +286,9 @@ impl<
             let Some(suffix) = suffix_of(cursor.peek()) else {
                 return Ok(operand);
             };
-            cursor.need(1, operand.room)?;
-            cursor.take();
-            operand = self.suffixed(cursor, spot, operand, suffix)?;
+            let room = operand.room;
+            let inner = cursor.rise(operand, room)?;
+            operand = self.suffixed(cursor, spot, inner, suffix)?;
         }
         Ok(operand)
     }
@@ -290,15 +313,13 @@ impl<
             spot cursor.old) result cursor.new }
     {
         let name = (self.type_name)(self.alloc, cursor, self.depth)?;
-        cursor.expect(Punct::CloseParen)?;
-        let operand = self.inside(cursor, 13)?;
-        let form = ExprForm::Cast(
-            Boxed::new(self.alloc, name.tree)?,
-            Boxed::new(self.alloc, operand.tree)?,
-        );
+        let name = cursor.closed(name, Punct::CloseParen)?;
+        let (name, operand) = self.behind(cursor, name, 13)?;
+        let room = name.room.min(operand.room);
+        let (name, operand) = boxed_two(self.alloc, name.tree, operand.tree)?;
         Ok(Found {
-            tree: at(spot, form),
-            room: name.room.min(operand.room),
+            tree: at(spot, ExprForm::Cast(name, operand)),
+            room,
         })
     }
 
@@ -357,7 +378,7 @@ impl<
         if cursor.opens_type_name() {
             cursor.take();
             let name = (self.type_name)(self.alloc, cursor, self.depth)?;
-            cursor.expect(Punct::CloseParen)?;
+            let name = cursor.closed(name, Punct::CloseParen)?;
             let form = ExprForm::SizeofType(Boxed::new(self.alloc, name.tree)?);
             return Ok(Found {
                 tree: at(spot, form),
@@ -383,9 +404,9 @@ impl<
         ensures { Gives (spec.combined self.now.depth (spec.readers self.now.depth)
             spot before Infix.Comma cursor.old) result cursor.new }
     {
-        let right = self.inside(cursor, 1)?;
+        let (before, right) = self.behind(cursor, before, 1)?;
         let room = before.room.saturating_sub(1).min(right.room);
-        let (left, right) = pair(self.alloc, before.tree, right.tree)?;
+        let (left, right) = boxed_two(self.alloc, before.tree, right.tree)?;
         Ok(Found {
             tree: at(spot, ExprForm::Comma(left, right)),
             room,
@@ -404,9 +425,9 @@ impl<
         ensures { Gives (spec.combined self.now.depth (spec.readers self.now.depth)
             spot before (Infix.Assign operator) cursor.old) result cursor.new }
     {
-        let right = self.inside(cursor, 1)?;
+        let (before, right) = self.behind(cursor, before, 1)?;
         let room = before.room.saturating_sub(1).min(right.room);
-        let (left, right) = pair(self.alloc, before.tree, right.tree)?;
+        let (left, right) = boxed_two(self.alloc, before.tree, right.tree)?;
         Ok(Found {
             tree: at(spot, ExprForm::Assign(operator, left, right)),
             room,
@@ -425,9 +446,9 @@ impl<
         ensures { Gives (spec.combined self.now.depth (spec.readers self.now.depth)
             spot before (Infix.Binary operator) cursor.old) result cursor.new }
     {
-        let right = self.inside(cursor, level_of(operator) + 1)?;
+        let (before, right) = self.behind(cursor, before, level_of(operator) + 1)?;
         let room = before.room.saturating_sub(1).min(right.room);
-        let (left, right) = pair(self.alloc, before.tree, right.tree)?;
+        let (left, right) = boxed_two(self.alloc, before.tree, right.tree)?;
         Ok(Found {
             tree: at(spot, ExprForm::Binary(operator, left, right)),
             room,
@@ -439,14 +460,14 @@ impl<
         &self,
         cursor: &mut Cursor<'_>,
         spot: Spot,
-        before: Found<Expr>,
-        middle: Found<Expr>,
+        read: (Found<Expr>, Found<Expr>),
     ) -> Result<Found<Expr>, Fault>
         requires { NestsExpr self.now.depth (E.pre self.now.expr) (E.post self.now.expr) }
         ensures { Gives (part.choice_end self.now.depth (spec.readers self.now.depth)
-            spot before middle cursor.old) result cursor.new }
+            spot read.0 read.1 cursor.old) result cursor.new }
     {
-        let right = self.inside(cursor, 2)?;
+        let (read, right) = self.behind(cursor, read, 2)?;
+        let (before, middle) = read;
         let room = before
             .room
             .saturating_sub(1)
@@ -469,9 +490,9 @@ impl<
         ensures { Gives (spec.combined self.now.depth (spec.readers self.now.depth)
             spot before Infix.Choice cursor.old) result cursor.new }
     {
-        let middle = self.inside(cursor, 0)?;
-        cursor.expect(Punct::Colon)?;
-        self.choice_end(cursor, spot, before, middle)
+        let read = self.behind(cursor, before, 0)?;
+        let read = cursor.closed(read, Punct::Colon)?;
+        self.choice_end(cursor, spot, read)
     }
 
     /// The operand behind an operator of two.
@@ -514,9 +535,9 @@ impl<
             if infix_level(between) < least {
                 return Ok(before);
             }
-            cursor.need(1, before.room)?;
-            cursor.take();
-            before = self.combined(cursor, spot, before, between)?;
+            let room = before.room;
+            let left = cursor.rise(before, room)?;
+            before = self.combined(cursor, spot, left, between)?;
         }
         Ok(before)
     }

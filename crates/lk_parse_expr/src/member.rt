@@ -35,6 +35,22 @@ impl<
         (self.declarator)(self.alloc, cursor, self.depth, naming)
     }
 
+    /// A declarator inside, with what was read before it.
+    pub fn declarator_behind<B: Drop>(
+        &self,
+        cursor: &mut Cursor<'_>,
+        before: B,
+        naming: Naming,
+    ) -> Result<(B, Found<(Declarator, Head)>), Fault>
+        requires declarator { NestsDeclarator self.now.depth (D.pre self.now.declarator)
+            (D.post self.now.declarator) }
+        ensures { Gives (part.behind before ((spec.readers self.now.depth).declarator naming) cursor.old)
+            result cursor.new }
+    {
+        let inner = self.inner_declarator(cursor, naming)?;
+        Ok((before, inner))
+    }
+
     /// An expression inside.
     pub fn inner_expr(&self, cursor: &mut Cursor<'_>, level: u8) -> Result<Found<Expr>, Fault>
         requires expr { NestsExpr self.now.depth (E.pre self.now.expr) (E.post self.now.expr) }
@@ -55,24 +71,24 @@ impl<
     {
         let spot = cursor.spot();
         let first = self.specifiers(cursor)?.first();
-        let specifiers = first.tree;
         if !cursor.begins_declarator(Naming::Abstract) {
             return Ok(Found {
                 tree: TypeName {
                     spot,
                     ordinal: 0,
-                    specifiers,
+                    specifiers: first.tree,
                     declarator: None,
                 },
                 room: first.room,
             });
         }
-        let inner = self.inner_declarator(cursor, Naming::Abstract)?.first();
+        let (first, inner) = self.declarator_behind(cursor, first, Naming::Abstract)?;
+        let inner = inner.first();
         Ok(Found {
             tree: TypeName {
                 spot,
                 ordinal: 0,
-                specifiers,
+                specifiers: first.tree,
                 declarator: Some(inner.tree),
             },
             room: first.room.min(inner.room),
@@ -92,18 +108,18 @@ impl<
             spot first cursor.old) result cursor.new }
     {
         let typedef = first.tree.1;
-        let first = first.first();
-        let inner = self.inner_declarator(cursor, Naming::Either)?;
+        let (first, inner) = self.declarator_behind(cursor, first.first(), Naming::Either)?;
+        let room = first.room.min(inner.room);
         let (declarator, head) = inner.tree;
-        cursor.declare_head(head, typedef)?;
+        let (specifiers, declarator) = cursor.declared((first.tree, declarator), head, typedef)?;
         Ok(Found {
             tree: Parameter {
                 spot,
                 ordinal: 0,
-                specifiers: first.tree,
+                specifiers,
                 declarator: Some(declarator),
             },
-            room: first.room.min(inner.room),
+            room,
         })
     }
 
@@ -180,11 +196,28 @@ impl<
             });
         }
         let list = self.parameter_list(cursor)?;
-        let dots = cursor.dots()?;
+        let (list, dots) = cursor.dots(list)?;
         Ok(Found {
             tree: (list.tree, dots),
             room: list.room,
         })
+    }
+
+    /// The parameters of a function, with what was read before them.
+    pub fn parameters_behind<B: Drop>(
+        &self,
+        cursor: &mut Cursor<'_>,
+        before: B,
+    ) -> Result<(B, Found<(Seq<Parameter>, bool)>), Fault>
+        requires declarator { NestsDeclarator self.now.depth (D.pre self.now.declarator)
+            (D.post self.now.declarator) }
+        requires member { NestsMember self.now.depth (M.pre self.now.member) (M.post self.now.member) }
+        requires item { NestsItem self.now.depth (I.pre self.now.item) (I.post self.now.item) }
+        ensures { Gives (part.behind before (spec.parameters self.now.depth (spec.readers self.now.depth))
+            cursor.old) result cursor.new }
+    {
+        let list = self.parameters(cursor)?;
+        Ok((before, list))
     }
 
     /// The width of a bit-field, with its `:`.
@@ -196,6 +229,20 @@ impl<
     {
         cursor.expect(Punct::Colon)?;
         self.inner_expr(cursor, 2)
+    }
+
+    /// The width of a bit-field, with its `:` and what was read before it.
+    fn width_behind<B: Drop>(
+        &self,
+        cursor: &mut Cursor<'_>,
+        before: B,
+    ) -> Result<(B, Found<Expr>), Fault>
+        requires expr { NestsExpr self.now.depth (E.pre self.now.expr) (E.post self.now.expr) }
+        ensures { Gives (part.behind before (spec.width self.now.depth (spec.readers self.now.depth))
+            cursor.old) result cursor.new }
+    {
+        let width = self.width(cursor)?;
+        Ok((before, width))
     }
 
     /// A declarator of a member.
@@ -221,7 +268,7 @@ impl<
                 room: inner.room,
             });
         }
-        let width = self.width(cursor)?;
+        let (inner, width) = self.width_behind(cursor, inner)?;
         Ok(Found {
             tree: MemberDeclarator::Field(inner.tree, width.tree),
             room: inner.room.min(width.room),
@@ -253,6 +300,22 @@ impl<
         Err(cursor.refuse())
     }
 
+    /// The declarators of a member, with what was read before them.
+    fn fields_behind<B: Drop>(
+        &self,
+        cursor: &mut Cursor<'_>,
+        before: B,
+    ) -> Result<(B, Found<Seq<MemberDeclarator>>), Fault>
+        requires expr { NestsExpr self.now.depth (E.pre self.now.expr) (E.post self.now.expr) }
+        requires declarator { NestsDeclarator self.now.depth (D.pre self.now.declarator)
+            (D.post self.now.declarator) }
+        ensures { Gives (part.behind before (spec.field_list self.now.depth (spec.readers self.now.depth))
+            cursor.old) result cursor.new }
+    {
+        let list = self.fields(cursor)?;
+        Ok((before, list))
+    }
+
     /// A member of a struct.
     #[tactic(auto, unfolding(crate::specs::Reading::member_from))]
     pub fn member(&self, cursor: &mut Cursor<'_>) -> Result<Found<Member>, Fault>
@@ -266,8 +329,8 @@ impl<
     {
         let spot = cursor.spot();
         let first = self.specifiers(cursor)?.first();
-        let list = self.fields(cursor)?;
-        cursor.expect(Punct::Semicolon)?;
+        let read = self.fields_behind(cursor, first)?;
+        let (first, list) = cursor.closed(read, Punct::Semicolon)?;
         Ok(Found {
             tree: Member {
                 spot,

@@ -97,7 +97,7 @@ impl<
         cursor.expect(Punct::OpenBrace)?;
         let first = self.inner_member(cursor)?;
         let members = self.members(cursor, first)?;
-        cursor.expect(Punct::CloseBrace)?;
+        let members = cursor.closed(members, Punct::CloseBrace)?;
         Ok(Found {
             tree: Specifier::Struct(tag, members.tree),
             room: members.room,
@@ -142,7 +142,7 @@ impl<
         cursor.expect(Punct::OpenBrace)?;
         let items = self.items(cursor)?;
         cursor.comma_if_any();
-        cursor.expect(Punct::CloseBrace)?;
+        let items = cursor.closed(items, Punct::CloseBrace)?;
         Ok(Found {
             tree: Specifier::Enum(tag, items.tree),
             room: items.room,

@@ -1,4 +1,5 @@
 pub mod Levels
+pub mod FunctionBodies
 pub mod Left
 pub mod Complete
 pub mod Sound

@@ -20,7 +20,7 @@ use Rattle.lk_parse_expr.specs.declared.found.Found.{Found}
 use Rattle.lk_parse_expr.specs.declared.naming.Naming.TheVariants as naming
 use Rattle.lk_parse_expr.specs.declared.naming.Head.{Head}
 use Rattle.lk_parse_expr.specs.declared.naming.Head.TheVariants as head
-use Rattle.lk_parse_expr.specs.Input.{Input, peek, here, next, declare, leave, with_names}
+use Rattle.lk_parse_expr.specs.Input.{Input, Names, peek, here, next, declare, leave, with_names}
 use Rattle.lk_parse_expr.specs.Words.{begins_specifiers}
 use Rattle.lk_parse_expr.specs.Statements.{is_colon, begins_declaration, stmt_at, stmt_on}
 use Rattle.lk_parse_expr.specs.Declarations.{declare_on}
@@ -168,6 +168,12 @@ module _ (m : ℕ) where
   function_by spot first inner (head.Function name parameters) = λ i.
       (take >> body spot (here i) first inner (declare name first.tree.1 i)) (with_names parameters (declare name first.tree.1 i))
   function_by spot first inner (head.Other name) = refuse
+
+  -- the body alone, of a function of this name with these parameters, which are in scope in it
+  unfoldable pub function_body : List ℕ → Bool → Names → Parser (Found Stmt)
+  function_body name typedef parameters = λ i.
+      (take >> (body_items m >>= (λ items. expect p.CloseBrace >> (λ j. Ok (found (stmt_on (here i) (s.Block items.tree)) items.room, leave (declare name typedef i) j)))))
+      (with_names parameters (declare name typedef i))
 
   -- a declaration, behind its specifiers and its first declarator
   unfoldable pub declared_behind : Spot → Found (List Specifier × Bool) → Found (Declarator × Head) → Parser (Found Decl)

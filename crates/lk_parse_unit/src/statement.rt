@@ -1,13 +1,16 @@
 //! Statements.
-ghost use Rattle.std.specs.Prelude.{◌≡◌, IfOk};
+ghost use Rattle.std.specs.Prelude.{◌≡◌, IfOk, None, Some, min};
 ghost use Rattle.lk_parse_unit.specs.Nests.{NestsStmt};
 ghost use Rattle.lk_parse_unit.specs.Reading as spec;
 ghost use Rattle.lk_tree.specs.declared.statement.StmtForm.TheVariants as variant;
 ghost use Rattle.lk_parse_expr.specs.Statements as grammar;
+ghost use Rattle.lk_parse_expr.specs.Parts.{behind};
+ghost use Rattle.lk_parse_expr.specs.Readers as reader;
 ghost use Rattle.lk_parse_expr.specs.Readers.{Gives};
 
 use crate::lead::{Lead, begins_stmt, is_colon, lead_of};
-use lk_base::{Boxed, Fault, Seq, Spot};
+use lk_base::{Boxed, Fault, NoMemory, Seq, Spot};
+use lk_boxes::{boxed_beside, boxed_two_beside};
 use lk_lex::{Keyword, Punct, TokenKind};
 use lk_parse_decl::read_declaration;
 use lk_parse_expr::{Cursor, Found, read_expr};
@@ -43,6 +46,15 @@ impl<S: Fn(Global, &mut Cursor<'_>, usize) -> Result<Found<Stmt>, Fault>> Statem
         (self.stmt)(self.alloc, cursor, self.depth)
     }
 
+    /// A statement inside, with what was read before it.
+    fn behind<B: Drop>(&self, cursor: &mut Cursor<'_>, before: B) -> Result<(B, Found<Stmt>), Fault>
+        requires { NestsStmt self.now.depth (S.pre self.now.stmt) (S.post self.now.stmt) }
+        ensures { Gives (behind before (spec.stmt self.now.depth) cursor.old) result cursor.new }
+    {
+        let inner = self.inside(cursor)?;
+        Ok((before, inner))
+    }
+
     /// An expression before this token, where there is one.
     #[tactic(auto, unfolding(crate::specs::Reading::optional))]
     fn optional(&self, cursor: &mut Cursor<'_>, end: Punct) -> Result<Found<Option<Expr>>, Fault>
@@ -57,11 +69,25 @@ impl<S: Fn(Global, &mut Cursor<'_>, usize) -> Result<Found<Stmt>, Fault>> Statem
             });
         }
         let value = read_expr(self.alloc, cursor, self.depth, 0)?;
-        cursor.expect(end)?;
+        let value = cursor.closed(value, end)?;
         Ok(Found {
             tree: Some(value.tree),
             room: value.room,
         })
+    }
+
+    /// An expression before this token, where there is one, with what was read before it.
+    fn optional_behind<B: Drop>(
+        &self,
+        cursor: &mut Cursor<'_>,
+        before: B,
+        end: Punct,
+    ) -> Result<(B, Found<Option<Expr>>), Fault>
+        ensures { Gives (behind before (spec.optional self.now.depth (spec.stmt self.now.depth) end)
+            cursor.old) result cursor.new }
+    {
+        let value = self.optional(cursor, end)?;
+        Ok((before, value))
     }
 
     /// An expression in parentheses.
@@ -72,8 +98,20 @@ impl<S: Fn(Global, &mut Cursor<'_>, usize) -> Result<Found<Stmt>, Fault>> Statem
     {
         cursor.expect(Punct::OpenParen)?;
         let value = read_expr(self.alloc, cursor, self.depth, 0)?;
-        cursor.expect(Punct::CloseParen)?;
-        Ok(value)
+        cursor.closed(value, Punct::CloseParen)
+    }
+
+    /// An expression in parentheses, with what was read before it.
+    fn condition_behind<B: Drop>(
+        &self,
+        cursor: &mut Cursor<'_>,
+        before: B,
+    ) -> Result<(B, Found<Expr>), Fault>
+        ensures { Gives (behind before (spec.condition self.now.depth (spec.stmt self.now.depth))
+            cursor.old) result cursor.new }
+    {
+        let value = self.condition(cursor)?;
+        Ok((before, value))
     }
 
     /// A substatement, which is a scope.
@@ -88,6 +126,20 @@ impl<S: Fn(Global, &mut Cursor<'_>, usize) -> Result<Found<Stmt>, Fault>> Statem
         Ok(inner)
     }
 
+    /// A substatement, which is a scope, with what was read before it.
+    fn scope_behind<B: Drop>(
+        &self,
+        cursor: &mut Cursor<'_>,
+        before: B,
+    ) -> Result<(B, Found<Stmt>), Fault>
+        requires { NestsStmt self.now.depth (S.pre self.now.stmt) (S.post self.now.stmt) }
+        ensures { Gives (behind before (spec.scope self.now.depth (spec.stmt self.now.depth))
+            cursor.old) result cursor.new }
+    {
+        let inner = self.scope(cursor)?;
+        Ok((before, inner))
+    }
+
     /// A statement with a label.
     #[tactic(auto, unfolding(crate::specs::Reading::labelled))]
     fn labelled(&self, cursor: &mut Cursor<'_>) -> Result<Found<Stmt>, Fault>
@@ -99,11 +151,12 @@ impl<S: Fn(Global, &mut Cursor<'_>, usize) -> Result<Found<Stmt>, Fault>> Statem
         cursor.need(1, self.depth)?;
         let name = cursor.word()?;
         cursor.expect(Punct::Colon)?;
-        let inner = self.inside(cursor)?;
-        let form = StmtForm::Label(name, Boxed::new(self.alloc, inner.tree)?);
+        let (name, inner) = self.behind(cursor, name)?;
+        let room = inner.room;
+        let (inner, name) = boxed_beside(self.alloc, inner.tree, name)?;
         Ok(Found {
-            tree: at(spot, form),
-            room: inner.room,
+            tree: at(spot, StmtForm::Label(name, inner)),
+            room,
         })
     }
 
@@ -118,12 +171,13 @@ impl<S: Fn(Global, &mut Cursor<'_>, usize) -> Result<Found<Stmt>, Fault>> Statem
         cursor.need(1, self.depth)?;
         cursor.take();
         let value = read_expr(self.alloc, cursor, self.depth, 2)?;
-        cursor.expect(Punct::Colon)?;
-        let inner = self.inside(cursor)?;
-        let form = StmtForm::Case(value.tree, Boxed::new(self.alloc, inner.tree)?);
+        let value = cursor.closed(value, Punct::Colon)?;
+        let (value, inner) = self.behind(cursor, value)?;
+        let room = value.room.min(inner.room);
+        let (inner, value) = boxed_beside(self.alloc, inner.tree, value.tree)?;
         Ok(Found {
-            tree: at(spot, form),
-            room: value.room.min(inner.room),
+            tree: at(spot, StmtForm::Case(value, inner)),
+            room,
         })
     }
 
@@ -215,7 +269,7 @@ impl<S: Fn(Global, &mut Cursor<'_>, usize) -> Result<Found<Stmt>, Fault>> Statem
         let mark = cursor.mark();
         cursor.take();
         let items = self.block_items(cursor)?;
-        cursor.expect(Punct::CloseBrace)?;
+        let items = cursor.closed(items, Punct::CloseBrace)?;
         cursor.leave(mark);
         Ok(Found {
             tree: at(spot, StmtForm::Block(items.tree)),
@@ -242,27 +296,51 @@ impl<S: Fn(Global, &mut Cursor<'_>, usize) -> Result<Found<Stmt>, Fault>> Statem
     fn if_behind(
         &self,
         cursor: &mut Cursor<'_>,
-        value: Found<Expr>,
-        taken: Found<Stmt>,
+        read: (Found<Expr>, Found<Stmt>),
     ) -> Result<Found<StmtForm>, Fault>
         requires { NestsStmt self.now.depth (S.pre self.now.stmt) (S.post self.now.stmt) }
-        ensures { Gives (spec.if_behind self.now.depth (spec.stmt self.now.depth) value taken cursor.old)
+        ensures { Gives (spec.if_behind self.now.depth (spec.stmt self.now.depth) read.0 read.1 cursor.old)
             result cursor.new }
     {
         if !cursor.sees_key(Keyword::Else) {
-            let inner = Boxed::new(self.alloc, taken.tree)?;
-            return Ok(Found {
-                tree: StmtForm::If(value.tree, inner, None),
-                room: value.room.min(taken.room),
-            });
+            return Ok(self.if_alone(read)?);
         }
         cursor.take();
-        let other = self.scope(cursor)?;
-        let room = value.room.min(taken.room.min(other.room));
-        let inner = Boxed::new(self.alloc, taken.tree)?;
-        let last = Boxed::new(self.alloc, other.tree)?;
+        let (read, other) = self.scope_behind(cursor, read)?;
+        Ok(self.if_else(read, other)?)
+    }
+
+    /// An `if` without an `else`.
+    fn if_alone(&self, read: (Found<Expr>, Found<Stmt>)) -> Result<Found<StmtForm>, NoMemory>
+        ensures { IfOk result (λ form. form ≡ reader.found
+            (variant.If read.0.tree read.1.tree None) (min read.0.room read.1.room)) }
+    {
+        let (value, taken) = read;
+        let room = value.room.min(taken.room);
+        let (inner, value) = boxed_beside(self.alloc, taken.tree, value.tree)?;
         Ok(Found {
-            tree: StmtForm::If(value.tree, inner, Some(last)),
+            tree: StmtForm::If(value, inner, None),
+            room,
+        })
+    }
+
+    /// An `if` with an `else`.
+    fn if_else(
+        &self,
+        read: (Found<Expr>, Found<Stmt>),
+        other: Found<Stmt>,
+    ) -> Result<Found<StmtForm>, NoMemory>
+        ensures { IfOk result (λ form. form ≡ reader.found
+            (variant.If read.0.tree read.1.tree (Some other.tree))
+            (min read.0.room (min read.1.room other.room))) }
+    {
+        let (value, taken) = read;
+        let room = value.room.min(taken.room.min(other.room));
+        let (inner, last, value) = boxed_two_beside(
+            self.alloc, taken.tree, other.tree, value.tree,
+        )?;
+        Ok(Found {
+            tree: StmtForm::If(value, inner, Some(last)),
             room,
         })
     }
@@ -279,8 +357,8 @@ impl<S: Fn(Global, &mut Cursor<'_>, usize) -> Result<Found<Stmt>, Fault>> Statem
         cursor.need(1, self.depth)?;
         cursor.take();
         let value = self.condition(cursor)?;
-        let taken = self.scope(cursor)?;
-        let form = self.if_behind(cursor, value, taken)?;
+        let read = self.scope_behind(cursor, value)?;
+        let form = self.if_behind(cursor, read)?;
         cursor.leave(mark);
         Ok(Found {
             tree: at(spot, form.tree),
@@ -300,12 +378,13 @@ impl<S: Fn(Global, &mut Cursor<'_>, usize) -> Result<Found<Stmt>, Fault>> Statem
         cursor.need(1, self.depth)?;
         cursor.take();
         let value = self.condition(cursor)?;
-        let inner = self.scope(cursor)?;
+        let (value, inner) = self.scope_behind(cursor, value)?;
         cursor.leave(mark);
-        let form = StmtForm::Switch(value.tree, Boxed::new(self.alloc, inner.tree)?);
+        let room = value.room.min(inner.room);
+        let (inner, value) = boxed_beside(self.alloc, inner.tree, value.tree)?;
         Ok(Found {
-            tree: at(spot, form),
-            room: value.room.min(inner.room),
+            tree: at(spot, StmtForm::Switch(value, inner)),
+            room,
         })
     }
 
@@ -321,12 +400,13 @@ impl<S: Fn(Global, &mut Cursor<'_>, usize) -> Result<Found<Stmt>, Fault>> Statem
         cursor.need(1, self.depth)?;
         cursor.take();
         let value = self.condition(cursor)?;
-        let inner = self.scope(cursor)?;
+        let (value, inner) = self.scope_behind(cursor, value)?;
         cursor.leave(mark);
-        let form = StmtForm::While(value.tree, Boxed::new(self.alloc, inner.tree)?);
+        let room = value.room.min(inner.room);
+        let (inner, value) = boxed_beside(self.alloc, inner.tree, value.tree)?;
         Ok(Found {
-            tree: at(spot, form),
-            room: value.room.min(inner.room),
+            tree: at(spot, StmtForm::While(value, inner)),
+            room,
         })
     }
 
@@ -342,14 +422,15 @@ impl<S: Fn(Global, &mut Cursor<'_>, usize) -> Result<Found<Stmt>, Fault>> Statem
         cursor.need(1, self.depth)?;
         cursor.take();
         let inner = self.scope(cursor)?;
-        cursor.expect_key(Keyword::While)?;
-        let value = self.condition(cursor)?;
-        cursor.expect(Punct::Semicolon)?;
+        let inner = cursor.closed_by_key(inner, Keyword::While)?;
+        let read = self.condition_behind(cursor, inner)?;
+        let (inner, value) = cursor.closed(read, Punct::Semicolon)?;
         cursor.leave(mark);
-        let form = StmtForm::Until(Boxed::new(self.alloc, inner.tree)?, value.tree);
+        let room = inner.room.min(value.room);
+        let (inner, value) = boxed_beside(self.alloc, inner.tree, value.tree)?;
         Ok(Found {
-            tree: at(spot, form),
-            room: inner.room.min(value.room),
+            tree: at(spot, StmtForm::Until(inner, value)),
+            room,
         })
     }
 
@@ -384,8 +465,9 @@ impl<S: Fn(Global, &mut Cursor<'_>, usize) -> Result<Found<Stmt>, Fault>> Statem
     {
         cursor.expect(Punct::OpenParen)?;
         let start = self.for_first(cursor)?;
-        let value = self.optional(cursor, Punct::Semicolon)?;
-        let step = self.optional(cursor, Punct::CloseParen)?;
+        let read = self.optional_behind(cursor, start, Punct::Semicolon)?;
+        let (read, step) = self.optional_behind(cursor, read, Punct::CloseParen)?;
+        let (start, value) = read;
         Ok(Found {
             tree: (start.tree, value.tree, step.tree),
             room: start.room.min(value.room.min(step.room)),
@@ -404,13 +486,14 @@ impl<S: Fn(Global, &mut Cursor<'_>, usize) -> Result<Found<Stmt>, Fault>> Statem
         cursor.need(1, self.depth)?;
         cursor.take();
         let head = self.for_head(cursor)?;
-        let inner = self.scope(cursor)?;
+        let (head, inner) = self.scope_behind(cursor, head)?;
         cursor.leave(mark);
-        let body = Boxed::new(self.alloc, inner.tree)?;
-        let (start, value, step) = head.tree;
+        let room = head.room.min(inner.room);
+        let (body, head) = boxed_beside(self.alloc, inner.tree, head.tree)?;
+        let (start, value, step) = head;
         Ok(Found {
             tree: at(spot, StmtForm::For(start, value, step, body)),
-            room: head.room.min(inner.room),
+            room,
         })
     }
 
@@ -423,7 +506,7 @@ impl<S: Fn(Global, &mut Cursor<'_>, usize) -> Result<Found<Stmt>, Fault>> Statem
         let spot = cursor.spot();
         cursor.take();
         let name = cursor.word()?;
-        cursor.expect(Punct::Semicolon)?;
+        let name = cursor.closed(name, Punct::Semicolon)?;
         Ok(Found {
             tree: at(spot, StmtForm::Goto(name)),
             room: self.depth,

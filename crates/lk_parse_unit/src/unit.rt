@@ -1,16 +1,21 @@
 //! External declarations and units.
 ghost use Rattle.std.specs.Prelude.{◌≡◌};
 ghost use Rattle.lk_parse_unit.specs.Reading as spec;
+ghost use Rattle.lk_parse_decl.specs.Reading.{declarators_behind};
+ghost use Rattle.lk_parse_expr.specs.Parts.{behind};
 ghost use Rattle.lk_parse_expr.specs.Readers as reader;
 ghost use Rattle.lk_parse_expr.specs.Readers.{Gives};
 
 use crate::lead::is_end;
 use crate::statement::{Statements, at, read_stmt};
-use lk_base::{Fault, Seq, Spot};
+use lk_base::{Fault, Name, Seq, Spot};
 use lk_lex::Punct;
 use lk_parse_decl::read_declarators_behind;
 use lk_parse_expr::{Cursor, Found, Head, Naming, read_declarator, read_specifiers};
-use lk_tree::{BlockItem, Decl, Declarator, Declare, Empty, Function, Specifier, StmtForm};
+use lk_tree::{
+    BlockItem, Decl, Declarator, Declare, Empty, Function, InitDeclarator, Specifier, Stmt,
+    StmtForm,
+};
 use std::alloc::Global;
 
 /// The items in the body of a function, with so many levels for the body.
@@ -32,8 +37,51 @@ fn body_items(
     inside.block_items(cursor)
 }
 
+/// The body of a function of this name with these parameters. Its `{` is next.
+#[tactic(auto, unfolding(crate::specs::Reading::function_body, lk_parse_expr::specs::Input::leave, lk_parse_expr::specs::Input::with_names))]
+fn body(
+    alloc: Global,
+    cursor: &mut Cursor<'_>,
+    depth: usize,
+    name: Name,
+    typedef: bool,
+    parameters: Seq<(Name, bool)>,
+) -> Result<Found<Stmt>, Fault>
+    ensures { Gives (spec.function_body depth name typedef parameters cursor.old) result cursor.new }
+{
+    let brace = cursor.spot();
+    cursor.declare(name, typedef)?;
+    let mark = cursor.mark();
+    cursor.declare_all(parameters)?;
+    cursor.take();
+    let items = body_items(alloc, cursor, depth)?;
+    let items = cursor.closed(items, Punct::CloseBrace)?;
+    cursor.leave(mark);
+    Ok(Found {
+        tree: at(brace, StmtForm::Block(items.tree)),
+        room: items.room,
+    })
+}
+
+/// The body of a function, with what was read before it.
+fn body_behind<B: Drop>(
+    alloc: Global,
+    cursor: &mut Cursor<'_>,
+    depth: usize,
+    name: Name,
+    typedef: bool,
+    parameters: Seq<(Name, bool)>,
+    before: B,
+) -> Result<(B, Found<Stmt>), Fault>
+    ensures { Gives (behind before (spec.function_body depth name typedef parameters) cursor.old)
+        result cursor.new }
+{
+    let body = body(alloc, cursor, depth, name, typedef, parameters)?;
+    Ok((before, body))
+}
+
 /// The definition of a function behind its declarator, which declares this. Its `{` is next.
-#[tactic(auto, unfolding(crate::specs::Reading::body, lk_parse_expr::specs::Input::leave, lk_parse_expr::specs::Input::with_names))]
+#[tactic(auto, using(crate::proofs::FunctionBodies::function_is))]
 fn function(
     alloc: Global,
     cursor: &mut Cursor<'_>,
@@ -51,28 +99,39 @@ fn function(
         Head::Bare(_name) => Err(cursor.refuse()),
         Head::Other(_name) => Err(cursor.refuse()),
         Head::Function(name, parameters) => {
-            let Found { tree, room } = first;
-            let (specifiers, typedef) = tree;
-            let brace = cursor.spot();
-            cursor.declare(name, typedef)?;
-            let mark = cursor.mark();
-            cursor.declare_all(parameters)?;
-            cursor.take();
-            let items = body_items(alloc, cursor, depth)?;
-            cursor.expect(Punct::CloseBrace)?;
-            cursor.leave(mark);
+            let typedef = first.tree.1;
+            let before = (first.first(), inner);
+            let (before, body) = body_behind(
+                alloc, cursor, depth, name, typedef, parameters, before,
+            )?;
+            let (first, inner) = before;
             Ok(Found {
                 tree: Decl::Function(Function {
                     spot,
                     ordinal: 0,
-                    specifiers,
+                    specifiers: first.tree,
                     declarator: inner.tree,
-                    body: at(brace, StmtForm::Block(items.tree)),
+                    body: body.tree,
                 }),
-                room: room.min(inner.room.min(items.room)),
+                room: first.room.min(inner.room.min(body.room)),
             })
         }
     }
+}
+
+/// The declarators of a declaration, of which the first was read, with what was read before it.
+fn declarators_with<B: Drop>(
+    alloc: Global,
+    cursor: &mut Cursor<'_>,
+    depth: usize,
+    typedef: bool,
+    inner: Found<(Declarator, Head)>,
+    before: B,
+) -> Result<(B, Found<Seq<InitDeclarator>>), Fault>
+    ensures { Gives (behind before (declarators_behind depth typedef inner) cursor.old) result cursor.new }
+{
+    let list = read_declarators_behind(alloc, cursor, depth, typedef, inner)?;
+    Ok((before, list))
 }
 
 /// A declaration behind its specifiers and its first declarator.
@@ -87,18 +146,17 @@ fn declared_behind(
 ) -> Result<Found<Decl>, Fault>
     ensures { Gives (spec.declared_behind depth spot first inner cursor.old) result cursor.new }
 {
-    let Found { tree, room } = first;
-    let (specifiers, typedef) = tree;
-    let list = read_declarators_behind(alloc, cursor, depth, typedef, inner)?;
-    cursor.expect(Punct::Semicolon)?;
+    let typedef = first.tree.1;
+    let read = declarators_with(alloc, cursor, depth, typedef, inner, first.first())?;
+    let (first, list) = cursor.closed(read, Punct::Semicolon)?;
     Ok(Found {
         tree: Decl::Declare(Declare {
             spot,
             ordinal: 0,
-            specifiers,
+            specifiers: first.tree,
             declarators: list.tree,
         }),
-        room: room.min(list.room),
+        room: first.room.min(list.room),
     })
 }
 

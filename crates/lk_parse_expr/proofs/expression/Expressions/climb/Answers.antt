@@ -18,9 +18,9 @@ unfolding climb_from
 returns-then-infix_level-least g c =
     let e = one_more (λ n. climb_from c.args.self.now.depth (readers c.args.self.now.depth) c.args.least c.args.spot n c.loop-turn.before c.loop-turn.cursor) _ c.loop-turn._turn c.loop-turn-test.true c.loop-turn.invariant in first_of (search rules, grind (arith, common_steps))
 
-pub returns-in_err-need : goal.returns-in_err-need
+pub returns-in_err-left : goal.returns-in_err-left
 unfolding climb_from
-returns-in_err-need g c =
+returns-in_err-left g c =
     let e = one_more (λ n. climb_from c.args.self.now.depth (readers c.args.self.now.depth) c.args.least c.args.spot n c.loop-turn.before c.loop-turn.cursor) _ c.loop-turn._turn c.loop-turn-test.true c.loop-turn.invariant in first_of (search rules, grind (arith, common_steps))
 
 pub returns-in_err-before : goal.returns-in_err-before

@@ -13,9 +13,9 @@ unfolding suffixes_from
 returns-in_default g c =
     let e = one_more (λ n. suffixes_from c.args.self.now.depth (readers c.args.self.now.depth) c.args.spot n c.loop-turn.operand c.loop-turn.cursor) _ c.loop-turn._turn c.loop-turn-test.true c.loop-turn.invariant in first_of (search rules, grind (arith, common_steps))
 
-pub returns-in_err-need : goal.returns-in_err-need
+pub returns-in_err-inner : goal.returns-in_err-inner
 unfolding suffixes_from
-returns-in_err-need g c =
+returns-in_err-inner g c =
     let e = one_more (λ n. suffixes_from c.args.self.now.depth (readers c.args.self.now.depth) c.args.spot n c.loop-turn.operand c.loop-turn.cursor) _ c.loop-turn._turn c.loop-turn-test.true c.loop-turn.invariant in first_of (search rules, grind (arith, common_steps))
 
 pub returns-in_err-operand : goal.returns-in_err-operand
