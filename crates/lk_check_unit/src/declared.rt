@@ -68,7 +68,8 @@ fn how_declared(
     t: &Option<TypeId>,
 ) -> How
     requires { IfSome t.now (IsKnown checker.now.types) }
-    ensures { IsHow checker.now scope words.now given (name_in named.now) (option_map (meaning checker.now.types) t.now) result }
+    ensures { IsHow checker.now scope words.now given (name_in named.now)
+        (option_map (meaning checker.now.types) t.now) result }
 {
     let is_function = is_function_type(&checker.types, *t);
     How {

@@ -530,8 +530,8 @@ impl<S: Fn(Global, &mut Cursor<'_>, usize) -> Result<Found<Stmt>, Fault>> Statem
 
     /// A `continue`.
     fn continue_of(&self, cursor: &mut Cursor<'_>) -> Result<Found<Stmt>, Fault>
-        ensures { Gives (spec.word_alone self.now.depth (spec.stmt self.now.depth) cursor.old variant.Continue cursor.old)
-            result cursor.new }
+        ensures { Gives (spec.word_alone self.now.depth (spec.stmt self.now.depth)
+            cursor.old variant.Continue cursor.old) result cursor.new }
     {
         let spot = cursor.spot();
         cursor.take();
@@ -544,8 +544,8 @@ impl<S: Fn(Global, &mut Cursor<'_>, usize) -> Result<Found<Stmt>, Fault>> Statem
 
     /// A `break`.
     fn break_of(&self, cursor: &mut Cursor<'_>) -> Result<Found<Stmt>, Fault>
-        ensures { Gives (spec.word_alone self.now.depth (spec.stmt self.now.depth) cursor.old variant.Break cursor.old)
-            result cursor.new }
+        ensures { Gives (spec.word_alone self.now.depth (spec.stmt self.now.depth)
+            cursor.old variant.Break cursor.old) result cursor.new }
     {
         let spot = cursor.spot();
         cursor.take();
