@@ -5,10 +5,15 @@ use Rattle.std.specs.Option.{option_map}
 use Rattle.std.specs.Prelude.{MatchOption, slice_get}
 use Rattle.lk_base.specs.declared.refusal.Refusal.{Refusal}
 use Rattle.lk_tree.specs.declared.expression.Expr.{Expr}
+use Rattle.lk_tree.specs.declared.statement.Decl.{Decl}
 use Rattle.lk_tree.specs.declared.statement.Unit.{Unit}
 use Rattle.lk_types.specs.Building.{IsLonger}
 use Rattle.lk_types.proofs.GrowLemmas.{longer_same}
+use Rattle.lk_types.specs.Table.{Table}
+use Rattle.lk_typed.specs.Elements.{HasFewElements}
 use Rattle.lk_typed.specs.Env.{Declared, Env, Name}
+use Rattle.lk_typed.specs.Meaning.{IsReady}
+use Rattle.lk_names.specs.InScope.{InScope, IsKnownScope}
 use Rattle.lk_typed.specs.Faults.{Fault}
 use Rattle.lk_typed.specs.NodeParts.{externals_in_turn}
 use Rattle.lk_typed.specs.Nodes.{Node, Placed}
@@ -22,19 +27,18 @@ use Rattle.lk_typed.specs.declared.unit.StructTag.{StructTag}
 use Rattle.lk_typed.specs.Units.IsNode.{node_of}
 use Rattle.lk_found.specs.Keepings.{KeepsAll}
 use Rattle.lk_found.specs.Recorded.{Recorded, nothing_recorded}
+use Rattle.lk_found.specs.Structs.{AreListed}
 use Rattle.lk_found.specs.Truth.{AddsTruth, IsSoInside, AddsTags, IsOfTag, NoTag}
 use Rattle.lk_found.specs.Uses.{AddsUses, IsOfUse, IsOfWord, taken_in, word_in}
 use Rattle.lk_found.specs.Findings.{IsOfExpression, IsOfInitialiser, IsOfName, IsOfTypeName, refusal_of}
-use Rattle.lk_check_walk.specs.Specifying.{IsSame}
 use Rattle.lk_check_walk.specs.Walks.{IsIn, TellsTruth, kept_in, recorded_in}
 use Rattle.lk_check_walk.specs.declared.checker.Checker.{Checker}
 use Rattle.lk_check_walk.specs.declared.checker.Outside.{Outside}
 use Rattle.lk_check_walk.proofs.KeepsAll.{in_same}
 use Rattle.lk_check_walk.proofs.Truth.{truth_still}
 use Rattle.lk_predeclared.specs.Beginning.{IsOutsideOf}
-use Rattle.lk_check_unit.specs.Later.{AsksAll, WalksBut, pending_codes}
-use Rattle.lk_check_unit.specs.Sources.{AreTrue, AreUses, RecordsOf, TellsFirst, WalksExternals, externals_add}
-use Rattle.lk_check_unit.specs.declared.pending.Pending.{Pending}
+use Rattle.lk_check_unit.specs.Later.{WalksBut, pending_codes}
+use Rattle.lk_check_unit.specs.Sources.{AreTrue, AreUses, RecordsOf, TellsFirst, WalksOver, externals_add}
 use Rattle.lk_check_unit.proofs.Sources.{behind_is}
 use Rattle.lk_check_unit.proofs.Later.{nodes_alone}
 
@@ -43,20 +47,19 @@ answered : (externs : List Name) (unit : Unit) (least : Option Fault) → MatchO
 answered externs unit None none = none
 answered externs unit (Some f) first = (f, first, refl)
 
--- a state where a source begins, that behind the external declarations, and that behind what is asked at the end
-module _ (externs : List Name) (unit : Unit) (c0 c1 c2 : Checker) (pending : List Pending) (begins : IsIn c0 (around externs unit)) (kept : kept_in c0 ≡ none_kept)
-    (walks : WalksExternals c0 c1 unit.externals [] pending) (asks : AsksAll c1 c2 pending) where
+-- a state where a source begins, and that behind it
+module _ (externs : List Name) (unit : Unit) (c0 c2 : Checker) (begins : IsIn c0 (around externs unit)) (kept : kept_in c0 ≡ none_kept) (over : WalksOver c0 c2 unit.externals) where
   abbrev last : Env
   last = at_end externs unit
 
-  walked : WalksBut last c0 c1 (around externs unit) (externals_add (around externs unit) unit.externals) (externals_in_turn (around externs unit) unit.externals) (pending_codes c1.types last walks.puts.fresh)
-  walked = walks.walks last (around externs unit) (record { is_in = begins; role = refl; in_size = refl })
+  walked : WalksBut last c0 over.between (around externs unit) (externals_add (around externs unit) unit.externals) (externals_in_turn (around externs unit) unit.externals) (pending_codes over.between.types last over.walks.puts.fresh)
+  walked = over.walks.walks last (around externs unit) (record { is_in = begins; role = refl; in_size = refl })
 
-  asked : KeepsAll last (kept_in c1) [] (pending_codes c1.types last walks.puts.fresh ++ []) (kept_in c2)
+  asked : KeepsAll last (kept_in over.between) [] (pending_codes over.between.types last over.walks.puts.fresh ++ []) (kept_in c2)
   asked =
-      subst (λ cs. KeepsAll last (kept_in c1) [] cs (kept_in c2)) (sym (append-nil (pending_codes c1.types last walks.puts.fresh)))
-      (subst (λ ps. KeepsAll last (kept_in c1) [] (pending_codes c1.types last ps) (kept_in c2)) walks.puts.are
-      (asks last (subst (IsIn c1) (behind_is (around externs unit) unit.externals) walked.behind)))
+      subst (λ cs. KeepsAll last (kept_in over.between) [] cs (kept_in c2)) (sym (append-nil (pending_codes over.between.types last over.walks.puts.fresh)))
+      (subst (λ ps. KeepsAll last (kept_in over.between) [] (pending_codes over.between.types last ps) (kept_in c2)) over.walks.puts.are
+      (over.asks last (subst (IsIn over.between) (behind_is (around externs unit) unit.externals) walked.behind)))
 
   all_kept : KeepsNodes last none_kept (externals_in_turn (around externs unit) unit.externals) (kept_in c2)
   all_kept =
@@ -72,9 +75,9 @@ module _ (externs : List Name) (unit : Unit) (c0 c1 c2 : Checker) (pending : Lis
   abbrev nodes : List Placed
   nodes = externals_in_turn (around externs unit) unit.externals
 
-  module _ (nothing : recorded_in c0 ≡ nothing_recorded) (same : IsSame c1 c2) where
+  module _ (nothing : recorded_in c0 ≡ nothing_recorded) where
     told : TellsTruth last c0 c2 nodes
-    told = truth_still last c0 c1 c2 nodes walked.sound.ready.table_is (subst (IsLonger c1.types) (sym same.types) (longer_same c1.types)) same.records walked.records
+    told = truth_still last c0 over.between c2 nodes walked.sound.ready.table_is (subst (IsLonger over.between.types) (sym over.same.types) (longer_same over.between.types)) over.same.records walked.records
 
     -- what was there before is nothing
     all_so : {V : Type 0} (IsSo : ℕ → V → Env → Node → Type 0) (before entries : List (ℕ × V)) → before ≡ [] → AddsTruth last IsSo before nodes entries → AreTrue externs unit IsSo entries
@@ -124,7 +127,25 @@ module _ (externs : List Name) (unit : Unit) (c0 c1 c2 : Checker) (pending : Lis
     -- ---- what is in scope
 
     pub behind_all : IsIn c2 last
-    behind_all = in_same c1 c2 last same (subst (IsIn c1) (behind_is (around externs unit) unit.externals) walked.behind)
+    behind_all = in_same over.between c2 last over.same (subst (IsIn over.between) (behind_is (around externs unit) unit.externals) walked.behind)
 
     pub outside_stays : IsOutsideOf c0.outside externs unit → IsOutsideOf c2.outside externs unit
-    outside_stays is = subst (λ (o : Outside). IsOutsideOf o externs unit) (sym (same.outside ∙ walked.outside)) is
+    outside_stays is = subst (λ (o : Outside). IsOutsideOf o externs unit) (sym (over.same.outside ∙ walked.outside)) is
+
+-- what is known of a state behind a source
+module _ (c0 c2 : Checker) (ds : List Decl) (over : WalksOver c0 c2 ds) where
+  pub ready_behind : IsReady c2.types
+  ready_behind = subst IsReady (sym over.same.types) over.grows.sound.ready
+
+  pub few_behind : HasFewElements c2.types
+  few_behind = subst HasFewElements (sym over.same.types) over.grows.sound.few
+
+  pub known_behind : IsKnownScope c2.types c2.names
+  known_behind =
+      subst (λ (table : Table). IsKnownScope table c2.names) (sym over.same.types)
+      (subst (λ (names : InScope). IsKnownScope over.between.types names) (sym over.same.names) over.grows.sound.scope)
+
+  pub structs_behind : AreListed c2.types c2.names.structs
+  structs_behind =
+      subst (λ (table : Table). AreListed table c2.names.structs) (sym over.same.types)
+      (subst (λ (names : InScope). AreListed over.between.types names.structs) (sym over.same.names) over.grows.sound.structs)

@@ -28,9 +28,10 @@ use Rattle.lk_found.specs.Findings.{IsOfExpression, IsOfInitialiser, IsOfName, I
 use Rattle.lk_check_walk.specs.declared.checker.Checked.{Checked}
 use Rattle.lk_check_walk.specs.declared.checker.Checker.{Checker}
 use Rattle.lk_predeclared.specs.Beginning.{IsOutsideOf}
-use Rattle.lk_check_unit.specs.Bodies.{IsPlain}
+use Rattle.lk_check_walk.specs.Specifying.{IsSame}
+use Rattle.lk_check_unit.specs.Bodies.{Grows, IsPlain}
 use Rattle.lk_check_unit.specs.InitDeclarators.{PutsPending}
-use Rattle.lk_check_unit.specs.Later.{WalksBut, pending_codes}
+use Rattle.lk_check_unit.specs.Later.{AsksAll, WalksBut, pending_codes}
 use Rattle.lk_check_unit.specs.declared.pending.Pending.{Pending}
 
 -- ---- external declarations
@@ -48,6 +49,15 @@ externals_add env (d ∷ ds) = let a = external_adds env d in both a (externals_
 pub record WalksExternals (old new : Checker) (ds : List Decl) (before after : List Pending) : Type 0 where
   pub puts : PutsPending new.types File before after
   pub walks : (at_end env : Env) → IsPlain old env → WalksBut at_end old new env (externals_add env ds) (externals_in_turn env ds) (pending_codes new.types at_end puts.fresh)
+
+-- they are walked over, and behind them is asked what waits for the end of the source
+pub record WalksOver (old new : Checker) (ds : List Decl) : Type 0 where
+  pub between : Checker
+  pub pending : List Pending
+  pub grows : Grows old between
+  pub walks : WalksExternals old between ds [] pending
+  pub asks : AsksAll between new pending
+  pub same : IsSame between new
 
 -- ---- what is recorded of a source
 

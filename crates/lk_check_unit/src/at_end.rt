@@ -36,7 +36,8 @@ fn incomplete_code(types: &TypeTable, structs: &[Members], ty: TypeId) -> Option
 fn ask_one(checker: &mut Checker, pending: &Pending) -> Result<(), NoMemory>
     requires { IsKnown checker.old.types pending.now.ty }
     ensures kept { OnOk result ((at_end : Env) → IsIn checker.old at_end →
-        KeepsAt checker.old checker.new pending.now.at (pending_rules at_end (meaning checker.old.types pending.now.ty))) }
+        KeepsAt checker.old checker.new pending.now.at
+        (pending_rules at_end (meaning checker.old.types pending.now.ty))) }
     ensures same { OnOk result (IsSame checker.old checker.new) }
 {
     let code = incomplete_code(&checker.types, checker.names.structs(), pending.ty);

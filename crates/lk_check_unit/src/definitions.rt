@@ -120,7 +120,8 @@ fn name_function(
     requires sound { IsSound checker.old }
     requires known { IfSome t.now (IsKnown checker.old.types) }
     ensures further { OnOk result (IsFurther checker.old checker.new) }
-    ensures names { OnOk result (DefinesName checker.old checker.new words.now (Some (name_in named.now)) t.now) }
+    ensures names { OnOk result (DefinesName checker.old checker.new words.now (Some (name_in named.now))
+        t.now) }
 {
     let none: Option<Init> = None;
     match declare_name(checker, Scope::File, words, Given::Body, named, t, &none) {

@@ -7,10 +7,10 @@ ghost use Rattle.lk_typed.specs.Units as spec;
 ghost use Rattle.lk_names.specs.InScope.{IsKnownScope};
 ghost use Rattle.lk_found.specs.Structs.{AreListed};
 ghost use Rattle.lk_found.specs.Findings.{refusal_of};
-ghost use Rattle.lk_check_walk.specs.Walks.{IsIn, kept_in};
+ghost use Rattle.lk_check_walk.specs.Walks.{IsIn, IsSound, kept_in};
 ghost use Rattle.lk_predeclared.specs.Beginning.{IsOutsideOf};
 ghost use Rattle.lk_check_unit.specs.Sources.{IsBehind, IsRefused, IsSetOf, PutsNames};
-ghost use Rattle.lk_check_unit.specs.Sources.{RecordsOf, TellsFirst};
+ghost use Rattle.lk_check_unit.specs.Sources.{RecordsOf, TellsFirst, WalksOver};
 
 use crate::at_end::ask_pending;
 use crate::declarations::nothing_pending;
@@ -84,6 +84,17 @@ fn outside(alloc: Global, unit: &Unit, externs: &[Name]) -> Result<Outside, NoMe
     })
 }
 
+/// Walks over the external declarations of a source, and asks at its end what waits for it.
+fn walk_over(alloc: Global, checker: &mut Checker, list: &[Decl]) -> Result<(), NoMemory>
+    requires { IsSound checker.old }
+    ensures { OnOk result (WalksOver checker.old checker.new list.now) }
+{
+    let mut pending = nothing_pending(alloc);
+    externals(checker, list, &mut pending)?;
+    ask_pending(checker, pending.list())?;
+    Ok(())
+}
+
 /// The checker behind a source.
 fn behind(alloc: Global, unit: &Unit, externs: &[Name]) -> Result<Checker, NoMemory>
     ensures told { IfOk result (λ checker.
@@ -99,10 +110,8 @@ fn behind(alloc: Global, unit: &Unit, externs: &[Name]) -> Result<Checker, NoMem
 {
     let outside = outside(alloc, unit, externs)?;
     let mut checker = begin(alloc, outside)?;
-    let mut pending = nothing_pending(alloc);
-    externals(&mut checker, unit.externals.list(), &mut pending)?;
-    ask_pending(&mut checker, pending.list())?;
-    Ok(checker)
+    let walked = walk_over(alloc, &mut checker, unit.externals.list());
+    walked.and(Ok(checker))
 }
 
 /// The refusal by the least fault of a source, where it has one. `externs` are the names that `--externs`
@@ -116,8 +125,10 @@ pub fn check_faults(
 ) -> Result<Option<Refusal>, NoMemory>
     ensures { IfOk result (TellsFirst externs.now unit.now) }
 {
-    let checker = behind(alloc, unit, externs)?;
-    Ok(checker.first_fault())
+    let mut checker = behind(alloc, unit, externs)?;
+    let first = checker.first_fault();
+    drop(checker);
+    Ok(first)
 }
 
 /// A source that is checked, with what is found at its nodes. `externs` are the names that `--externs` lists.

@@ -1,5 +1,5 @@
 //! Statements (C99 6.8).
-ghost use Rattle.std.specs.Prelude.{◌≡◌, ℕ, Some, OnOk, IfOk, option_map};
+ghost use Rattle.std.specs.Prelude.{ℕ, Some, OnOk, IfOk};
 ghost use Rattle.lk_tree.specs.declared.statement.BlockItem.TheOpen.{StmtForm-F};
 ghost use Rattle.lk_tree.specs.declared.statement.BlockItem.{out-BlockItem};
 ghost use Rattle.lk_tree.specs.declared.statement.StmtForm.{out-StmtForm};
@@ -273,7 +273,8 @@ fn for_loop(
     requires known { IsKnownResult checker.old body.old }
     ensures stays { OnOk result (Stays checker.old checker.new body.old body.new) }
     ensures walks { IfOk result (λ code. (n : ℕ) →
-        WalksForm (StmtForm-F.For first.now test.now step.now inner.now) n checker.old checker.new body.old body.new code) }
+        WalksForm (StmtForm-F.For first.now test.now step.now inner.now) n checker.old checker.new body.old
+        body.new code) }
 {
     let mark = enter(checker);
     let code = for_head(checker, first, test, step)?;

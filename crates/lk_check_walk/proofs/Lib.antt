@@ -27,3 +27,4 @@ pub mod Whole
 pub mod Walking
 pub mod Truth
 pub mod Tags
+pub mod LetThrough

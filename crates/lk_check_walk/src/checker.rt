@@ -1,14 +1,13 @@
 //! The state of the checker of a source.
-ghost use Rattle.std.specs.Prelude.{◌≡◌, ◌<◌, ◌^◌, ◌||◌, ℕ, List, Bool, true, false, Option, Some, None, [], IfErr, IfOk, OnOk, option_map};
+ghost use Rattle.std.specs.Prelude.{◌≡◌, ◌<◌, ◌||◌, ℕ, List, true, false, Option, Some, None, Ok, Err, [], IfErr, IfOk, OnOk, MatchOption, option_map};
 ghost use Rattle.std.specs.HashSet.{contains_by};
-ghost use Rattle.lk_base.specs.Code.{number_of};
 ghost use Rattle.lk_base.specs.declared.refusal.Refusal.{Refusal};
-ghost use Rattle.lk_typed.specs.Env.{Env, is_name};
-ghost use Rattle.lk_typed.specs.Faults.{Breach, Fault, breach};
+ghost use Rattle.lk_typed.specs.Env.{is_name};
+ghost use Rattle.lk_typed.specs.Faults.{breach};
 ghost use Rattle.lk_typed.specs.Stands.{fault_at};
-ghost use Rattle.lk_names.specs.InScope.{env_in, nothing_in_scope};
+ghost use Rattle.lk_names.specs.InScope.{nothing_in_scope};
 ghost use Rattle.lk_rules.specs.FirstFaults.{comes_before, less_or};
-ghost use Rattle.lk_rules.specs.Keeping.{keep, none_kept, watched, seen_by};
+ghost use Rattle.lk_rules.specs.Keeping.{keep, none_kept, watched};
 ghost use Rattle.lk_found.specs.Recorded.{nothing_recorded};
 ghost use Rattle.lk_found.specs.Findings.{mark_at, refusal_of};
 ghost use Rattle.lk_check_walk.specs.Walks.{IsSound, Tells, fault_of, first_of, kept_in};
@@ -72,6 +71,16 @@ fn no_name(alloc: Global) -> Result<Name, NoMemory>
     match Name::from_bytes(alloc, &[]) {
         Ok(name) => Ok(name),
         Err(_) => Err(NoMemory),
+    }
+}
+
+/// This value, where there is no refusal. It is generic, so that what a checker holds is let go in one place.
+fn unless_refused<T: Drop>(refusal: Option<Refusal>, value: T) -> Result<T, Refusal>
+    ensures { MatchOption refusal (result ≡ Ok value) (λ refusal. result ≡ Err refusal) }
+{
+    match refusal {
+        Some(refusal) => Err(refusal),
+        None => Ok(value),
     }
 }
 
@@ -208,6 +217,37 @@ impl Checker {
         seen
     }
 
+    /// The refusal by the least fault, which is taken out.
+    pub fn first_fault(&mut self) -> Option<Refusal>
+        ensures told { result ≡ option_map refusal_of (kept_in self.old).least }
+        ensures rest { self.new ≡ record self.old { least = None } }
+    {
+        match self.least.take() {
+            Some(FaultFound { at, code, name }) => Some(Refusal {
+                code,
+                spot: at.spot,
+                name,
+            }),
+            None => None,
+        }
+    }
+
+    /// What was checked, whether it has a fault or not.
+    fn found(self) -> Checked
+        ensures types { result.types ≡ self.types }
+        ensures names { result.names ≡ self.names }
+        ensures outside { result.outside ≡ self.outside }
+        ensures records { result.records ≡ self.records }
+    {
+        Checked {
+            alloc: self.alloc,
+            types: self.types,
+            names: self.names,
+            outside: self.outside,
+            records: self.records,
+        }
+    }
+
     /// What was checked, where it has no fault; else the refusal by the least fault.
     pub fn checked(self) -> Result<Checked, Refusal>
         ensures ok { IfOk result (λ checked. option_map refusal_of (kept_in self).least ≡ None) }
@@ -217,43 +257,8 @@ impl Checker {
         ensures outside { IfOk result (λ checked. checked.outside ≡ self.outside) }
         ensures records { IfOk result (λ checked. checked.records ≡ self.records) }
     {
-        let Checker {
-            alloc,
-            types,
-            names,
-            records,
-            outside,
-            least,
-            ..
-        } = self;
-        match least {
-            Some(FaultFound { at, code, name }) => Err(Refusal {
-                code,
-                spot: at.spot,
-                name,
-            }),
-            None => Ok(Checked {
-                alloc,
-                types,
-                names,
-                outside,
-                records,
-            }),
-        }
-    }
-
-    /// The least fault.
-    pub fn first_fault(self) -> Option<Refusal>
-        ensures { result ≡ option_map refusal_of (kept_in self).least }
-    {
-        let Checker { least, .. } = self;
-        match least {
-            Some(FaultFound { at, code, name }) => Some(Refusal {
-                code,
-                spot: at.spot,
-                name,
-            }),
-            None => None,
-        }
+        let mut checker = self;
+        let first = checker.first_fault();
+        unless_refused(first, checker.found())
     }
 }

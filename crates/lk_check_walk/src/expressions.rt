@@ -1,5 +1,5 @@
 //! Expressions (C99 6.5): each is judged once, and its parts before it.
-ghost use Rattle.std.specs.Prelude.{◌≡◌, IfOk, OnOk};
+ghost use Rattle.std.specs.Prelude.{IfOk, OnOk};
 ghost use Rattle.lk_typed.specs.Names.{IsKnownRole};
 ghost use Rattle.lk_found.specs.Judging.{HasOperand};
 ghost use Rattle.lk_check_walk.specs.Walking.{IsFurther, Judges, JudgesForm, JudgesSides, JudgesTwo, operand_in};

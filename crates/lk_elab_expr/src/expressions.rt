@@ -1,5 +1,5 @@
 //! Expressions (C99 6.5), by the operands that they have.
-ghost use Rattle.std.specs.Prelude.{◌≡◌, IfOk, OnOk};
+ghost use Rattle.std.specs.Prelude.{IfOk, OnOk};
 ghost use Rattle.lk_typed.specs.declared.expression.TypedForm.{out-TypedForm};
 ghost use Rattle.lk_elab_expr.specs.Elaborating.{Elaborates, ElaboratesTo};
 ghost use Rattle.lk_elab_expr.specs.Leading.{Grows};

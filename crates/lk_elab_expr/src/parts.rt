@@ -2,7 +2,6 @@
 //! `IsConverted`).
 
 ghost use Rattle.std.specs.Prelude.{◌≡◌, Bool, IfOk, OnOk, true};
-ghost use Rattle.std.specs.Option.{option_map};
 ghost use Rattle.lk_typed.specs.Elaborated.{InPlace, IsTyped, IsValue};
 ghost use Rattle.lk_typed.specs.Meaning.{meaning_of};
 ghost use Rattle.lk_typed.specs.Tables.{Tables};

@@ -89,7 +89,8 @@ fn absent_from(
     givens: &[PartGiven<'_>],
 ) -> Result<Vec<AbsentCells>, NoMemory>
     ensures { IfOk result (λ absent.
-        ArePut (fields_listed walk.now.types) (cells_given givens.now) [] (meaning walk.now.types ty) absent.items) }
+        ArePut (fields_listed walk.now.types) (cells_given givens.now) [] (meaning walk.now.types ty)
+        absent.items) }
 {
     absent_cells(walk.alloc, walk.types.table(), ty, givens)
 }

@@ -136,7 +136,8 @@ impl Position {
 
     /// Where it is.
     pub(crate) fn end(self) -> Result<End, NoMemory>
-        ensures { IfOk result (λ end. reached (position_in self) ≡ record { steps = end.steps; is_past = end.is_past }) }
+        ensures { IfOk result (λ end. reached (position_in self)
+            ≡ record { steps = end.steps; is_past = end.is_past }) }
     {
         if self.is_element {
             return self.end_of_element();

@@ -13,7 +13,6 @@ ghost use Rattle.lk_typed.specs.Typing as typing;
 ghost use Rattle.lk_typed.specs.Typing.{Typing};
 ghost use Rattle.lk_typed.specs.Typings.{IsOperand, IsTyping};
 ghost use Rattle.lk_found.specs.Addresses.{declared_address, kept_of, prefix_address};
-ghost use Rattle.lk_found.specs.declared.addresses.Address.{Address as KeptAddress};
 ghost use Rattle.lk_found.specs.declared.addresses.Address.TheVariants as kept_address;
 ghost use Rattle.lk_elab_expr.specs.Known.{OfEach};
 ghost use Rattle.lk_elaborate.specs.Reaching.{HasAddress, HasNullValue, HasValueKept, IsConvertedReached, IsKept, IsMemberBehind};

@@ -1,5 +1,5 @@
 //! Objects of static storage with an initialiser (C99 6.7.8, 6.9.2, 1).
-ghost use Rattle.std.specs.Prelude.{◌≡◌, ◌++◌, ◌∷◌, [], pos, IfOk, IsTrue, List, None, OnOk, Some, ℕ};
+ghost use Rattle.std.specs.Prelude.{◌≡◌, ◌++◌, ◌∷◌, [], pos, IfOk, IsTrue, List, None, OnOk, Some};
 ghost use Rattle.lk_arith.specs.Conversions as arith;
 ghost use Rattle.lk_base.specs.declared.cell.CellStep.TheVariants.{Index};
 ghost use Rattle.lk_typed.specs.Ty as spec;
@@ -193,7 +193,8 @@ fn put_given_part(
     given: &PartGiven<'_>,
     out: &mut Vec<StaticPart>,
 ) -> Result<(), NoMemory>
-    ensures parts { OnOk result (Puts out.old.items out.new.items (GivesStaticPart walk.old walk.new given.now)) }
+    ensures parts { OnOk result (Puts out.old.items out.new.items
+        (GivesStaticPart walk.old walk.new given.now)) }
     ensures grows { OnOk result (Grows walk.old walk.new) }
 {
     match &given.begins {

@@ -79,6 +79,15 @@ fn externals(walk: &mut Elaborator, list: &[Decl]) -> Result<(), NoMemory>
     Ok(())
 }
 
+/// The state behind them.
+fn all_externals(mut walk: Elaborator, list: &[Decl]) -> Result<Elaborator, NoMemory>
+    ensures makes { IfOk result (λ behind. MakesExternals walk behind list.now) }
+    ensures goes { IfOk result (λ behind. GoesOutside walk behind) }
+{
+    let made = externals(&mut walk, list);
+    made.and(Ok(walk))
+}
+
 /// The typed tree of these parts.
 fn unit_of(
     types: SourceTypes,
@@ -143,12 +152,16 @@ fn are_whole(structs: &[Members]) -> bool
     true
 }
 
-/// Whether each struct of a source has its tag, and is complete or was never defined. So it is where there is no fault.
-fn has_whole_structs(checked: &Checked) -> bool
-    ensures { IsTrue result → HasWholeStructs checked.now }
+/// That each struct of a source has its tag, and is complete or was never defined. So it is where there is no fault.
+fn has_whole_structs(checked: &Checked) -> Result<(), NoMemory>
+    ensures { OnOk result (HasWholeStructs checked.now) }
 {
     let structs = checked.names.structs();
-    checked.records.tag_count() == structs.len() && are_whole(structs)
+    if checked.records.tag_count() == structs.len() && are_whole(structs) {
+        Ok(())
+    } else {
+        Err(nowhere())
+    }
 }
 
 /// The state before the typed tree of a source is made of which this was found.
@@ -158,10 +171,8 @@ fn begin(alloc: Global, checked: Checked) -> Result<Elaborator, NoMemory>
     ensures whole { OnOk result (HasWholeStructs checked) }
     ensures begins { IfOk result (Begins checked) }
 {
-    if !has_whole_structs(&checked) {
-        return Err(nowhere());
-    }
-    Ok(Elaborator::new(alloc, checked))
+    let whole = has_whole_structs(&checked);
+    whole.and(Ok(Elaborator::new(alloc, checked)))
 }
 
 /// The typed tree of a source in which there is no fault, and of which this was found (`IsTypedUnit`).
@@ -173,8 +184,8 @@ pub fn elaborate(alloc: Global, unit: &Unit, checked: Checked) -> Result<TypedUn
     ensures { IfOk result (λ typed. (externs : List Name) →
         IsCheckedOf externs unit.now checked → IsTypedUnit externs unit.now typed) }
 {
-    let mut walk = begin(alloc, checked)?;
-    externals(&mut walk, unit.externals.list())?;
+    let walk = begin(alloc, checked)?;
+    let walk = all_externals(walk, unit.externals.list())?;
     let typed = typed_unit(walk)?;
     Ok(typed)
 }

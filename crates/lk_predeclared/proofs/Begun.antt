@@ -1,9 +1,9 @@
 -- The state where a source begins.
-use Rattle.std.proofs.Common.{◌≡◌, ◌∙◌, ◌++◌, [], List, All, refl, sym, ap, subst, map}
+use Rattle.std.proofs.Common.{◌≡◌, ◌∙◌, [], List, All, refl, sym, ap, subst, map}
 use Rattle.std.proofs.lemmas.List.Elements.{All-nil}
 use Rattle.lk_tree.specs.declared.statement.Unit.{Unit}
 use Rattle.lk_typed.specs.Env.{Declared, Env, Name}
-use Rattle.lk_typed.specs.Library.{predeclared_names, predeclared_types}
+use Rattle.lk_typed.specs.Library.{predeclared_names}
 use Rattle.lk_typed.specs.Names.{declared_in}
 use Rattle.lk_typed.specs.Units.{around}
 use Rattle.lk_names.specs.InScope.{InScope, env_in, nothing_in_scope}
@@ -13,15 +13,14 @@ use Rattle.lk_check_walk.specs.declared.checker.Checker.{Checker}
 use Rattle.lk_check_walk.specs.declared.checker.Outside.{Outside}
 use Rattle.lk_predeclared.specs.Beginning.{IsOutsideOf}
 use Rattle.lk_predeclared.specs.Plain.{Grows}
-use Rattle.lk_predeclared.specs.Scope.{AddsNames, HasScope, functions_declared}
-use Rattle.lk_predeclared.proofs.Scopes.{adds_then}
+use Rattle.lk_predeclared.specs.Scope.{AddsNames, HasScope, all_declared}
 
-all_names : predeclared_types ++ functions_declared ≡ predeclared_names
+all_names : all_declared ≡ predeclared_names
 unfolding predeclared_names
 all_names = refl
 
-module _ (first last : Checker) (words : InScope) (sound : IsSound first) (nothing : first.names ≡ nothing_in_scope) (with_words : AddsNames first.types first.names first.types words predeclared_types)
-    (grows : Grows first.types last.types) (with_functions : AddsNames first.types words last.types last.names functions_declared) where
+module _ (first last : Checker) (sound : IsSound first) (nothing : first.names ≡ nothing_in_scope) (grows : Grows first.types last.types)
+    (adds : AddsNames first.types first.names last.types last.names all_declared) where
   none_before : HasScope first.types first.names []
   none_before = record {
     known = sound.scope;
@@ -31,9 +30,7 @@ module _ (first last : Checker) (words : InScope) (sound : IsSound first) (nothi
 
   -- the predeclared names are in scope
   has_all : HasScope last.types last.names predeclared_names
-  has_all =
-      subst (HasScope last.types last.names) all_names
-      (adds_then first.types first.types last.types first.names words last.names predeclared_types functions_declared with_words with_functions [] none_before)
+  has_all = subst (HasScope last.types last.names) all_names (adds [] none_before)
 
   pub begins_sound : IsSound last
   begins_sound = record {

@@ -31,6 +31,10 @@ function_declared function = declared (spelling function) (AFunction (type_by (r
 abbrev pub functions_declared : List Declared
 functions_declared = map (λ f. declared f.name (AFunction (type_of_function f)) linkage.External defines.Whole) spec.library
 
+-- the words, and behind them the functions
+abbrev pub all_declared : List Declared
+all_declared = spec.predeclared_types ++ functions_declared
+
 -- exactly these names are in scope, in file scope, and neither tags nor structs
 pub record HasScope (table : Table) (scope : InScope) (names : List Declared) : Type 0 where
   pub known : IsKnownScope table scope

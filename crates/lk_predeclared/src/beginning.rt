@@ -1,18 +1,31 @@
 //! The state of the checker where a source begins.
-ghost use Rattle.std.specs.Prelude.{◌≡◌, List, IfOk};
+ghost use Rattle.std.specs.Prelude.{◌≡◌, List, IfOk, OnOk};
 ghost use Rattle.lk_tree.specs.declared.statement.Unit.{Unit};
 ghost use Rattle.lk_typed.specs.Env.{Name};
+ghost use Rattle.lk_typed.specs.Meaning.{IsReady};
 ghost use Rattle.lk_typed.specs.Units.{around};
 ghost use Rattle.lk_rules.specs.Keeping.{none_kept};
 ghost use Rattle.lk_found.specs.Recorded.{nothing_recorded};
 ghost use Rattle.lk_check_walk.specs.Walks.{IsIn, IsSound, kept_in};
-ghost use Rattle.lk_predeclared.specs.Beginning.{IsOutsideOf};
+ghost use Rattle.lk_predeclared.specs.Beginning.{IsOutsideOf, Predeclares};
 
 use crate::functions::declare_functions;
 use crate::words::declare_words;
 use lk_base::NoMemory;
 use lk_check_walk::{Checker, Outside};
+use lk_names::Names;
+use lk_types::TypeTable;
 use std::alloc::Global;
+
+/// Declares what is predeclared: the words, and behind them the functions.
+fn declare_all(alloc: Global, types: &mut TypeTable, names: &mut Names) -> Result<(), NoMemory>
+    requires { IsReady types.old }
+    ensures { OnOk result (Predeclares types.old names.old types.new names.new) }
+{
+    declare_words(alloc, names)?;
+    declare_functions(alloc, types, names)?;
+    Ok(())
+}
 
 /// A checker where a source begins: what is predeclared is in scope, and nothing else.
 pub fn begin(alloc: Global, outside: Outside) -> Result<Checker, NoMemory>
@@ -24,7 +37,6 @@ pub fn begin(alloc: Global, outside: Outside) -> Result<Checker, NoMemory>
         IsOutsideOf outside externs unit → IsIn checker (around externs unit)) }
 {
     let mut checker = Checker::new(alloc, outside)?;
-    declare_words(alloc, &mut checker.names)?;
-    declare_functions(alloc, &mut checker.types, &mut checker.names)?;
-    Ok(checker)
+    let declared = declare_all(alloc, &mut checker.types, &mut checker.names);
+    declared.and(Ok(checker))
 }

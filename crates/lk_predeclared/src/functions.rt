@@ -129,7 +129,8 @@ fn declare_function(
 ) -> Result<(), NoMemory>
     requires { IsReady types.old }
     ensures grows { OnOk result (Grows types.old types.new) }
-    ensures adds { OnOk result (AddsNames types.old names.old types.new names.new (function_declared function ∷ [])) }
+    ensures adds { OnOk result (AddsNames types.old names.old types.new names.new
+        (function_declared function ∷ [])) }
 {
     let t = function_type(alloc, types, function)?;
     declare(

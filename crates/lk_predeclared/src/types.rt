@@ -1,5 +1,5 @@
 //! The types of which the functions of the library speak.
-ghost use Rattle.std.specs.Prelude.{◌≡◌, ◌∷◌, ◌<◌, All, length, map, IfOk, OnOk};
+ghost use Rattle.std.specs.Prelude.{◌∷◌, ◌<◌, All, length, map, IfOk, OnOk};
 ghost use Rattle.lk_types.specs.Building.{IsPassed};
 ghost use Rattle.lk_types.specs.Predeclared.{predeclared};
 ghost use Rattle.lk_types.specs.Table.{IsKnown};

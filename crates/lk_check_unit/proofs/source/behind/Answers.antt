@@ -1,66 +1,97 @@
-use Rattle.std.proofs.Common.{[], refl, subst, sym}
+use Rattle.std.proofs.Common.{refl, subst, sym}
+use Rattle.std.proofs.lemmas.Result.{on_ok_weaker}
+use Rattle.std.specs.Option.{option_map}
 use Rattle.lk_typed.specs.Elements.{HasFewElements}
 use Rattle.lk_typed.specs.Meaning.{IsReady}
-use Rattle.lk_names.specs.InScope.{InScope, IsKnownScope}
-use Rattle.lk_types.specs.Table.{Table}
+use Rattle.lk_typed.specs.Units.{at_end}
+use Rattle.lk_names.specs.InScope.{IsKnownScope}
+use Rattle.lk_found.specs.Findings.{refusal_of}
 use Rattle.lk_found.specs.Structs.{AreListed}
+use Rattle.lk_check_walk.specs.Walks.{IsIn, kept_in}
+use Rattle.lk_check_walk.specs.declared.checker.Checker.{Checker}
 use Rattle.lk_check_walk.specs.declared.checker.Outside.{Outside}
+use Rattle.lk_check_walk.proofs.LetThrough.{let_through}
 use Rattle.lk_predeclared.specs.Beginning.{IsOutsideOf}
-use Rattle.lk_check_unit.specs.Later.{AsksAll}
-use Rattle.lk_check_unit.specs.Sources.{WalksExternals}
-use Rattle.lk_check_unit.proofs.Checking.{behind_all, first_told, outside_stays, records_told}
+use Rattle.lk_check_unit.specs.Sources.{RecordsOf, TellsFirst, WalksOver}
+use Rattle.lk_check_unit.proofs.Checking.{behind_all, few_behind, first_told, known_behind, outside_stays, ready_behind, records_told, structs_behind}
 use Rattle.lk_check_unit.proofs.source.behind.Goals as goal
 
 pub returns-clause-told : goal.returns-clause-told
 returns-clause-told c =
-    first_told c.args.externs.now c.args.unit.now c.in_ok-checker.checker c.externals.new.checker c.ask_pending.new.checker c.externals.new.pending
-    (c.in_ok-checker.ensures.begins c.args.externs.now c.args.unit.now c.in_ok-outside.ensures) c.in_ok-checker.ensures.kept
-    (subst (λ ds. WalksExternals c.in_ok-checker.checker c.externals.new.checker ds [] c.externals.new.pending) c.list.ensures
-    (subst (λ ps. WalksExternals c.in_ok-checker.checker c.externals.new.checker c.list.result.now ps c.externals.new.pending) c.nothing_pending-pending.ensures c.in_ok-externals.ensures.walks))
-    (subst (AsksAll c.externals.new.checker c.ask_pending.new.checker) c.list-2.ensures c.in_ok-ask_pending.ensures.asks) _ refl
+    let first = c.in_ok-checker.checker in
+    let last = c.walk_over-walked.new.checker in
+    let told = c.in_ok-checker.ensures in
+    let begins = told.begins c.args.externs.now c.args.unit.now c.in_ok-outside.ensures in
+    let over = subst (WalksOver first last) c.list.ensures in
+    let_through c.walk_over-walked.result last c.and.result c.and.ensures (λ (checker : Checker). TellsFirst c.args.externs.now c.args.unit.now (option_map refusal_of (kept_in checker).least))
+    (on_ok_weaker c.walk_over-walked.result (λ walks. first_told c.args.externs.now c.args.unit.now first last begins told.kept (over walks) _ refl) c.walk_over-walked.ensures)
 
 pub returns-clause-ready : goal.returns-clause-ready
-returns-clause-ready c = subst IsReady (sym c.in_ok-ask_pending.ensures.same.types) c.in_ok-externals.ensures.grows.sound.ready
+returns-clause-ready c =
+    let first = c.in_ok-checker.checker in
+    let last = c.walk_over-walked.new.checker in
+    let told = c.in_ok-checker.ensures in
+    let begins = told.begins c.args.externs.now c.args.unit.now c.in_ok-outside.ensures in
+    let over = subst (WalksOver first last) c.list.ensures in
+    let_through c.walk_over-walked.result last c.and.result c.and.ensures (λ (checker : Checker). IsReady checker.types)
+    (on_ok_weaker c.walk_over-walked.result (λ walks. ready_behind first last c.args.unit.now.externals (over walks)) c.walk_over-walked.ensures)
 
 pub returns-clause-few : goal.returns-clause-few
-returns-clause-few c = subst HasFewElements (sym c.in_ok-ask_pending.ensures.same.types) c.in_ok-externals.ensures.grows.sound.few
+returns-clause-few c =
+    let first = c.in_ok-checker.checker in
+    let last = c.walk_over-walked.new.checker in
+    let told = c.in_ok-checker.ensures in
+    let begins = told.begins c.args.externs.now c.args.unit.now c.in_ok-outside.ensures in
+    let over = subst (WalksOver first last) c.list.ensures in
+    let_through c.walk_over-walked.result last c.and.result c.and.ensures (λ (checker : Checker). HasFewElements checker.types)
+    (on_ok_weaker c.walk_over-walked.result (λ walks. few_behind first last c.args.unit.now.externals (over walks)) c.walk_over-walked.ensures)
 
 pub returns-clause-known : goal.returns-clause-known
 returns-clause-known c =
-    let last = c.ask_pending.new.checker in
-    subst (λ (table : Table). IsKnownScope table last.names) (sym c.in_ok-ask_pending.ensures.same.types)
-    (subst (λ (names : InScope). IsKnownScope c.externals.new.checker.types names) (sym c.in_ok-ask_pending.ensures.same.names) c.in_ok-externals.ensures.grows.sound.scope)
+    let first = c.in_ok-checker.checker in
+    let last = c.walk_over-walked.new.checker in
+    let told = c.in_ok-checker.ensures in
+    let begins = told.begins c.args.externs.now c.args.unit.now c.in_ok-outside.ensures in
+    let over = subst (WalksOver first last) c.list.ensures in
+    let_through c.walk_over-walked.result last c.and.result c.and.ensures (λ (checker : Checker). IsKnownScope checker.types checker.names)
+    (on_ok_weaker c.walk_over-walked.result (λ walks. known_behind first last c.args.unit.now.externals (over walks)) c.walk_over-walked.ensures)
 
 pub returns-clause-structs : goal.returns-clause-structs
 returns-clause-structs c =
-    let last = c.ask_pending.new.checker in
-    subst (λ (table : Table). AreListed table last.names.structs) (sym c.in_ok-ask_pending.ensures.same.types)
-    (subst (λ (names : InScope). AreListed c.externals.new.checker.types names.structs) (sym c.in_ok-ask_pending.ensures.same.names) c.in_ok-externals.ensures.grows.sound.structs)
+    let first = c.in_ok-checker.checker in
+    let last = c.walk_over-walked.new.checker in
+    let told = c.in_ok-checker.ensures in
+    let begins = told.begins c.args.externs.now c.args.unit.now c.in_ok-outside.ensures in
+    let over = subst (WalksOver first last) c.list.ensures in
+    let_through c.walk_over-walked.result last c.and.result c.and.ensures (λ (checker : Checker). AreListed checker.types checker.names.structs)
+    (on_ok_weaker c.walk_over-walked.result (λ walks. structs_behind first last c.args.unit.now.externals (over walks)) c.walk_over-walked.ensures)
 
 pub returns-clause-scope : goal.returns-clause-scope
 returns-clause-scope c =
-    behind_all c.args.externs.now c.args.unit.now c.in_ok-checker.checker c.externals.new.checker c.ask_pending.new.checker c.externals.new.pending
-    (c.in_ok-checker.ensures.begins c.args.externs.now c.args.unit.now c.in_ok-outside.ensures) c.in_ok-checker.ensures.kept
-    (subst (λ ds. WalksExternals c.in_ok-checker.checker c.externals.new.checker ds [] c.externals.new.pending) c.list.ensures
-    (subst (λ ps. WalksExternals c.in_ok-checker.checker c.externals.new.checker c.list.result.now ps c.externals.new.pending) c.nothing_pending-pending.ensures c.in_ok-externals.ensures.walks))
-    (subst (AsksAll c.externals.new.checker c.ask_pending.new.checker) c.list-2.ensures c.in_ok-ask_pending.ensures.asks)
-    c.in_ok-checker.ensures.records c.in_ok-ask_pending.ensures.same
+    let first = c.in_ok-checker.checker in
+    let last = c.walk_over-walked.new.checker in
+    let told = c.in_ok-checker.ensures in
+    let begins = told.begins c.args.externs.now c.args.unit.now c.in_ok-outside.ensures in
+    let over = subst (WalksOver first last) c.list.ensures in
+    let_through c.walk_over-walked.result last c.and.result c.and.ensures (λ (checker : Checker). IsIn checker (at_end c.args.externs.now c.args.unit.now))
+    (on_ok_weaker c.walk_over-walked.result (λ walks. behind_all c.args.externs.now c.args.unit.now first last begins told.kept (over walks) told.records) c.walk_over-walked.ensures)
 
 pub returns-clause-outside : goal.returns-clause-outside
 returns-clause-outside c =
-    outside_stays c.args.externs.now c.args.unit.now c.in_ok-checker.checker c.externals.new.checker c.ask_pending.new.checker c.externals.new.pending
-    (c.in_ok-checker.ensures.begins c.args.externs.now c.args.unit.now c.in_ok-outside.ensures) c.in_ok-checker.ensures.kept
-    (subst (λ ds. WalksExternals c.in_ok-checker.checker c.externals.new.checker ds [] c.externals.new.pending) c.list.ensures
-    (subst (λ ps. WalksExternals c.in_ok-checker.checker c.externals.new.checker c.list.result.now ps c.externals.new.pending) c.nothing_pending-pending.ensures c.in_ok-externals.ensures.walks))
-    (subst (AsksAll c.externals.new.checker c.ask_pending.new.checker) c.list-2.ensures c.in_ok-ask_pending.ensures.asks)
-    c.in_ok-checker.ensures.records c.in_ok-ask_pending.ensures.same
-    (subst (λ (o : Outside). IsOutsideOf o c.args.externs.now c.args.unit.now) (sym c.in_ok-checker.ensures.outside) c.in_ok-outside.ensures)
+    let first = c.in_ok-checker.checker in
+    let last = c.walk_over-walked.new.checker in
+    let told = c.in_ok-checker.ensures in
+    let begins = told.begins c.args.externs.now c.args.unit.now c.in_ok-outside.ensures in
+    let over = subst (WalksOver first last) c.list.ensures in
+    let_through c.walk_over-walked.result last c.and.result c.and.ensures (λ (checker : Checker). IsOutsideOf checker.outside c.args.externs.now c.args.unit.now)
+    (on_ok_weaker c.walk_over-walked.result (λ walks. outside_stays c.args.externs.now c.args.unit.now first last begins told.kept (over walks) told.records (subst (λ (o : Outside). IsOutsideOf o c.args.externs.now c.args.unit.now) (sym told.outside) c.in_ok-outside.ensures)) c.walk_over-walked.ensures)
 
 pub returns-clause-records : goal.returns-clause-records
 returns-clause-records c =
-    records_told c.args.externs.now c.args.unit.now c.in_ok-checker.checker c.externals.new.checker c.ask_pending.new.checker c.externals.new.pending
-    (c.in_ok-checker.ensures.begins c.args.externs.now c.args.unit.now c.in_ok-outside.ensures) c.in_ok-checker.ensures.kept
-    (subst (λ ds. WalksExternals c.in_ok-checker.checker c.externals.new.checker ds [] c.externals.new.pending) c.list.ensures
-    (subst (λ ps. WalksExternals c.in_ok-checker.checker c.externals.new.checker c.list.result.now ps c.externals.new.pending) c.nothing_pending-pending.ensures c.in_ok-externals.ensures.walks))
-    (subst (AsksAll c.externals.new.checker c.ask_pending.new.checker) c.list-2.ensures c.in_ok-ask_pending.ensures.asks)
-    c.in_ok-checker.ensures.records c.in_ok-ask_pending.ensures.same
+    let first = c.in_ok-checker.checker in
+    let last = c.walk_over-walked.new.checker in
+    let told = c.in_ok-checker.ensures in
+    let begins = told.begins c.args.externs.now c.args.unit.now c.in_ok-outside.ensures in
+    let over = subst (WalksOver first last) c.list.ensures in
+    let_through c.walk_over-walked.result last c.and.result c.and.ensures (λ (checker : Checker). RecordsOf c.args.externs.now c.args.unit.now checker.types checker.records)
+    (on_ok_weaker c.walk_over-walked.result (λ walks. records_told c.args.externs.now c.args.unit.now first last begins told.kept (over walks) told.records) c.walk_over-walked.ensures)
