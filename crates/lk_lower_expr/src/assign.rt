@@ -5,7 +5,7 @@ ghost use Rattle.lk_lower_expr.specs.Naming.{node_of};
 ghost use Rattle.lk_lower_expr.specs.Values as rules;
 
 use crate::lowering::Lowering;
-use crate::make::step;
+use crate::make::{alone, step};
 use crate::step::Step;
 use lk_base::NoMemory;
 use lk_typed::TypedExpr;
@@ -44,7 +44,6 @@ impl Lowering<'_> {
             (part_by self.now place.now) (part_by self.now value.now)).steps on) }
     {
         let value = self.value_of(value)?;
-        let is = self.writing(place, value, on)?;
-        Ok(vec![in self.alloc; is]?)
+        alone(self.alloc, self.writing(place, value, on))
     }
 }

@@ -1,5 +1,5 @@
 //! The steps of `op=`, `++` and `--` (C99 6.5.2.4, 6.5.3.1, 6.5.16.2).
-ghost use Rattle.std.specs.Prelude.{◌≡◌, IfOk};
+ghost use Rattle.std.specs.Prelude.{◌≡◌, ◌∷◌, ◌++◌, [], IfOk};
 ghost use Rattle.lk_lower_expr.specs.Parts as parts;
 ghost use Rattle.lk_lower_expr.specs.Reads.{names_by, part_by};
 ghost use Rattle.lk_lower_expr.specs.Naming.{node_of};
@@ -7,7 +7,7 @@ ghost use Rattle.lk_lower_expr.specs.Values as rules;
 ghost use Rattle.lk_typed.specs.declared.expression.Change.TheVariants.{After};
 
 use crate::lowering::Lowering;
-use crate::make::{int_step, step};
+use crate::make::{alone, int_step, then};
 use crate::step::Step;
 use crate::value::is_pointer;
 use lk_arith::Op;
@@ -28,24 +28,68 @@ fn operator_of(operator: StepOperator) -> Op
 }
 
 impl Lowering<'_> {
-    /// The step that converts a value to a type.
-    fn converting(&self, e: &TypedExpr, value: u32, ty: TypeId, on: u32) -> Result<Step, NoMemory>
-        ensures { IfOk result (λ is.
-            is ≡ rules.converting (names_by self.now) (node_of e.now) value ty on) }
+    /// The step that reads a place, first of others.
+    fn read_first(&self, place: &TypedExpr, on: u32) -> Result<Vec<Step>, NoMemory>
+        ensures { IfOk result (λ steps. steps.items ≡
+            rules.reading (names_by self.now) (part_by self.now place.now) on ∷ []) }
+    {
+        alone(self.alloc, self.reading(place, on))
+    }
+
+    /// These steps, and behind them the one that converts a value to a type.
+    fn with_converted(
+        &self,
+        steps: Vec<Step>,
+        e: &TypedExpr,
+        value: u32,
+        ty: TypeId,
+        on: u32,
+    ) -> Result<Vec<Step>, NoMemory>
+        ensures { IfOk result (λ longer. longer.items ≡
+            steps.items ++ rules.converting (names_by self.now) (node_of e.now) value ty on ∷ []) }
     {
         let does = Action::Convert {
             a: value,
             ty: self.names.type_number(ty),
         };
-        step(self.alloc, does, self.value_type(ty), e.spot, on)
+        self.with_step(steps, does, self.value_type(ty), e.spot, on)
     }
 
-    /// The step that computes an action of a type.
-    fn computing(&self, e: &TypedExpr, does: Action, ty: TypeId, on: u32) -> Result<Step, NoMemory>
-        ensures { IfOk result (λ is.
-            is ≡ parts.step does (parts.value_of (names_by self.now) ty) e.now.spot on) }
+    /// These steps, and behind them the one that computes an action of a type.
+    fn with_computed(
+        &self,
+        steps: Vec<Step>,
+        e: &TypedExpr,
+        does: Action,
+        ty: TypeId,
+        on: u32,
+    ) -> Result<Vec<Step>, NoMemory>
+        ensures { IfOk result (λ longer. longer.items ≡
+            steps.items ++ parts.step does (parts.value_of (names_by self.now) ty) e.now.spot on ∷ []) }
     {
-        step(self.alloc, does, self.value_type(ty), e.spot, on)
+        self.with_step(steps, does, self.value_type(ty), e.spot, on)
+    }
+
+    /// These steps, and behind them the one that writes a value into a place.
+    fn with_written(
+        &self,
+        steps: Vec<Step>,
+        place: &TypedExpr,
+        value: u32,
+        on: u32,
+    ) -> Result<Vec<Step>, NoMemory>
+        ensures { IfOk result (λ longer. longer.items ≡
+            steps.items ++ rules.writing (names_by self.now) (part_by self.now place.now) value on ∷ []) }
+    {
+        then(steps, self.writing(place, value, on))
+    }
+
+    /// These steps, and behind them the one that gives 1.
+    fn with_one(&self, steps: Vec<Step>, e: &TypedExpr, on: u32) -> Result<Vec<Step>, NoMemory>
+        ensures { IfOk result (λ longer. longer.items ≡
+            steps.items ++ rules.one_of (names_by self.now) (node_of e.now) on ∷ []) }
+    {
+        then(steps, int_step(self.alloc, e, 1, on))
     }
 
     /// The steps of `place op= value`, where the place has the type in which it is computed.
@@ -64,16 +108,12 @@ impl Lowering<'_> {
     {
         let node = e.ordinal;
         let begins = self.first_of(value)?;
-        let does = Action::Binary {
-            op,
-            a: self.names.at(node, 0),
-            b: self.value_of(value)?,
-        };
-        let first = self.reading(place, begins)?;
-        let mut steps = vec![in self.alloc; first]?;
-        steps.push(self.computing(e, does, ty, self.names.at(node, 2))?)?;
-        steps.push(self.writing(place, self.names.at(node, 1), on)?)?;
-        Ok(steps)
+        let b = self.value_of(value)?;
+        let steps = self.read_first(place, begins)?;
+        let a = self.names.at(node, 0);
+        let does = Action::Binary { op, a, b };
+        let steps = self.with_computed(steps, e, does, ty, self.names.at(node, 2))?;
+        self.with_written(steps, place, self.names.at(node, 1), on)
     }
 
     /// The steps of `place op= value`, where the place is converted to the type in which it is computed and back.
@@ -93,18 +133,16 @@ impl Lowering<'_> {
     {
         let node = e.ordinal;
         let begins = self.first_of(value)?;
-        let does = Action::Binary {
-            op,
-            a: self.names.at(node, 1),
-            b: self.value_of(value)?,
-        };
-        let first = self.reading(place, begins)?;
-        let mut steps = vec![in self.alloc; first]?;
-        steps.push(self.converting(e, self.names.at(node, 0), ty, self.names.at(node, 2))?)?;
-        steps.push(self.computing(e, does, ty, self.names.at(node, 3))?)?;
-        steps.push(self.converting(e, self.names.at(node, 2), place.ty, self.names.at(node, 4))?)?;
-        steps.push(self.writing(place, self.names.at(node, 3), on)?)?;
-        Ok(steps)
+        let b = self.value_of(value)?;
+        let steps = self.read_first(place, begins)?;
+        let read = self.names.at(node, 0);
+        let steps = self.with_converted(steps, e, read, ty, self.names.at(node, 2))?;
+        let a = self.names.at(node, 1);
+        let does = Action::Binary { op, a, b };
+        let steps = self.with_computed(steps, e, does, ty, self.names.at(node, 3))?;
+        let computed = self.names.at(node, 2);
+        let steps = self.with_converted(steps, e, computed, place.ty, self.names.at(node, 4))?;
+        self.with_written(steps, place, self.names.at(node, 3), on)
     }
 
     /// The steps of `place op= value`.
@@ -144,17 +182,15 @@ impl Lowering<'_> {
             (part_by self.now place.now) ty).steps on) }
     {
         let node = e.ordinal;
-        let first = self.reading(place, self.names.at(node, 1))?;
-        let mut steps = vec![in self.alloc; first]?;
-        steps.push(int_step(self.alloc, e, 1, self.names.at(node, 2))?)?;
+        let steps = self.read_first(place, self.names.at(node, 1))?;
+        let steps = self.with_one(steps, e, self.names.at(node, 2))?;
         let does = Action::Binary {
             op,
             a: self.names.at(node, 0),
             b: self.names.at(node, 1),
         };
-        steps.push(self.computing(e, does, ty, self.names.at(node, 3))?)?;
-        steps.push(self.writing(place, self.names.at(node, 2), on)?)?;
-        Ok(steps)
+        let steps = self.with_computed(steps, e, does, ty, self.names.at(node, 3))?;
+        self.with_written(steps, place, self.names.at(node, 2), on)
     }
 
     /// The steps of `++` and `--` of a place of integers that rank above int: the 1 is converted.
@@ -172,18 +208,17 @@ impl Lowering<'_> {
             (part_by self.now place.now) ty).steps on) }
     {
         let node = e.ordinal;
-        let first = self.reading(place, self.names.at(node, 1))?;
-        let mut steps = vec![in self.alloc; first]?;
-        steps.push(int_step(self.alloc, e, 1, self.names.at(node, 2))?)?;
-        steps.push(self.converting(e, self.names.at(node, 1), ty, self.names.at(node, 3))?)?;
+        let steps = self.read_first(place, self.names.at(node, 1))?;
+        let steps = self.with_one(steps, e, self.names.at(node, 2))?;
+        let one = self.names.at(node, 1);
+        let steps = self.with_converted(steps, e, one, ty, self.names.at(node, 3))?;
         let does = Action::Binary {
             op,
             a: self.names.at(node, 0),
             b: self.names.at(node, 2),
         };
-        steps.push(self.computing(e, does, ty, self.names.at(node, 4))?)?;
-        steps.push(self.writing(place, self.names.at(node, 3), on)?)?;
-        Ok(steps)
+        let steps = self.with_computed(steps, e, does, ty, self.names.at(node, 4))?;
+        self.with_written(steps, place, self.names.at(node, 3), on)
     }
 
     /// The steps of `++` and `--` of a place of integers that rank below int: it is converted to int and back.
@@ -201,19 +236,19 @@ impl Lowering<'_> {
             (part_by self.now place.now) ty).steps on) }
     {
         let node = e.ordinal;
-        let first = self.reading(place, self.names.at(node, 1))?;
-        let mut steps = vec![in self.alloc; first]?;
-        steps.push(int_step(self.alloc, e, 1, self.names.at(node, 2))?)?;
-        steps.push(self.converting(e, self.names.at(node, 0), ty, self.names.at(node, 3))?)?;
+        let steps = self.read_first(place, self.names.at(node, 1))?;
+        let steps = self.with_one(steps, e, self.names.at(node, 2))?;
+        let read = self.names.at(node, 0);
+        let steps = self.with_converted(steps, e, read, ty, self.names.at(node, 3))?;
         let does = Action::Binary {
             op,
             a: self.names.at(node, 2),
             b: self.names.at(node, 1),
         };
-        steps.push(self.computing(e, does, ty, self.names.at(node, 4))?)?;
-        steps.push(self.converting(e, self.names.at(node, 3), place.ty, self.names.at(node, 5))?)?;
-        steps.push(self.writing(place, self.names.at(node, 4), on)?)?;
-        Ok(steps)
+        let steps = self.with_computed(steps, e, does, ty, self.names.at(node, 4))?;
+        let computed = self.names.at(node, 3);
+        let steps = self.with_converted(steps, e, computed, place.ty, self.names.at(node, 5))?;
+        self.with_written(steps, place, self.names.at(node, 4), on)
     }
 
     /// The steps of `++` and `--`.

@@ -1,5 +1,5 @@
 //! The steps of the operators that decide on the way (C99 6.5.13 to 6.5.15).
-ghost use Rattle.std.specs.Prelude.{◌≡◌, ◌++◌, get_or, IfOk, OnOk};
+ghost use Rattle.std.specs.Prelude.{◌≡◌, ◌++◌, get_or, IfOk};
 ghost use Rattle.lk_lower_expr.specs.Counts as counts;
 ghost use Rattle.lk_lower_expr.specs.Reads.{names_by, part_by};
 ghost use Rattle.lk_lower_expr.specs.Naming.{at_of, node_of};
@@ -7,7 +7,7 @@ ghost use Rattle.lk_lower_expr.specs.Values as rules;
 ghost use Rattle.lk_types.specs.Table.{type_at};
 
 use crate::lowering::Lowering;
-use crate::make::step;
+use crate::make::{alone, then};
 use crate::step::Step;
 use crate::value::is_void;
 use lk_base::{Kind, NoMemory, Seq};
@@ -36,9 +36,9 @@ pub(crate) fn way_on(table: &TypeTable, ty: TypeId, own: u32, on: u32) -> u32
 }
 
 impl Lowering<'_> {
-    /// The two results of `&&` and `||`, each put into the hidden slot.
-    fn push_truths(&self, e: &TypedExpr, on: u32, steps: &mut Vec<Step>) -> Result<(), NoMemory>
-        ensures { OnOk result (steps.new.items ≡ steps.old.items ++
+    /// These steps, and behind them the two results of `&&` and `||`, each put into the hidden slot.
+    fn with_truths(&self, steps: Vec<Step>, e: &TypedExpr, on: u32) -> Result<Vec<Step>, NoMemory>
+        ensures { IfOk result (λ longer. longer.items ≡ steps.items ++
             rules.truths (at_of self.now.names.now e.now.ordinal)
             (get_or self.now.names.now.by_node e.now.ordinal 0) (node_of e.now) on) }
     {
@@ -46,21 +46,17 @@ impl Lowering<'_> {
         let int = TypeId::of_kind(Kind::Int);
         let slot = self.names.node_number(node);
         let one = Action::Value { number: 1, ty: int };
+        let steps = self.with_step(steps, one, Some(int), e.spot, self.names.at(node, 3))?;
+        let a = self.names.at(node, 2);
+        let keep = Action::SlotWrite { slot, a };
+        let steps = self.with_step(steps, keep, None, e.spot, self.names.at(node, 6))?;
         let zero = Action::Value { number: 0, ty: int };
-        let keep_one = Action::SlotWrite {
-            slot,
-            a: self.names.at(node, 2),
-        };
-        let keep_zero = Action::SlotWrite {
-            slot,
-            a: self.names.at(node, 4),
-        };
-        steps.push(step(self.alloc, one, Some(int), e.spot, self.names.at(node, 3))?)?;
-        steps.push(step(self.alloc, keep_one, None, e.spot, self.names.at(node, 6))?)?;
-        steps.push(step(self.alloc, zero, Some(int), e.spot, self.names.at(node, 5))?)?;
-        steps.push(step(self.alloc, keep_zero, None, e.spot, self.names.at(node, 6))?)?;
-        steps.push(step(self.alloc, Action::SlotRead(slot), Some(int), e.spot, on)?)?;
-        Ok(())
+        let steps = self.with_step(steps, zero, Some(int), e.spot, self.names.at(node, 5))?;
+        let a = self.names.at(node, 4);
+        let keep = Action::SlotWrite { slot, a };
+        let steps = self.with_step(steps, keep, None, e.spot, self.names.at(node, 6))?;
+        let read = Action::SlotRead(slot);
+        self.with_step(steps, read, Some(int), e.spot, on)
     }
 
     /// The steps of `left && right`.
@@ -78,17 +74,11 @@ impl Lowering<'_> {
         let a = self.value_of(left)?;
         let b = self.value_of(right)?;
         let begins = self.first_of(right)?;
-        let first = branch(self.alloc, e, a, begins, self.names.at(node, 4))?;
-        let mut steps = vec![in self.alloc; first]?;
-        steps.push(branch(
-            self.alloc,
-            e,
-            b,
-            self.names.at(node, 2),
-            self.names.at(node, 4),
-        )?)?;
-        self.push_truths(e, on, &mut steps)?;
-        Ok(steps)
+        let yes = self.names.at(node, 2);
+        let no = self.names.at(node, 4);
+        let steps = alone(self.alloc, branch(self.alloc, e, a, begins, no))?;
+        let steps = then(steps, branch(self.alloc, e, b, yes, no))?;
+        self.with_truths(steps, e, on)
     }
 
     /// The steps of `left || right`.
@@ -106,17 +96,11 @@ impl Lowering<'_> {
         let a = self.value_of(left)?;
         let b = self.value_of(right)?;
         let begins = self.first_of(right)?;
-        let first = branch(self.alloc, e, a, self.names.at(node, 2), begins)?;
-        let mut steps = vec![in self.alloc; first]?;
-        steps.push(branch(
-            self.alloc,
-            e,
-            b,
-            self.names.at(node, 2),
-            self.names.at(node, 4),
-        )?)?;
-        self.push_truths(e, on, &mut steps)?;
-        Ok(steps)
+        let yes = self.names.at(node, 2);
+        let no = self.names.at(node, 4);
+        let steps = alone(self.alloc, branch(self.alloc, e, a, yes, begins))?;
+        let steps = then(steps, branch(self.alloc, e, b, yes, no))?;
+        self.with_truths(steps, e, on)
     }
 
     /// The steps of `condition ? taken : other` of type void.
@@ -136,8 +120,7 @@ impl Lowering<'_> {
         let c = self.value_of(condition)?;
         let yes = self.first_of(taken)?;
         let no = self.first_of(other)?;
-        let first = branch(self.alloc, e, c, yes, no)?;
-        Ok(vec![in self.alloc; first]?)
+        alone(self.alloc, branch(self.alloc, e, c, yes, no))
     }
 
     /// The steps of `condition ? taken : other` of another type: each value goes into the hidden slot.
@@ -156,20 +139,15 @@ impl Lowering<'_> {
     {
         let slot = self.names.node_number(e.ordinal);
         let read = self.names.at(e.ordinal, 3);
-        let keep_taken = Action::SlotWrite {
-            slot,
-            a: self.value_of(taken)?,
-        };
-        let keep_other = Action::SlotWrite {
-            slot,
-            a: self.value_of(other)?,
-        };
-        let mut steps = self.void_steps(e, condition, taken, other, on)?;
-        steps.push(step(self.alloc, keep_taken, None, e.spot, read)?)?;
-        steps.push(step(self.alloc, keep_other, None, e.spot, read)?)?;
+        let a = self.value_of(taken)?;
+        let b = self.value_of(other)?;
+        let steps = self.void_steps(e, condition, taken, other, on)?;
+        let keep_taken = Action::SlotWrite { slot, a };
+        let steps = self.with_step(steps, keep_taken, None, e.spot, read)?;
+        let keep_other = Action::SlotWrite { slot, a: b };
+        let steps = self.with_step(steps, keep_other, None, e.spot, read)?;
         let gives = self.value_type(e.ty);
-        steps.push(step(self.alloc, Action::SlotRead(slot), gives, e.spot, on)?)?;
-        Ok(steps)
+        self.with_step(steps, Action::SlotRead(slot), gives, e.spot, on)
     }
 
     /// The steps of `condition ? taken : other`.

@@ -9,7 +9,7 @@ ghost use Rattle.lk_lower_expr.specs.Reads.{names_by, part_by};
 ghost use Rattle.lk_lower_expr.specs.Naming.{node_of};
 
 use crate::lowering::Lowering;
-use crate::make::{one_step, step};
+use crate::make::{alone, one_step, step};
 use crate::step::Step;
 use lk_base::{Boxed, NoMemory, Seq};
 use lk_facts::Action;
@@ -46,20 +46,20 @@ impl Lowering<'_> {
             (part_by self.now id.now)
             entity (part_by self.now argument.now)).steps on) }
     {
-        let does = Action::Create {
-            function: self.names.function_number(entity),
-            a: self.value_of(argument)?,
-        };
+        let a = self.value_of(argument)?;
+        let id_at = self.value_of(id)?;
+        let next = vec![in self.alloc; self.names.at(e.ordinal, 1), on]?;
         let first = Step {
-            does,
+            does: Action::Create {
+                function: self.names.function_number(entity),
+                a,
+            },
             gives: self.value_type(e.ty),
-            next: Seq::new(vec![in self.alloc; self.names.at(e.ordinal, 1), on]?),
+            next: Seq::new(next),
             spot: e.spot,
         };
-        let store = Action::StoreId(self.value_of(id)?);
-        let mut steps = vec![in self.alloc; first]?;
-        steps.push(step(self.alloc, store, None, id.spot, on)?)?;
-        Ok(steps)
+        let steps = alone(self.alloc, Ok(first))?;
+        self.with_step(steps, Action::StoreId(id_at), None, id.spot, on)
     }
 
     /// The steps of `pthread_cond_wait`: the mutex is released and then taken again.
@@ -76,21 +76,12 @@ impl Lowering<'_> {
             (part_by self.now mutex.now)).steps on) }
     {
         let mutex = self.value_of(mutex)?;
-        let release = Action::Release {
-            cond: self.value_of(cond)?,
-            mutex,
-        };
+        let cond = self.value_of(cond)?;
+        let release = Action::Release { cond, mutex };
         let gives = self.value_type(e.ty);
-        let first = step(
-            self.alloc,
-            release,
-            gives,
-            e.spot,
-            self.names.at(e.ordinal, 1),
-        )?;
-        let mut steps = vec![in self.alloc; first]?;
-        steps.push(step(self.alloc, Action::Retake(mutex), None, e.spot, on)?)?;
-        Ok(steps)
+        let own = self.names.at(e.ordinal, 1);
+        let steps = alone(self.alloc, step(self.alloc, release, gives, e.spot, own))?;
+        self.with_step(steps, Action::Retake(mutex), None, e.spot, on)
     }
 
     /// The step of an allocation of so many elements.

@@ -1,5 +1,5 @@
 //! What the steps of expressions are made of.
-ghost use Rattle.std.specs.Prelude.{◌≡◌, ◌∷◌, [], IfOk, Some};
+ghost use Rattle.std.specs.Prelude.{◌≡◌, ◌∷◌, ◌++◌, [], IfOk, IsOkAnd, Some};
 ghost use Rattle.lk_base.specs.declared.kind.Kind.TheVariants.{Int as IntKind};
 ghost use Rattle.lk_facts.specs.declared.action.Action.TheVariants as does;
 ghost use Rattle.lk_lower_expr.specs.Reads.{names_by, part_by};
@@ -13,6 +13,26 @@ use lk_facts::Action;
 use lk_typed::TypedExpr;
 use lk_types::{CType, TypeId};
 use std::alloc::Global;
+
+/// A list of one item, where that is there. It is generic, so that steps are let go in one place.
+pub(crate) fn alone<T: Drop>(alloc: Global, item: Result<T, NoMemory>) -> Result<Vec<T>, NoMemory>
+    ensures { IfOk result (λ list. IsOkAnd item (λ item. list.items ≡ item ∷ [])) }
+{
+    let item = item?;
+    let mut list = Vec::new(alloc);
+    list.push(item)?;
+    Ok(list)
+}
+
+/// A list with one more item behind it, where that is there.
+pub(crate) fn then<T: Drop>(list: Vec<T>, item: Result<T, NoMemory>) -> Result<Vec<T>, NoMemory>
+    ensures { IfOk result (λ longer. IsOkAnd item (λ item. longer.items ≡ list.items ++ item ∷ [])) }
+{
+    let item = item?;
+    let mut longer = list;
+    longer.push(item)?;
+    Ok(longer)
+}
 
 /// A step after which control goes on at one point.
 pub(crate) fn step(
@@ -42,8 +62,7 @@ pub(crate) fn one_step(
 ) -> Result<Vec<Step>, NoMemory>
     ensures { IfOk result (λ steps. steps.items ≡ parts.step does gives spot on ∷ []) }
 {
-    let is = step(alloc, does, gives, spot, on)?;
-    Ok(vec![in alloc; is]?)
+    alone(alloc, step(alloc, does, gives, spot, on))
 }
 
 /// The step that gives a number of type int.
@@ -62,6 +81,21 @@ pub(crate) fn int_step(
 }
 
 impl Lowering<'_> {
+    /// These steps, and behind them one after which control goes on at one point.
+    pub(crate) fn with_step(
+        &self,
+        steps: Vec<Step>,
+        does: Action,
+        gives: Option<TypeId>,
+        spot: Spot,
+        on: u32,
+    ) -> Result<Vec<Step>, NoMemory>
+        ensures { IfOk result (λ longer.
+            longer.items ≡ steps.items ++ parts.step does gives spot on ∷ []) }
+    {
+        then(steps, step(self.alloc, does, gives, spot, on))
+    }
+
     /// The type of a value: void has none.
     pub fn value_type(&self, ty: TypeId) -> Option<TypeId>
         ensures { result ≡ parts.value_of (names_by self.now) ty }

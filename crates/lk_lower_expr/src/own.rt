@@ -6,7 +6,7 @@ ghost use Rattle.lk_lower_expr.specs.Reads.{names_by, part_by};
 ghost use Rattle.lk_lower_expr.specs.Values as rules;
 
 use crate::lowering::Lowering;
-use crate::make::int_step;
+use crate::make::{int_step, then};
 use crate::step::Step;
 use lk_base::NoMemory;
 use lk_typed::{TypedExpr, TypedForm};
@@ -78,9 +78,8 @@ impl Lowering<'_> {
             (rules.load_part (names_by self.now) (node_of e.now) (part_by self.now place.now)).steps on) }
     {
         let own = self.behind(e.ordinal, place, 0)?;
-        let mut steps = self.steps_at(e.ordinal, place, own)?;
-        steps.push(self.load_step(e, place, on)?)?;
-        Ok(steps)
+        let steps = self.steps_at(e.ordinal, place, own)?;
+        then(steps, self.load_step(e, place, on))
     }
 
     /// The steps of a value, and then that of its conversion.
@@ -95,9 +94,8 @@ impl Lowering<'_> {
             (rules.convert_part (names_by self.now) (node_of e.now) (part_by self.now value.now)).steps on) }
     {
         let own = self.behind(e.ordinal, value, 0)?;
-        let mut steps = self.steps_at(e.ordinal, value, own)?;
-        steps.push(self.convert_step(e, value, on)?)?;
-        Ok(steps)
+        let steps = self.steps_at(e.ordinal, value, own)?;
+        then(steps, self.convert_step(e, value, on))
     }
 
     /// The steps of an array, and then those of the pointer to its first element.
@@ -108,9 +106,8 @@ impl Lowering<'_> {
     {
         let zero = self.behind(e.ordinal, array, 0)?;
         let own = self.behind(e.ordinal, array, 1)?;
-        let mut steps = self.steps_at(e.ordinal, array, zero)?;
-        steps.push(int_step(self.alloc, e, 0, own)?)?;
-        steps.push(self.element_step(e, array, zero, on)?)?;
-        Ok(steps)
+        let steps = self.steps_at(e.ordinal, array, zero)?;
+        let steps = then(steps, int_step(self.alloc, e, 0, own))?;
+        then(steps, self.element_step(e, array, zero, on))
     }
 }

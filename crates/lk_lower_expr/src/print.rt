@@ -6,7 +6,7 @@ ghost use Rattle.lk_lower_expr.specs.Reads.{names_by, part_by};
 ghost use Rattle.lk_lower_expr.specs.Naming.{at_of, node_of};
 
 use crate::lowering::Lowering;
-use crate::make::step;
+use crate::make::{alone, step};
 use crate::step::Step;
 use crate::value::{is_text, text_count, with_more};
 use lk_base::NoMemory;
@@ -37,8 +37,7 @@ impl Lowering<'_> {
             (part_by self.now text.now)).steps on) }
     {
         let gives = self.value_type(e.ty);
-        let is = self.scan_step(text, gives, on)?;
-        Ok(vec![in self.alloc; is]?)
+        alone(self.alloc, self.scan_step(text, gives, on))
     }
 
     /// Where control goes on before the step `k` of a call that reads that many texts more.
