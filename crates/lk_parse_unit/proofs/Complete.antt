@@ -41,7 +41,7 @@ use Rattle.lk_parse_expr.specs.declared.naming.Naming.TheVariants as naming
 use Rattle.lk_parse_expr.specs.Declarations as d
 use Rattle.lk_lex.specs.TokenList.{is_end}
 use Rattle.lk_parse_unit.specs.Leads.{lead_of}
-use Rattle.lk_parse_unit.specs.Reading.{optional, condition, scope, labelled, case_of, default_of, is_late_label, block_item, block_items, block, expression, if_behind, if_of, switch_of, while_of, until_of, for_first, for_head, for_of, goto_of, return_of, stmt_by, stmt_from, stmt, body_items, body, declared_behind, declared, external_from, external, unit}
+use Rattle.lk_parse_unit.specs.Reading.{optional, condition, scope, labelled, case_of, default_of, is_late_label, block_item, block_items, block, expression, if_behind, if_of, switch_of, while_of, until_of, for_first, for_head, for_of, goto_of, return_of, stmt_by, stmt_from, stmt, body_items, function_body, declared_behind, declared, external_from, external, unit}
 use Rattle.lk_parse_unit.proofs.Left.{shorter-item, shorter-decl, stmt_begins, stmt_one, scope_one, item_begins, decl_begins, decl_one, decl_no_end, word_alone}
 
 -- reading a keyword that is there
@@ -233,18 +233,24 @@ body_read zero some list so = absurd (omega arith)
 body_read (suc n) some list so = around (items_read n (stmt n) (stmts n) list so)
 
 module _ (m : ℕ) where
+  function_body_read : {l : ℕ} {items : List BlockItem} (name : List ℕ) (typedef : Bool) (parameters : Names) (brace : Input) {close : Input} → 1 ≤ m
+      → ReadsBlockItems l items (next (with_names parameters (declare name typedef brace))) close → peek close ≡ k.Punct p.CloseBrace
+      → Answers m (1 + l) (stmt_at brace (s.Block items)) (leave (declare name typedef brace) (next close)) (function_body m name typedef parameters brace)
+  unfolding function_body
+  function_body_read name typedef parameters brace {close} some items so = and_so _ (body_read m some items so) (omega arith) (λ c same. expects close _ so (fits c same refl))
+
   function_read : {g h l : ℕ} {typedef : Bool} {specifiers : List Specifier} {inner : Declarator} {name : List ℕ} {parameters : Names} {items : List BlockItem} (from mid brace : Input) {close : Input}
       → ReadsSpecifiers false g typedef specifiers from mid → ReadsDeclarator naming.Named 0 h inner (head.Function name parameters) mid brace → peek brace ≡ k.Punct p.OpenBrace
       → ReadsBlockItems l items (next (with_names parameters (declare name typedef brace))) close → peek close ≡ k.Punct p.CloseBrace
       → Answers (suc m) (1 + max g (max h (1 + l)))
       (decl.Function (record { spot = here from; ordinal = 0; specifiers = specifiers; declarator = inner; body = stmt_at brace (s.Block items) }))
       (leave (declare name typedef brace) (next close)) (external_from m (here from) from)
-  unfolding external_from declared body
+  unfolding external_from declared
   function_read {g} {h} {l} from mid brace {close} list inner is items so =
       rw (no_punct false p.Semicolon from (specifiers_begin list)) (around (and_so _ (specifiers_read m (readers m) (complete m) list) (omega arith) (λ a same.
       rw (semicolon_no_declarator naming.Named mid (declarator_begins inner)) (and_so _ ((complete m).declarator inner (brace_no_declarator brace is)) (omega arith) (λ b also.
-      rw (sees-same p.OpenBrace brace is) (and_so _ (body_read m (omega (arith, declarator_one inner)) items so) (omega arith) (λ c too.
-      expects close _ so (fits (min a (min b c)) (omega arith) refl))))))))
+      rw (sees-same p.OpenBrace brace is) (and_so _ (function_body_read _ _ _ brace (omega (arith, declarator_one inner)) items so) (omega arith) (λ c too.
+      fits (min a (min b c)) (omega arith) refl)))))))
 
   decl_read : {h : ℕ} {one : Decl} {from rest : Input} → ReadsDecl h one from rest → Answers (suc m) h one rest (external_from m (here from) from)
   unfolding external_from declared declared_behind

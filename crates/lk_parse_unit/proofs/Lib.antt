@@ -1,5 +1,4 @@
 pub mod Levels
-pub mod FunctionBodies
 pub mod Left
 pub mod Complete
 pub mod Sound

@@ -651,16 +651,18 @@ module _ (from : Input) where
   body_items_at (suc n) i at = block_items_at n (u.stmt n) (stmt_at_ n) i at
 
   module _ (m : ℕ) where
-    body_at : (spot brace : Spot) (first : Found (List Specifier × Bool)) (inner : Found (Declarator × Head)) (outer i : Input) → IsBehind from i → Places from (u.body m spot brace first inner outer i)
-    unfolding u.body
-    body_at spot brace first inner outer i at = and_places (u.body_items m i) _ (body_items_at m i at) (λ items j at. expect_at p.CloseBrace j _ at (λ at. left_at outer (next j) at))
+    function_body_at : (name : List ℕ) (typedef : Bool) (parameters : Names) (i : Input) → IsBehind from i → Places from (u.function_body m name typedef parameters i)
+    unfolding u.function_body
+    function_body_at name typedef parameters i at =
+        let outer : Input = declare name typedef i in
+        let j : Input = with_names parameters outer in
+        and_places (u.body_items m (next j)) _ (body_items_at m (next j) (on j (named_at parameters outer (declared_at name typedef i at)))) (λ items k at. expect_at p.CloseBrace k _ at (λ at. left_at outer (next k) at))
 
     function_by_at : (spot : Spot) (first : Found (List Specifier × Bool)) (inner : Found (Declarator × Head)) (h : Head) (i : Input) → IsBehind from i → Places from (u.function_by m spot first inner h i)
     function_by_at spot first inner head.Abstract i at = syntax_there i at
     function_by_at spot first inner (head.Bare name) i at = syntax_there i at
     function_by_at spot first inner (head.Function name parameters) i at =
-        let j : Input = with_names parameters (declare name first.tree.1 i) in
-        body_at spot (here i) first inner (declare name first.tree.1 i) (next j) (on j (named_at parameters (declare name first.tree.1 i) (declared_at name first.tree.1 i at)))
+        and_places (u.function_body m name first.tree.1 parameters i) _ (function_body_at name first.tree.1 parameters i at) (λ body j at. at)
     function_by_at spot first inner (head.Other name) i at = syntax_there i at
 
     declared_behind_at : (spot : Spot) (first : Found (List Specifier × Bool)) (inner : Found (Declarator × Head)) (i : Input) → IsBehind from i → Places from (u.declared_behind m spot first inner i)

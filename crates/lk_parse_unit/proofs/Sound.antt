@@ -17,7 +17,7 @@ use Rattle.lk_parse_expr.specs.declared.found.Found.{Found}
 use Rattle.lk_parse_expr.specs.declared.naming.Naming.TheVariants as naming
 use Rattle.lk_parse_expr.specs.declared.naming.Head.{Head}
 use Rattle.lk_parse_expr.specs.declared.naming.Head.TheVariants as head
-use Rattle.lk_parse_expr.specs.Input.{Input, peek, here, next, declare, leave, with_names}
+use Rattle.lk_parse_expr.specs.Input.{Input, Names, peek, here, next, declare, leave, with_names}
 use Rattle.lk_parse_expr.specs.Words.{begins_specifiers}
 use Rattle.lk_parse_expr.specs.Readers.{same_keyword, Parser, exhausted, is_key, sees, sees_key, found, repeat}
 use Rattle.lk_parse_expr.specs.Grammar.{ReadsExpr, ReadsDeclarator}
@@ -36,7 +36,7 @@ use Rattle.lk_parse_decl.specs.Reading.{declaration, declarators_behind}
 use Rattle.lk_parse_decl.proofs.Sound.{declarations_have, behind_has}
 use Rattle.lk_lex.specs.TokenList.{is_end}
 use Rattle.lk_parse_unit.specs.Leads.{lead_of}
-use Rattle.lk_parse_unit.specs.Reading.{optional, condition, scope, labelled, case_of, default_of, is_late_label, block_item, block_items, block, expression, if_behind, if_of, switch_of, while_of, until_of, for_first, for_head, for_of, goto_of, return_of, stmt_by, stmt_from, stmt, body_items, body, function_by, declared_behind, declared, external_from, external, unit}
+use Rattle.lk_parse_unit.specs.Reading.{optional, condition, scope, labelled, case_of, default_of, is_late_label, block_item, block_items, block, expression, if_behind, if_of, switch_of, while_of, until_of, for_first, for_head, for_of, goto_of, return_of, stmt_by, stmt_from, stmt, body_items, function_body, function_by, declared_behind, declared, external_from, external, unit}
 
 no_else : (i : Input) → sees_key w.Else i ≡ false → is_else (peek i) ≡ false
 unfolding sees_key same_keyword
@@ -223,15 +223,37 @@ module _ (m : ℕ) where
   abbrev Heads : Input → Found (Declarator × Head) → Input → Type 0
   Heads mid f rest = Has m (λ h one rest. ReadsDeclarator naming.Named 0 h one.0 one.1 mid rest) f rest
 
+  -- the body of a function is a block of what is read between its braces
+  record HasBody (name : List ℕ) (typedef : Bool) (parameters : Names) (brace : Input) (body : Found Stmt) (rest : Input) : Type 0 where
+    level : ℕ
+    items : List BlockItem
+    close : Input
+    is : body.tree ≡ stmt_at brace (s.Block items)
+    reads : ReadsBlockItems level items (next (with_names parameters (declare name typedef brace))) close
+    shut : peek close ≡ k.Punct p.CloseBrace
+    behind : rest ≡ leave (declare name typedef brace) (next close)
+    all : 1 + level + body.room ≡ m
+
+  function_body_has : (name : List ℕ) (typedef : Bool) (parameters : Names) (brace : Input)
+      → Yields (HasBody name typedef parameters brace) (function_body m name typedef parameters brace)
+  unfolding function_body
+  function_body_has name typedef parameters brace =
+      let inside = next (with_names parameters (declare name typedef brace)) in
+      and_yields _ _ (body_items m inside) _ (body_has m inside) (λ items i has. after_expect _ p.CloseBrace i _ (λ so.
+      record { level = _; items = items.tree; close = i; is = refl; reads = run_items has.1 so; shut = so; behind = refl; all = has.2 }))
+
   function_has : (from mid brace : Input) (first : Found (List Specifier × Bool)) (room : ℕ) (inner : Declarator) (h : ℕ) (which : Head) → IsList m (readers m) (sounds m) from first mid
       → ReadsDeclarator naming.Named 0 h inner which mid brace → h + room ≡ m → peek brace ≡ k.Punct p.OpenBrace
       → Yields (IsDecl from) (function_by m (here from) first (found (inner, which) room) which brace)
-  unfolding body
   function_has from mid brace first room inner h head.Abstract list reads all is = tt
   function_has from mid brace first room inner h (head.Bare name) list reads all is = tt
   function_has from mid brace first room inner h (head.Function name parameters) list reads all is =
-      and_yields _ _ (body_items m (next (with_names parameters (declare name first.tree.1 brace)))) _ (body_has m (next (with_names parameters (declare name first.tree.1 brace)))) (λ items i has.
-      after_expect _ p.CloseBrace i _ (λ so. record { depth = _; reads = g.function list.reads reads is (run_items has.1 so) so; all = (let a = list.all in let b = has.2 in omega arith) }))
+      and_yields _ _ (function_body m name first.tree.1 parameters brace) _ (function_body_has name first.tree.1 parameters brace) (λ body i has.
+      record {
+        depth = 1 + max list.depth (max h (1 + has.level));
+        reads = rw (has.is, has.behind) (g.function list.reads reads is has.reads has.shut);
+        all = (let a = list.all in let b = has.all in omega arith);
+      })
   function_has from mid brace first room inner h (head.Other name) list reads all is = tt
 
   declared_has : (from mid : Input) (first : Found (List Specifier × Bool)) → IsList m (readers m) (sounds m) from first mid → Yields (IsDecl from) (declared m (here from) first mid)

@@ -153,27 +153,22 @@ body_items zero = refuse
 body_items (suc n) = block_items n (stmt n)
 
 module _ (m : ℕ) where
-  -- behind the `{` of the body of a function
-  unfoldable pub body : Spot → Spot → Found (List Specifier × Bool) → Found (Declarator × Head) → Input → Parser (Found Decl)
-  body spot brace first inner outer = body_items m >>= (λ items. expect p.CloseBrace >> (λ i.
-      Ok (
-        found (decl.Function (record { spot = spot; ordinal = 0; specifiers = first.tree.0; declarator = inner.tree.0; body = stmt_on brace (s.Block items.tree) }))
-            (min first.room (min inner.room items.room)),
-        leave outer i,
-      )))
-
-  abbrev pub function_by : Spot → Found (List Specifier × Bool) → Found (Declarator × Head) → Head → Parser (Found Decl)
-  function_by spot first inner head.Abstract = refuse
-  function_by spot first inner (head.Bare name) = refuse
-  function_by spot first inner (head.Function name parameters) = λ i.
-      (take >> body spot (here i) first inner (declare name first.tree.1 i)) (with_names parameters (declare name first.tree.1 i))
-  function_by spot first inner (head.Other name) = refuse
-
-  -- the body alone, of a function of this name with these parameters, which are in scope in it
+  -- the body of a function of this name with these parameters, which are in scope in it; its `{` is next
   unfoldable pub function_body : List ℕ → Bool → Names → Parser (Found Stmt)
   function_body name typedef parameters = λ i.
       (take >> (body_items m >>= (λ items. expect p.CloseBrace >> (λ j. Ok (found (stmt_on (here i) (s.Block items.tree)) items.room, leave (declare name typedef i) j)))))
       (with_names parameters (declare name typedef i))
+
+  -- the definition of a function that has this body
+  abbrev pub defined : Spot → Found (List Specifier × Bool) → Found (Declarator × Head) → Found Stmt → Found Decl
+  defined spot first inner body =
+      found (decl.Function (record { spot = spot; ordinal = 0; specifiers = first.tree.0; declarator = inner.tree.0; body = body.tree })) (min first.room (min inner.room body.room))
+
+  abbrev pub function_by : Spot → Found (List Specifier × Bool) → Found (Declarator × Head) → Head → Parser (Found Decl)
+  function_by spot first inner head.Abstract = refuse
+  function_by spot first inner (head.Bare name) = refuse
+  function_by spot first inner (head.Function name parameters) = function_body name first.tree.1 parameters >>= (λ body. pure (defined spot first inner body))
+  function_by spot first inner (head.Other name) = refuse
 
   -- a declaration, behind its specifiers and its first declarator
   unfoldable pub declared_behind : Spot → Found (List Specifier × Bool) → Found (Declarator × Head) → Parser (Found Decl)

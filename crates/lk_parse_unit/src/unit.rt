@@ -81,7 +81,6 @@ fn body_behind<B: Drop>(
 }
 
 /// The definition of a function behind its declarator, which declares this. Its `{` is next.
-#[tactic(auto, using(crate::proofs::FunctionBodies::function_is))]
 fn function(
     alloc: Global,
     cursor: &mut Cursor<'_>,
