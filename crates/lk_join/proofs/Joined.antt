@@ -15,7 +15,7 @@ use Rattle.lk_join.specs.Sources.{AreLinked}
 use Rattle.lk_join.proofs.Typing.{entities_at, row_at, source_at}
 
 module _ (units : Units) where
-  same_entity_at : (s e : ℕ) (a b : Entity) → IsEntity units s e a → IsEntity units s e b → a ≡ b
+  pub same_entity_at : (s e : ℕ) (a b : Entity) → IsEntity units s e a → IsEntity units s e b → a ≡ b
   same_entity_at s e a b h k =
       let unit = same_Some h.unit k.unit (sym h.at ∙ k.at) in
       same_Some a b (sym h.stands ∙ ap (λ (u : TypedUnit). slice_get u.entities e) unit ∙ k.stands)

@@ -1,5 +1,6 @@
 pub mod Chains
 pub mod Completed
+pub mod Counting
 pub mod Distinct
 pub mod Entering
 pub mod Giving
@@ -13,6 +14,8 @@ pub mod Refusing
 pub mod Relabelling
 pub mod Saying
 pub mod Shaping
+pub mod Starting
+pub mod Stepping
 pub mod Symmetry
 pub mod Taking
 pub mod Typing

@@ -1,7 +1,9 @@
 -- Forms of a source, made of the program's types.
-use Rattle.std.proofs.Common.{◌≡◌, ℕ, Bool, List, subst, sym}
+use Rattle.std.proofs.Common.{◌≡◌, ◌<◌, ◌∷◌, ℕ, All, Bool, List, length, subst, sym}
 use Rattle.std.specs.List.{AllZip}
 use Rattle.lk_base.specs.declared.kind.Kind.{Kind}
+use Rattle.lk_types.specs.Building.{IsMadeOf}
+use Rattle.lk_types.specs.Table.{Table}
 use Rattle.lk_types.specs.declared.c_type.CType.{CType}
 use Rattle.lk_types.specs.declared.c_type.CType.TheVariants.{Void, Int, ThreadId, Mutex, Cond, Pointer, Array, Struct, Function, Opaque}
 use Rattle.lk_join.specs.Forms.{HasForm, IsHere}
@@ -40,3 +42,17 @@ module _ (row structs : List ℕ) (form : CType) where
 
   pub has_function : (a b : ℕ) (ps qs given : List ℕ) (dots : Bool) → form ≡ Function a ps dots → given ≡ ps → IsHere row a b → AllZip (IsHere row) given qs → HasForm row structs form (Function b qs dots)
   has_function a b ps qs given dots is same at each = by_form is (function at (subst (λ ts. AllZip (IsHere row) ts qs) same each))
+
+-- what the first n types of a table are enough for
+module _ (table : Table) (n : ℕ) (form : CType) (made : IsMadeOf table n form) where
+  pub of_pointer : (a : ℕ) → form ≡ Pointer a → a < n
+  of_pointer a is = subst (IsMadeOf table n) is made
+
+  pub of_array : (a k : ℕ) → form ≡ Array a k → a < n
+  of_array a k is = subst (IsMadeOf table n) is made
+
+  pub of_struct : (a : ℕ) → form ≡ Struct a → a < length table.members
+  of_struct a is = (subst (IsMadeOf table n) is made).0
+
+  pub of_function : (a : ℕ) (ps : List ℕ) (dots : Bool) → form ≡ Function a ps dots → All (λ u. u < n) (a ∷ ps)
+  of_function a ps dots is = subst (IsMadeOf table n) is made

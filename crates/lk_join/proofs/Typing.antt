@@ -1,6 +1,6 @@
 -- The types of a program, from those that were put.
-use Rattle.std.proofs.Common.{◌≡◌, ◌∙◌, ◌↔◌, ◌<◌, ℕ, List, [], Option, Some, None, All, arith, length, refl, sym, ap, subst, map}
-use Rattle.std.proofs.lemmas.Option.{none-some, same_Some, slice_get-map, slice_get_within}
+use Rattle.std.proofs.Common.{◌≡◌, ◌∙◌, ◌↔◌, ◌<◌, ℕ, List, [], Option, Some, None, All, arith, length, refl, sym, ap, subst}
+use Rattle.std.proofs.lemmas.Option.{none-some, same_Some, slice_get-map}
 use Rattle.std.specs.List.{slice_get, AllZip}
 use Rattle.std.specs.Option.{option_map}
 use Rattle.std.specs.Prelude.{unwrap_or}
@@ -15,7 +15,6 @@ use Rattle.lk_typed.specs.declared.whole.Whole.{Whole}
 use Rattle.lk_types.specs.Table.{members_of}
 use Rattle.lk_types.specs.declared.c_type.CType.{CType}
 use Rattle.lk_types.specs.declared.c_type.CType.TheVariants.{Struct}
-use Rattle.lk_types.proofs.GrowLemmas.{get_before}
 use Rattle.lk_types.proofs.SizeLemmas.{all_read}
 use Rattle.lk_join.specs.Classes.{AreOneStruct}
 use Rattle.lk_join.specs.Forms.{AreRowsOf, HasForm, HasPointer, IsHere, IsMember, IsPutAt}
@@ -42,15 +41,11 @@ module _ (whole : Whole) (units : Units) (rows entities : List (List ℕ)) (link
 
   pub row_at : (s : ℕ) (source : Linked) → slice_get whole.sources s ≡ Some source → slice_get rows s ≡ Some source.types
   row_at s source at =
-      let types = map (λ source. source.types) whole.sources in
-      let there = slice_get-map (λ source. source.types) whole.sources s ∙ ap (option_map (λ source. source.types)) at in
-      ap (λ rs. slice_get rs s) linked.types_are.1 ∙ get_before types linked.types_are.0 s (slice_get_within types s source.types there) ∙ there
+      ap (λ rs. slice_get rs s) (sym linked.types_are) ∙ slice_get-map (λ source. source.types) whole.sources s ∙ ap (option_map (λ source. source.types)) at
 
   pub entities_at : (s : ℕ) (source : Linked) → slice_get whole.sources s ≡ Some source → slice_get entities s ≡ Some source.entities
   entities_at s source at =
-      let numbers = map (λ source. source.entities) whole.sources in
-      let there = slice_get-map (λ source. source.entities) whole.sources s ∙ ap (option_map (λ source. source.entities)) at in
-      ap (λ rs. slice_get rs s) linked.entities_are.1 ∙ get_before numbers linked.entities_are.0 s (slice_get_within numbers s source.entities there) ∙ there
+      ap (λ rs. slice_get rs s) (sym linked.entities_are) ∙ slice_get-map (λ source. source.entities) whole.sources s ∙ ap (option_map (λ source. source.entities)) at
 
   module _ (structs : List (List ℕ)) (s : ℕ) (source : Linked) (at : slice_get whole.sources s ≡ Some source) (here : List ℕ) (there : slice_get structs s ≡ Some here) where
     type_is : (t n : ℕ) → IsHere source.types t n → IsTypeHere whole s t n

@@ -1,9 +1,10 @@
 -- The members of the program's structs: a source gives them, with the program's types (C99 6.2.7).
-use Rattle.std.specs.Prelude.{◌≡◌, ◌<◌, ℕ, true, false, List, Some, length, slice_get}
+use Rattle.std.specs.Prelude.{◌≡◌, ◌<◌, ℕ, All, true, false, List, Some, length, slice_get}
 use Rattle.std.specs.List.{AllZip}
 use Rattle.lk_link.specs.Sources.{Units}
 use Rattle.lk_typed.specs.declared.unit.TypedUnit.{TypedUnit}
-use Rattle.lk_types.specs.Building.{IsLonger}
+use Rattle.lk_types.specs.Building.{IsLonger, types_of}
+use Rattle.lk_types.specs.Sizes.{steps_of}
 use Rattle.lk_types.specs.Table.{Table, is_open, members_of}
 use Rattle.lk_join.specs.Forms.{IsHere, IsMember}
 
@@ -27,6 +28,11 @@ HaveSameMembers old new = (n : ℕ) → members_of new n ≡ members_of old n
 -- no struct of the table is complete
 abbrev pub AreOpen : Table → Type 0
 AreOpen table = (n : ℕ) → is_open table n ≡ true
+
+-- a struct whose members have fewer steps than this
+pub record HasStepsBelow (types : Table) (steps s : ℕ) : Type 0 where
+  pub known : s < length types.members
+  pub members : All (λ t. steps_of types t < steps) (types_of (members_of types s))
 
 -- the program has members of a struct, where the source completes it
 abbrev pub IsCompleted : (types : Table) → (structs : List ℕ) → Table → ℕ → Type 0

@@ -1,21 +1,19 @@
 //! Structs of a source completed in the program.
-ghost use Rattle.std.specs.Prelude.{◌≡◌, ◌<◌, ◌↔◌, All, IfOk, IfSome, IsTrue, OnOk, false, length};
+ghost use Rattle.std.specs.Prelude.{◌≡◌, ◌<◌, ◌↔◌, All, IfSome, IsTrue, OnOk, false, length};
 ghost use Rattle.lk_types.specs.Building.{CanComplete, IsPartOfObjects, types_of};
-ghost use Rattle.lk_types.specs.Sizes.{fields_size, is_too_large};
+ghost use Rattle.lk_types.specs.Sizes.{fields_size, is_too_large, steps_of};
 ghost use Rattle.lk_types.specs.Table.{IsKnown, is_empty, is_open};
-ghost use Rattle.lk_join.specs.Completing.{AreCompleted, GivesMembers, IsCompleted};
+ghost use Rattle.lk_join.specs.Completing.{AreCompleted, GivesMembers, HasStepsBelow, IsCompleted};
 
 use crate::forms::Source;
 use lk_base::{MOST_TYPE_STEPS, NoMemory};
 use lk_types::{CType, StructMember, TypeId, TypeTable};
 
-/// The number of the struct, where a type of the table is one.
+/// The number of the struct, where a type of the table is one. Its members have fewer steps than the type.
 fn struct_of(types: &TypeTable, t: TypeId) -> Option<u32>
-    ensures { IfSome result (λ s. s < length types.now.members) }
+    requires { IsKnown types.now t }
+    ensures { IfSome result (HasStepsBelow types.now (steps_of types.now t)) }
 {
-    if t.0 >= types.count() {
-        return None;
-    }
     match types.get(t) {
         CType::Struct(s) => Some(*s),
         CType::Void
@@ -33,6 +31,7 @@ fn struct_of(types: &TypeTable, t: TypeId) -> Option<u32>
 /// The type of which a type is an array, where it is one.
 fn element_of(types: &TypeTable, t: TypeId) -> Option<TypeId>
     requires { IsKnown types.now t }
+    ensures { IfSome result (IsKnown types.now) }
 {
     match types.get(t) {
         CType::Array(element, _) => Some(*element),
@@ -67,6 +66,13 @@ fn is_open(table: &TypeTable, s: u32) -> bool
     table.members(s).is_empty()
 }
 
+/// Whether the types of these members have numbers in the program.
+fn are_here(row: &[TypeId], members: &[StructMember]) -> bool
+    ensures { IsTrue result ↔ All (λ member. member.ty < length row.now) members.now }
+{
+    members.iter().all(|member| member.ty.index() < row.len())
+}
+
 /// Whether there are no members.
 fn are_none(members: &[StructMember]) -> bool
     ensures { result ≡ is_empty members.now }
@@ -98,14 +104,17 @@ fn can_complete(table: &TypeTable, s: u32, members: &[StructMember]) -> bool
 
 impl Source<'_> {
     /// Gives a struct of the program the members of one of the source. `NoMemory` where it can't have them, which doesn't
-    /// come: it has none yet, and their types are complete, as they are in the source.
+    /// come: it has none yet, and their types have their numbers and are complete, as they are in the source.
     fn give_members(&self, row: &[TypeId], s: u32, table: &mut TypeTable) -> Result<(), NoMemory>
         requires { s < length self.now.types.now.members }
         ensures gives { OnOk result
             (GivesMembers self.now.types.now row.now self.now.structs.now table.old table.new) }
         ensures completed { OnOk result (IsCompleted self.now.types.now self.now.structs.now table.new s) }
     {
-        let here = self.struct_here(s)?;
+        let here = self.struct_here(s);
+        if !are_here(row, self.types.members(s)) {
+            return Err(NoMemory);
+        }
         let members = self.members_here(row, s)?;
         if !can_complete(table, here, members.list()) {
             return Err(NoMemory);
@@ -115,20 +124,18 @@ impl Source<'_> {
     }
 
     /// Whether the program has members of a struct of the source, or the source has none.
-    fn is_completed(&self, s: u32, table: &TypeTable) -> Result<bool, NoMemory>
+    fn is_completed(&self, s: u32, table: &TypeTable) -> bool
         requires { s < length self.now.types.now.members }
-        ensures { IfOk result (λ done.
-            IsTrue done → IsCompleted self.now.types.now self.now.structs.now table.now s) }
+        ensures { IsTrue result → IsCompleted self.now.types.now self.now.structs.now table.now s }
     {
-        let here = self.struct_here(s)?;
         if is_open(self.types, s) {
-            return Ok(true);
+            return true;
         }
-        Ok(has_members(table, here))
+        has_members(table, self.struct_here(s))
     }
 
-    /// Completes a struct in the program, where the source completes it, and before it those that it holds by value. At
-    /// most `steps` structs stand in one another: `NoMemory` beyond, which doesn't come within the bounds of types.
+    /// Completes a struct in the program, where the source completes it, and before it those that it holds by value. Its
+    /// members have fewer than so many steps.
     fn complete(
         &self,
         row: &[TypeId],
@@ -136,17 +143,13 @@ impl Source<'_> {
         steps: u32,
         table: &mut TypeTable,
     ) -> Result<(), NoMemory>
-        requires { s < length self.now.types.now.members }
+        requires { HasStepsBelow self.now.types.now steps s }
         ensures gives { OnOk result
             (GivesMembers self.now.types.now row.now self.now.structs.now table.old table.new) }
         ensures completed { OnOk result (IsCompleted self.now.types.now self.now.structs.now table.new s) }
     {
-        let done = self.is_completed(s, table)?;
-        if done {
+        if self.is_completed(s, table) {
             return Ok(());
-        }
-        if steps == 0 {
-            return Err(NoMemory);
         }
         for member in self.types.members(s) {
             let inside = match struct_of(self.types, member.ty) {
@@ -171,6 +174,7 @@ impl Source<'_> {
         ensures { OnOk result
             (GivesMembers self.now.types.now row.now self.now.structs.now table.old table.new) }
     {
+        self.types.is_table();
         let element = match element_of(self.types, t) {
             Some(element) => element,
             None => return Ok(()),
@@ -190,8 +194,9 @@ impl Source<'_> {
         ensures completed { OnOk result (AreCompleted self.now.types.now self.now.structs.now table.new
             (length self.now.types.now.members)) }
     {
+        self.types.is_table();
         for s in 0..self.types.structs() {
-            self.complete(row, s, MOST_TYPE_STEPS, table)?;
+            self.complete(row, s, MOST_TYPE_STEPS + 1, table)?;
         }
         Ok(())
     }

@@ -1,7 +1,9 @@
 //! The functions and objects of static storage of the program.
-ghost use Rattle.std.specs.Prelude.{◌≡◌, ◌↔◌, ◌<◌, ◌^◌, [], IfOk, IsTrue, OnOk, length};
+ghost use Rattle.std.specs.Prelude.{◌≡◌, ◌↔◌, ◌<◌, ◌≤◌, ◌^◌, [], IfOk, IsTrue, OnOk, length};
+ghost use Rattle.std.specs.List.{Any};
 ghost use Rattle.lk_join.specs.Entities.{AreEntityRows, AreNamed, ArePut, IsListed, IsPushed, IsPushedNamed, IsSaid, IsToldAt, number_named};
 ghost use Rattle.lk_join.specs.Program.{HasMainAt, IsMainFunction};
+ghost use Rattle.lk_link.specs.Clashes.{HasMain};
 ghost use Rattle.lk_typed.specs.declared.entity.Linkage.TheVariants as linkage;
 
 use crate::forms::here;
@@ -23,11 +25,14 @@ struct Entities {
 }
 
 impl Model for Entities {
+    ghost use Rattle.std.specs.Prelude.{◌≤◌, ◌^◌, length};
     ghost use Rattle.lk_join.specs.Entities.{Gathered};
 
     ghost Value = { Gathered };
 
     ghost view = { λ entities. record { list = entities.list.items; names = entities.by_name.entries } };
+
+    ghost invariant = { λ entities. length entities.list.items ≤ 2 ^ 32 };
 }
 
 /// What a source says of an entity, with the program's type. `NoMemory` where that has no number in the program, which
@@ -35,7 +40,10 @@ impl Model for Entities {
 fn entity_here(entity: &Entity, place: (u32, u32), row: &[TypeId]) -> Result<WholeEntity, NoMemory>
     ensures { IfOk result (IsSaid row.now place entity.now) }
 {
-    let ty = here(row, entity.ty)?;
+    if entity.ty.index() >= row.len() {
+        return Err(NoMemory);
+    }
+    let ty = here(row, entity.ty);
     let name = entity.name.copy()?;
     let defined = if is_defined(entity) {
         Some(place)
@@ -70,17 +78,18 @@ fn is_main(entity: &WholeEntity) -> bool
         && entity.name.bytes() == b"main".as_slice()
 }
 
-/// The number of the function `main` of external linkage. `NoMemory` where there is none, which doesn't come: a source
-/// defines it.
-fn main_of(entities: &[WholeEntity]) -> Result<u32, NoMemory>
-    ensures { IfOk result (HasMainAt entities.now) }
+/// The number of the function `main` of external linkage.
+fn main_of(entities: &[WholeEntity]) -> u32
+    requires few { length entities.now ≤ 2 ^ 32 }
+    requires there { Any IsMainFunction entities.now }
+    ensures { HasMainAt entities.now result }
 {
     for number in 0..entities.len() {
         if is_main(&entities[number]) {
-            return narrow(number);
+            return number as u32;
         }
     }
-    Err(NoMemory)
+    unreachable!()
 }
 
 impl Entities {
@@ -209,7 +218,7 @@ impl Entities {
     }
 
     /// Puts the entities of the sources, where none are put yet. Answers of each entity of each source its number in the
-    /// program. `NoMemory` where a source has no numbers of types, which doesn't come: each has them.
+    /// program.
     fn put_sources(
         &mut self,
         alloc: Global,
@@ -217,6 +226,7 @@ impl Entities {
         types: &[Seq<TypeId>],
     ) -> Result<Vec<Seq<u32>>, NoMemory>
         requires few { length units.now < 2 ^ 32 }
+        requires types { length types.now ≡ length units.now }
         requires empty { self.old.list ≡ [] }
         requires named { AreNamed self.old }
         ensures { IfOk result (λ rows.
@@ -224,11 +234,9 @@ impl Entities {
     {
         let mut rows = Vec::new(alloc);
         for source in 0..units.len() as u32 {
-            let Some(row) = types.get(source as usize) else {
-                return Err(NoMemory);
-            };
             let entities = units[source as usize].entities.list();
-            let numbers = self.put_source(alloc, source, entities, row.list())?;
+            let row = types[source as usize].list();
+            let numbers = self.put_source(alloc, source, entities, row)?;
             rows.push(numbers)?;
         }
         Ok(rows)
@@ -250,7 +258,9 @@ pub(crate) fn join_entities(
     units: &[TypedUnit],
     types: &[Seq<TypeId>],
 ) -> Result<Joined, NoMemory>
-    requires { length units.now < 2 ^ 32 }
+    requires few { length units.now < 2 ^ 32 }
+    requires types { length types.now ≡ length units.now }
+    requires main { HasMain units.now }
     ensures main_at { IfOk result (λ joined. HasMainAt joined.entities joined.main) }
     ensures rows { IfOk result (λ joined.
         AreEntityRows units.now types.now joined.rows.items joined.entities (length units.now)) }
@@ -258,7 +268,7 @@ pub(crate) fn join_entities(
     let mut entities = Entities::new(alloc);
     let rows = entities.put_sources(alloc, units, types)?;
     let Entities { by_name: _, list } = entities;
-    let main = main_of(list.as_slice())?;
+    let main = main_of(list.as_slice());
     Ok(Joined {
         entities: Seq::new(list),
         main,

@@ -4,6 +4,7 @@ ghost use Rattle.lk_join.specs.Entities.{AreEntityRows};
 ghost use Rattle.lk_join.specs.Program.{HasMainAt, IsFault, IsLinked, no_main, refusal_of};
 ghost use Rattle.lk_join.specs.Sources.{AreLinked, AreTypesOf};
 ghost use Rattle.lk_join.specs.Joining.{IsJoined};
+ghost use Rattle.lk_link.specs.Clashes.{HasMain};
 ghost use Rattle.lk_link.specs.Sources.{AreSources};
 
 use crate::entities::{Joined, join_entities};
@@ -21,7 +22,8 @@ fn empty_name(alloc: Global) -> Result<Name, NoMemory>
 {
     match Name::from_bytes(alloc, b"") {
         Ok(name) => Ok(name),
-        Err(NameFault::TooLong | NameFault::NoMemory) => Err(NoMemory),
+        Err(NameFault::NoMemory) => Err(NoMemory),
+        Err(NameFault::TooLong) => unreachable!(),
     }
 }
 
@@ -55,27 +57,6 @@ fn refusal_of(clash: Clash) -> Refusal
     Refusal { code, spot, name }
 }
 
-/// A source with the program's numbers of its types and entities. `NoMemory` where some are absent, which doesn't come: each
-/// source has them.
-fn linked_source(
-    unit: TypedUnit,
-    types: Option<Seq<TypeId>>,
-    entities: Option<Seq<u32>>,
-) -> Result<Linked, NoMemory>
-    ensures unit { IfOk result (λ source. source.unit ≡ unit) }
-    ensures types { IfOk result (λ source. types ≡ Some source.types) }
-    ensures entities { IfOk result (λ source. entities ≡ Some source.entities) }
-{
-    match (types, entities) {
-        (Some(types), Some(entities)) => Ok(Linked {
-            unit,
-            types,
-            entities,
-        }),
-        (None, _) | (Some(_), None) => Err(NoMemory),
-    }
-}
-
 /// The sources with the program's numbers of their types and entities.
 fn linked(
     alloc: Global,
@@ -83,14 +64,21 @@ fn linked(
     types: Vec<Seq<TypeId>>,
     entities: Vec<Seq<u32>>,
 ) -> Result<Seq<Linked>, NoMemory>
+    requires types { length types.items ≡ length units.items }
+    requires entities { length entities.items ≡ length units.items }
     ensures { IfOk result (AreLinked units.items types.items entities.items) }
 {
     let mut sources = Vec::new(alloc);
     let mut rows = types.into_iter();
     let mut numbers = entities.into_iter();
     for unit in units {
-        let source = linked_source(unit, rows.next(), numbers.next())?;
-        sources.push(source)?;
+        let types = rows.next().unwrap();
+        let entities = numbers.next().unwrap();
+        sources.push(Linked {
+            unit,
+            types,
+            entities,
+        })?;
     }
     Ok(Seq::new(sources))
 }
@@ -139,6 +127,7 @@ fn whole_of(
 fn join(alloc: Global, units: Vec<TypedUnit>) -> Result<Whole, NoMemory>
     requires sources { AreSources units.items }
     requires few { length units.items < 2 ^ 32 }
+    requires main { HasMain units.items }
     ensures { IfOk result (λ whole. IsJoined whole units.items) }
 {
     let types = types_of(alloc, units.as_slice())?;

@@ -1,7 +1,9 @@
 //! The program's table of types, made of those of the sources.
-ghost use Rattle.std.specs.Prelude.{◌≡◌, ◌≤◌, ◌+◌, All, IfOk, OnOk, Some, length, slice_get};
+ghost use Rattle.std.specs.Prelude.{◌≡◌, ◌≤◌, ◌<◌, ◌^◌, ◌+◌, All, IfOk, OnOk, Some, length, slice_get};
+ghost use Rattle.lk_join.specs.Classes.{AreNumbers};
 ghost use Rattle.lk_join.specs.Completing.{AreCompleted, AreOpen, GivesMembers, HasMembers, HaveSameMembers};
 ghost use Rattle.lk_join.specs.Forms.{ArePutAt, AreRowsOf, HasPointer, IsPutAt, KeepsPointers};
+ghost use Rattle.lk_link.specs.Sources.{AreSources};
 ghost use Rattle.lk_types.specs.Building.{IsLonger, IsTable};
 ghost use Rattle.lk_types.specs.Table.{IsKnown, type_at};
 
@@ -40,6 +42,7 @@ fn put(table: &mut TypeTable, form: CType) -> Result<TypeId, NoMemory>
 
 /// Begins so many structs in a table. `NoMemory` over 32 bits.
 fn begin_structs(structs: usize, table: &mut TypeTable) -> Result<(), NoMemory>
+    ensures few { OnOk result (structs < 2 ^ 32) }
     ensures count { OnOk result (length table.new.members ≡ length table.old.members + structs) }
     ensures same { OnOk result (HaveSameMembers table.old table.new) }
 {
@@ -53,9 +56,10 @@ fn begin_structs(structs: usize, table: &mut TypeTable) -> Result<(), NoMemory>
 }
 
 impl Source<'_> {
-    /// Puts a type of the source to the program's. Answers its number there.
+    /// Puts a type of the source to the program's, where those before it are put. Answers its number there.
     fn put_type(&self, row: &[TypeId], t: TypeId, table: &mut TypeTable) -> Result<TypeId, NoMemory>
-        requires { IsKnown self.now.types.now t }
+        requires known { IsKnown self.now.types.now t }
+        requires before { length row.now ≡ t }
         ensures put { IfOk result (IsPutAt table.new row.now self.now.structs.now (type_at self.now.types.now t)) }
         ensures gives { OnOk result
             (GivesMembers self.now.types.now row.now self.now.structs.now table.old table.new) }
@@ -123,16 +127,6 @@ fn put_pointers(row: &[TypeId], table: &mut TypeTable) -> Result<(), NoMemory>
     Ok(())
 }
 
-/// The numbers of the structs of a source. `NoMemory` where there are none, which doesn't come: each source has them.
-fn structs_of(numbers: &Numbers, source: usize) -> Result<&Seq<usize>, NoMemory>
-    ensures { IfOk result (λ structs. slice_get numbers.now.rows source ≡ Some structs.now) }
-{
-    match numbers.rows.get(source) {
-        Some(structs) => Ok(structs),
-        None => Err(NoMemory),
-    }
-}
-
 /// Puts the types of the sources to a table. Answers of each type of each source its number there.
 fn join_rows(
     alloc: Global,
@@ -140,18 +134,21 @@ fn join_rows(
     numbers: &Numbers,
     table: &mut TypeTable,
 ) -> Result<Vec<Seq<TypeId>>, NoMemory>
-    requires { AreOpen table.old }
+    requires sources { AreSources units.now }
+    requires numbers { AreNumbers units.now numbers.now.rows numbers.now.count }
+    requires few { numbers.now.count < 2 ^ 32 }
+    requires incomplete { AreOpen table.old }
     ensures put { IfOk result (λ rows. AreRowsOf units.now numbers.now.rows table.new rows.items (length units.now)) }
     ensures members { IfOk result (λ rows. HasMembers units.now numbers.now.rows rows.items table.new) }
     ensures longer { OnOk result (IsLonger table.old table.new) }
 {
+    let structs = numbers.rows.list();
     let mut rows = Vec::new(alloc);
-    for unit in units {
-        let structs = structs_of(numbers, rows.len())?;
+    for number in 0..units.len() {
         let source = Source {
             alloc,
-            types: &unit.types,
-            structs: structs.list(),
+            types: &units[number].types,
+            structs: structs[number].list(),
         };
         let row = source.join(table)?;
         rows.push(row)?;
@@ -179,6 +176,8 @@ pub(crate) fn join_types(
     units: &[TypedUnit],
     numbers: &Numbers,
 ) -> Result<Types, NoMemory>
+    requires sources { AreSources units.now }
+    requires numbers { AreNumbers units.now numbers.now.rows numbers.now.count }
     ensures structs { IfOk result (λ types. numbers.now.count ≤ length types.table.members) }
     ensures put { IfOk result (λ types.
         AreRowsOf units.now numbers.now.rows types.table types.rows.items (length units.now)) }

@@ -14,4 +14,4 @@ loop-t-preserved c =
     subst (λ ts. AllZip (IsHere row) ts c.push.new.self.items) (sym (take_more types n t c.loop-t-test.true))
     (subst (λ u. AllZip (IsHere row) (take n types ++ u ∷ []) c.push.new.self.items) c.t-item.is
     (subst (AllZip (IsHere row) (take n types ++ t ∷ [])) (sym c.in_ok-push.ensures.items)
-    (zip_push (IsHere row) (take n types) c.loop-t.list.items t c.in_ok-here.here c.loop-t.invariant c.in_ok-here.ensures)))
+    (zip_push (IsHere row) (take n types) c.loop-t.list.items t c.here.result c.loop-t.invariant c.here.ensures)))

@@ -4,6 +4,6 @@ use Rattle.lk_join.specs.Forms.{AreRowsOf}
 use Rattle.lk_join.proofs.types.join_rows.Given as goal
 
 -- the types of the first sources are put
-abbrev pub invariant-loop-unit : goal.invariant-loop-unit
-invariant-loop-unit l =
-    IsLonger l.fn.table l.table × AreRowsOf l.units l.numbers.rows l.table l.rows.items l.unit-index × HasMembers l.units l.numbers.rows l.rows.items l.table
+abbrev pub invariant-loop-number : goal.invariant-loop-number
+invariant-loop-number l =
+    IsLonger l.fn.table l.table × AreRowsOf l.units l.numbers.rows l.table l.rows.items l.number × HasMembers l.units l.numbers.rows l.rows.items l.table

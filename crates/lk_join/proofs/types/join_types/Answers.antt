@@ -6,8 +6,8 @@ use Rattle.lk_join.proofs.Giving.{members_by}
 use Rattle.lk_join.proofs.Growing.{rows_known, rows_later}
 use Rattle.lk_join.proofs.types.join_types.Goals as goal
 
-pub join_rows-requires : goal.join_rows-requires
-join_rows-requires c = begun_open c.in_ok-table.table c.begin_structs.new.table c.in_ok-table.ensures c.in_ok-begin_structs.ensures.same
+pub join_rows-requires-clause-incomplete : goal.join_rows-requires-clause-incomplete
+join_rows-requires-clause-incomplete c = begun_open c.in_ok-table.table c.begin_structs.new.table c.in_ok-table.ensures c.in_ok-begin_structs.ensures.same
 
 pub put_all_pointers-requires : goal.put_all_pointers-requires
 put_all_pointers-requires c =

@@ -1,6 +1,7 @@
-use Rattle.std.proofs.Common.{◌≡◌, arith, length, subst}
+use Rattle.std.proofs.Common.{◌≡◌, ◌<◌, arith, length, subst}
 use Rattle.lk_join.specs.Completing.{AreCompleted}
 use Rattle.lk_join.proofs.Completed.{completed_more, gives_same, gives_then}
+use Rattle.lk_join.proofs.Stepping.{below_bound}
 use Rattle.lk_join.proofs.forms.Source.complete_all.Goals as goal
 
 pub loop-s-init : goal.loop-s-init
@@ -22,3 +23,9 @@ returns-clause-completed c =
     let types = c.args.self.now.types.now in
     let whole : c.loop-s.s ≡ length types.members = omega arith in
     subst (AreCompleted types c.args.self.now.structs.now c.loop-s.table) whole c.loop-s.invariant.1
+
+pub complete-requires : goal.complete-requires
+complete-requires c =
+    let types = c.args.self.now.types.now in
+    let known : c.loop-s.s < length types.members = let below = c.loop-s-test.true in omega arith in
+    below_bound types c.is_table.ensures c.loop-s.s known c.args.self.now.all_members

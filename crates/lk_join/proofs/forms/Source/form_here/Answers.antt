@@ -1,17 +1,38 @@
-use Rattle.lk_join.proofs.Shaping.{has_void, has_integer, has_thread, has_mutex, has_condition, has_opaque, has_pointer, has_array, has_struct, has_function}
+use Rattle.std.proofs.Common.{◌<◌, All, length, subst, sym}
+use Rattle.std.proofs.lemmas.List.Elements.{All-head, All-tail}
+use Rattle.lk_join.proofs.Shaping.{of_array, of_function, of_pointer, of_struct, has_void, has_integer, has_thread, has_mutex, has_condition, has_opaque, has_pointer, has_array, has_struct, has_function}
 use Rattle.lk_join.proofs.forms.Source.form_here.Goals as goal
 
-pub returns-in_ok-here-in-Pointer : goal.returns-in_ok-here-in-Pointer
-returns-in_ok-here-in-Pointer c = has_pointer _ _ _ _ _ c.in-Pointer.is c.in_ok-here-in-Pointer.ensures
+pub here-requires : goal.here-requires
+here-requires c = of_pointer c.args.self.now.types.now (length c.args.row.now) c.args.form.now c.requires _ c.in-Pointer.is
 
-pub returns-in_ok-here-in-Array : goal.returns-in_ok-here-in-Array
-returns-in_ok-here-in-Array c = has_array _ _ _ _ _ _ c.in-Array.is c.in_ok-here-in-Array.ensures
+pub here-requires-in-Array : goal.here-requires-in-Array
+here-requires-in-Array c = of_array c.args.self.now.types.now (length c.args.row.now) c.args.form.now c.requires _ _ c.in-Array.is
 
-pub returns-in_ok-struct_here-in-Struct : goal.returns-in_ok-struct_here-in-Struct
-returns-in_ok-struct_here-in-Struct c = has_struct _ _ _ _ _ c.in-Struct.is c.in_ok-struct_here-in-Struct.ensures
+pub struct_here-requires : goal.struct_here-requires
+struct_here-requires c = of_struct c.args.self.now.types.now (length c.args.row.now) c.args.form.now c.requires _ c.in-Struct.is
+
+pub here-requires-in-Function : goal.here-requires-in-Function
+here-requires-in-Function c =
+    let n = length c.args.row.now in
+    All-head (λ u. u < n) _ _ (of_function c.args.self.now.types.now n c.args.form.now c.requires _ _ _ c.in-Function.is)
+
+pub all_here-requires : goal.all_here-requires
+all_here-requires c =
+    let n = length c.args.row.now in
+    subst (All (λ u. u < n)) (sym c.list.ensures) (All-tail (λ u. u < n) _ _ (of_function c.args.self.now.types.now n c.args.form.now c.requires _ _ _ c.in-Function.is))
+
+pub returns-in-Pointer : goal.returns-in-Pointer
+returns-in-Pointer c = has_pointer _ _ _ _ _ c.in-Pointer.is c.here.ensures
+
+pub returns-in-Array : goal.returns-in-Array
+returns-in-Array c = has_array _ _ _ _ _ _ c.in-Array.is c.here-in-Array.ensures
+
+pub returns-in-Struct : goal.returns-in-Struct
+returns-in-Struct c = has_struct _ _ _ _ _ c.in-Struct.is c.struct_here.ensures
 
 pub returns-in_ok-all_here-in-Function : goal.returns-in_ok-all_here-in-Function
-returns-in_ok-all_here-in-Function c = has_function _ _ _ _ _ _ _ _ _ c.in-Function.is c.list.ensures c.in_ok-here-in-Function.ensures c.in_ok-all_here-in-Function.ensures
+returns-in_ok-all_here-in-Function c = has_function _ _ _ _ _ _ _ _ _ c.in-Function.is c.list.ensures c.here-in-Function.ensures c.in_ok-all_here-in-Function.ensures
 
 pub returns-in-Void : goal.returns-in-Void
 returns-in-Void c = has_void _ _ _ c.in-Void.is

@@ -6,4 +6,4 @@ pub returns-then-is_open : goal.returns-then-is_open
 returns-then-is_open c = λ done. completed_nothing c.args.self.now.types.now c.args.self.now.structs.now c.args.table.now c.args.s (sym c.is_open.ensures ∙ c.if-is_open.true)
 
 pub returns : goal.returns
-returns c = λ done. completed_here c.args.self.now.types.now c.args.self.now.structs.now c.args.table.now c.args.s c.in_ok-here.here c.in_ok-here.ensures (c.has_members.ensures.0 done)
+returns c = λ done. completed_here c.args.self.now.types.now c.args.self.now.structs.now c.args.table.now c.args.s c.struct_here.result c.struct_here.ensures (c.has_members.ensures.0 done)

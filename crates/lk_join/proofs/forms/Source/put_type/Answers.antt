@@ -1,9 +1,13 @@
 use Rattle.std.proofs.Common.{ap, sym, subst}
 use Rattle.std.specs.Prelude.{unwrap_or}
+use Rattle.lk_types.specs.Building.{IsMadeOf}
 use Rattle.lk_types.specs.declared.c_type.CType.TheVariants.{Void}
 use Rattle.lk_join.specs.Forms.{HasForm}
 use Rattle.lk_join.proofs.Completed.{gives_then, gives_unchanged}
 use Rattle.lk_join.proofs.forms.Source.put_type.Goals as goal
+
+pub form_here-requires : goal.form_here-requires
+form_here-requires c = subst (λ n. IsMadeOf c.args.self.now.types.now n c.get.result.now) (sym c.requires.before) c.get.ensures.made_of
 
 pub returns-clause-put : goal.returns-clause-put
 returns-clause-put c = record {

@@ -1,5 +1,5 @@
-use Rattle.std.proofs.Common.{◌≡◌, ◌<◌, ◌++◌, ◌∷◌, [], arith, ap, get_or, length, take, sym, subst}
-use Rattle.std.proofs.lemmas.List.{take_more}
+use Rattle.std.proofs.Common.{◌≡◌, ◌<◌, ◌≤◌, ◌++◌, ◌∷◌, [], arith, ap, get_or, length, take, sym, subst}
+use Rattle.std.proofs.lemmas.List.{length-take-le, take_more}
 use Rattle.std.proofs.lemmas.Option.{slice_get-get_or}
 use Rattle.std.specs.Prelude.{unwrap_or}
 use Rattle.lk_types.specs.Table.{type_at}
@@ -8,6 +8,7 @@ use Rattle.lk_join.specs.Completing.{GivesMembers}
 use Rattle.lk_join.specs.Forms.{ArePutAt, IsPutAt}
 use Rattle.lk_join.proofs.Completed.{gives_more, gives_same, gives_then}
 use Rattle.lk_join.proofs.Growing.{all_put_more}
+use Rattle.lk_join.proofs.Zips.{zip_long}
 use Rattle.lk_join.proofs.forms.Source.put_types.Goals as goal
 
 pub loop-t-init : goal.loop-t-init
@@ -43,3 +44,14 @@ loop-t-preserved c =
           (subst (λ r. ArePutAt after r structs (take t types ++ form ∷ [])) (sym c.in_ok-push.ensures.items)
           (all_put_more before after longer structs row here (take t types) form c.loop-t.invariant.1 one)),
     )
+
+pub put_type-requires-clause-before : goal.put_type-requires-clause-before
+put_type-requires-clause-before c =
+    let types = c.args.self.now.types.now.types in
+    let t = c.loop-t.t in
+    let row = c.loop-t.row.items in
+    let within : t ≤ length types = let below = c.loop-t-test.true in let count = c.count-t-end.ensures.value in omega (arith, below, count) in
+    let long = zip_long (IsPutAt c.loop-t.table row c.args.self.now.structs.now) (take t types) row c.loop-t.invariant.1 in
+    let first = length-take-le t types within in
+    let slice = ap length c.as_slice.ensures.value in
+    omega (arith, long, first, slice)
