@@ -148,7 +148,8 @@ fn put_parameters(
     requires to { edge.now.to < length labels.now.entries }
     requires labels { AreLabels points.now labels.now }
     ensures { OnOk result ((u v : LabelName) → AreCode points.now labels.now.names edge.now u v →
-        Adds (Joins labels.now.names (AnyOf (ParametersBoth points.now u v edge.now.mark))) found.old found.new) }
+        Adds (Joins labels.now.names (AnyOf (ParametersBoth points.now u v edge.now.mark))) found.old
+        found.new) }
 {
     let types = points.types();
     let name = name_of(points, labels, edge.from);

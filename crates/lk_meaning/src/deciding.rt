@@ -32,7 +32,8 @@ pub(crate) fn decide_action(
     action: &Action,
 ) -> Result<Decision, NoMemory>
     requires { length state.now.objects < 2 ^ 32 }
-    ensures { IfOk result (λ decision. decision ≡ spec.decision_of points.now state.now t thread.now word action.now) }
+    ensures { IfOk result (λ decision. decision
+        ≡ spec.decision_of points.now state.now t thread.now word action.now) }
 {
     if let Some(why) = cause(points, state, t, thread, action, alloc)? {
         return Ok(Decision::Undefined(why));

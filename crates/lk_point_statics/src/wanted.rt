@@ -36,7 +36,8 @@ fn place_before(place: i128, by: i128, back: bool) -> Option<i128>
 /// The index of the element from which a pointer to an element, or one past it, moved by so many elements, or back by so
 /// many, where there is such an index.
 fn index_before(index: u64, past: bool, by: i128, back: bool) -> Option<u64>
-    ensures { MatchOption result ((place : ℤ) → IsIndex place → place +ℤ moved_by by back ≡ stand index past → ⊥)
+    ensures { MatchOption result
+        ((place : ℤ) → IsIndex place → place +ℤ moved_by by back ≡ stand index past → ⊥)
         (λ from. pos from +ℤ moved_by by back ≡ stand index past) }
 {
     let to = i128::from(index) + i128::from(past);

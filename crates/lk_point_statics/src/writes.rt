@@ -168,7 +168,8 @@ fn after_write(
     requires writes { AreStaticWrites points.now writes.now }
     requires from { from ≤ length writes.now }
     ensures within { IfSome result (λ place. place ≤ length writes.now) }
-    ensures begun { MatchOption result (IsBegun points.now initial.now → ⊥) (λ _. IsBegun points.now initial.now) }
+    ensures begun { MatchOption result (IsBegun points.now initial.now → ⊥)
+        (λ _. IsBegun points.now initial.now) }
 {
     if !needs_write(&initial.value) {
         return Some(from);

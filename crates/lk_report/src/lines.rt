@@ -21,7 +21,8 @@ impl Lines<'_> {
     fn push_locks(&self, alloc: Global, out: &mut Vec<u8>, locks: &[u32]) -> Result<(), NoMemory>
         requires named { CanBeNamed self.now.files.now self.now.points.now }
         requires locks { AreLockPlaces self.now.points.now locks.now }
-        ensures { OnOk result (out.new.items ≡ out.old.items ++ locks_text self.now.files.now self.now.points.now locks.now) }
+        ensures { OnOk result (out.new.items
+            ≡ out.old.items ++ locks_text self.now.files.now self.now.points.now locks.now) }
     {
         let Some((first, others)) = locks.split_first() else {
             return Ok(());
@@ -38,7 +39,8 @@ impl Lines<'_> {
     fn push_held(&self, alloc: Global, out: &mut Vec<u8>, locks: &[u32]) -> Result<(), NoMemory>
         requires named { CanBeNamed self.now.files.now self.now.points.now }
         requires locks { AreLockPlaces self.now.points.now locks.now }
-        ensures { OnOk result (out.new.items ≡ out.old.items ++ held_text self.now.files.now self.now.points.now locks.now) }
+        ensures { OnOk result (out.new.items
+            ≡ out.old.items ++ held_text self.now.files.now self.now.points.now locks.now) }
     {
         if locks.is_empty() {
             out.extend_from_slice(b"nothing")?;
@@ -58,7 +60,8 @@ impl Lines<'_> {
         requires named { CanBeNamed self.now.files.now self.now.points.now }
         requires locks { AreLockPlaces self.now.points.now verdict.now.locks }
         ensures { OnOk result (out.new.items
-            ≡ out.old.items ++ state_text self.now.files.now self.now.points.now verdict.now.state verdict.now.locks) }
+            ≡ out.old.items ++ state_text self.now.files.now self.now.points.now verdict.now.state
+            verdict.now.locks) }
     {
         match verdict.state {
             VerdictState::Unshared => out.extend_from_slice(b"unshared")?,
@@ -87,7 +90,8 @@ impl Lines<'_> {
     fn push_access(&self, alloc: Global, out: &mut Vec<u8>, racing: &Racing) -> Result<(), NoMemory>
         requires named { CanBeNamed self.now.files.now self.now.points.now }
         requires there { IsAccessThere self.now.points.now racing.now }
-        ensures { OnOk result (out.new.items ≡ out.old.items ++ access_text self.now.files.now self.now.points.now racing.now) }
+        ensures { OnOk result (out.new.items
+            ≡ out.old.items ++ access_text self.now.files.now self.now.points.now racing.now) }
     {
         let point = racing.access;
         let function = self.points.function(point);
@@ -131,7 +135,8 @@ impl Lines<'_> {
         requires named { CanBeNamed self.now.files.now self.now.points.now }
         requires there { IsVerdictThere self.now.points.now verdict.now }
         ensures { OnOk result (out.new.items
-            ≡ out.old.items ++ accesses_text self.now.files.now self.now.points.now verdict.now.state verdict.now.accesses) }
+            ≡ out.old.items ++ accesses_text self.now.files.now self.now.points.now verdict.now.state
+            verdict.now.accesses) }
     {
         match verdict.state {
             VerdictState::Suspect => {
@@ -151,7 +156,8 @@ impl Lines<'_> {
     ) -> Result<(), NoMemory>
         requires named { CanBeNamed self.now.files.now self.now.points.now }
         requires there { IsVerdictThere self.now.points.now verdict.now }
-        ensures { OnOk result (out.new.items ≡ out.old.items ++ location_text self.now.files.now self.now.points.now verdict.now) }
+        ensures { OnOk result (out.new.items
+            ≡ out.old.items ++ location_text self.now.files.now self.now.points.now verdict.now) }
     {
         push_text(alloc, out, self.points, self.files, verdict.location)?;
         out.push(b' ')?;

@@ -132,7 +132,8 @@ fn push_object(
     files: &Files,
     root: &Root,
 ) -> Result<(), NoMemory>
-    ensures { OnOk result (out.new.items ≡ out.old.items ++ object_text files.now points.now root.now.kind root.now) }
+    ensures { OnOk result (out.new.items
+        ≡ out.old.items ++ object_text files.now points.now root.now.kind root.now) }
 {
     match root.kind {
         RootKind::Global | RootKind::Text | RootKind::Function => {

@@ -39,7 +39,8 @@ fn verdicts_by(
     origins: &Origins,
 ) -> Result<Vec<Verdict>, NoMemory>
     requires { ArePlaceNodes points.now }
-    ensures { IfOk result (λ found. AreVerdictsOf (basis_of (facts_of points.now labels.now origins.now)) found.items) }
+    ensures { IfOk result (λ found.
+        AreVerdictsOf (basis_of (facts_of points.now labels.now origins.now)) found.items) }
 {
     if !Facts::fits(points, labels, origins) {
         return Err(NoMemory);

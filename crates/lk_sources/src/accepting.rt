@@ -35,7 +35,8 @@ fn judge(
     requires few { AreShort 1048576 sources.now }
     requires named { AreNamed files.old sources.now }
     ensures checked { IfOk result (λ accepted. All (IsCheckedSource externs.now) accepted.items) }
-    ensures ok { IfOk result (λ accepted. AreAccepted files.old externs.now sources.now files.new (units_of accepted.items)) }
+    ensures ok { IfOk result (λ accepted.
+        AreAccepted files.old externs.now sources.now files.new (units_of accepted.items)) }
     ensures err { IfErr result (IsJudged files.old externs.now sources.now files.new) }
 {
     let lists = split_all(alloc, sources, files)?;
@@ -53,7 +54,8 @@ fn accept_sources(
 ) -> Result<Accepted, SourcesFault>
     requires few { AreShort 1048576 sources.now }
     requires named { AreNamed files sources.now }
-    ensures checked { IfOk result (λ accepted. All (IsCheckedSource accepted.externs.items) accepted.sources.items) }
+    ensures checked { IfOk result (λ accepted.
+        All (IsCheckedSource accepted.externs.items) accepted.sources.items) }
     ensures ok { IfOk result (AcceptsSources files externs.items sources.now) }
     ensures err { IfErr result (RefusesSources files externs.items sources.now) }
 {
@@ -93,7 +95,8 @@ fn bad_externs(
 /// tree; a tree has a fault. Of the sources to which it applies the first is told.
 pub fn accept(alloc: Global, texts: Texts) -> Result<Accepted, SourcesFault>
     requires { IsReadable texts }
-    ensures checked { IfOk result (λ accepted. All (IsCheckedSource accepted.externs.items) accepted.sources.items) }
+    ensures checked { IfOk result (λ accepted.
+        All (IsCheckedSource accepted.externs.items) accepted.sources.items) }
     ensures ok { IfOk result (IsAccepted texts.files texts.externs texts.sources) }
     ensures err { IfErr result (Refuses texts) }
 {

@@ -50,7 +50,8 @@ fn put_names(alloc: Global, files: &mut Files, names: &[&str]) -> Result<(), NoM
 
 /// Puts this name, where there is one.
 fn put_some(alloc: Global, files: &mut Files, name: Option<&str>) -> Result<(), NoMemory>
-    ensures { OnOk result (files.new ≡ fold with_name files.old (names_of (option_map (λ name. name.now) name.entry))) }
+    ensures { OnOk result (files.new
+        ≡ fold with_name files.old (names_of (option_map (λ name. name.now) name.entry))) }
 {
     match name {
         Some(name) => {

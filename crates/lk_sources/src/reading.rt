@@ -86,8 +86,10 @@ fn read_files<F: Shelf>(
     most: u64,
 ) -> Result<Seq<Source>, ReadingFault>
     requires { All (λ name. IsFileName name.now) names.now }
-    ensures ok { IfOk result (AreFiles (map (λ name. name.now) names.now) most (shelved F.held F.bad F.faults shelf.old shelf.new)) }
-    ensures err { IfErr result (AreNoFiles (map (λ name. name.now) names.now) most (shelved F.held F.bad F.faults shelf.old shelf.new)) }
+    ensures ok { IfOk result (AreFiles (map (λ name. name.now) names.now) most
+        (shelved F.held F.bad F.faults shelf.old shelf.new)) }
+    ensures err { IfErr result (AreNoFiles (map (λ name. name.now) names.now) most
+        (shelved F.held F.bad F.faults shelf.old shelf.new)) }
     ensures held { F.held shelf.new ≡ F.held shelf.old }
     ensures later { F.faults shelf.old ≤ F.faults shelf.new }
 {
@@ -115,8 +117,10 @@ fn read_externs<F: Shelf>(
     name: Option<&str>,
 ) -> Result<Seq<Source>, ReadingFault>
     requires { AreFileNames (names_of (option_map (λ name. name.now) name)) }
-    ensures ok { IfOk result (AreFiles (names_of (option_map (λ name. name.now) name.entry)) 65536 (shelved F.held F.bad F.faults shelf.old shelf.new)) }
-    ensures err { IfErr result (AreNoFiles (names_of (option_map (λ name. name.now) name.entry)) 65536 (shelved F.held F.bad F.faults shelf.old shelf.new)) }
+    ensures ok { IfOk result (AreFiles (names_of (option_map (λ name. name.now) name.entry)) 65536
+        (shelved F.held F.bad F.faults shelf.old shelf.new)) }
+    ensures err { IfErr result (AreNoFiles (names_of (option_map (λ name. name.now) name.entry)) 65536
+        (shelved F.held F.bad F.faults shelf.old shelf.new)) }
     ensures held { F.held shelf.new ≡ F.held shelf.old }
     ensures later { F.faults shelf.old ≤ F.faults shelf.new }
 {
@@ -134,7 +138,8 @@ fn read_both<F: Shelf>(
 ) -> Result<Both, ReadingFault>
     requires { is_in_bounds (seen check.now) ≡ true }
     ensures ok { IfOk result (AreBoth (seen check.now) (shelved F.held F.bad F.faults shelf.old shelf.new)) }
-    ensures err { IfErr result (AreNotBoth (seen check.now) (shelved F.held F.bad F.faults shelf.old shelf.new)) }
+    ensures err { IfErr result (AreNotBoth (seen check.now)
+        (shelved F.held F.bad F.faults shelf.old shelf.new)) }
     ensures held { F.held shelf.new ≡ F.held shelf.old }
     ensures later { F.faults shelf.old ≤ F.faults shelf.new }
 {
@@ -163,7 +168,8 @@ pub fn read<F: Shelf>(
 ) -> Result<Texts, SourcesFault>
     requires { is_in_bounds (seen check.now) ≡ true }
     ensures ok { IfOk result (Reads (seen check.now) (shelved F.held F.bad F.faults shelf.old shelf.new)) }
-    ensures err { IfErr result (FailsToRead (seen check.now) (shelved F.held F.bad F.faults shelf.old shelf.new)) }
+    ensures err { IfErr result (FailsToRead (seen check.now)
+        (shelved F.held F.bad F.faults shelf.old shelf.new)) }
     ensures held { F.held shelf.new ≡ F.held shelf.old }
     ensures later { F.faults shelf.old ≤ F.faults shelf.new }
 {

@@ -73,7 +73,8 @@ fn split_source(alloc: Global, source: &Source, files: &mut Files) -> Result<Spl
     requires few { length source.now.bytes ≤ 1048576 }
     requires named { has_name files.old source.now.name ≡ true }
     ensures ok { IfOk result (IsSplit files.old (number_of files.old source.now.name) source.now files.new) }
-    ensures err { IfErr result (IsStop files.old (start_of (number_of files.old source.now.name)) source.now.bytes files.new) }
+    ensures err { IfErr result (IsStop files.old (start_of (number_of files.old source.now.name))
+        source.now.bytes files.new) }
     ensures names { OnOk result (Extends files.old files.new) }
 {
     let own = put_name(alloc, files, source.name.bytes())?;

@@ -32,7 +32,8 @@ pub(crate) fn trees(
     lists: &[Seq<Token>],
 ) -> Result<Vec<Parsed>, Fault>
     requires { AreAllInside sources.now lists.now }
-    ensures ok { IfOk result (λ trees. AreTrees sources.now lists.now (map (λ parsed. parsed.unit) trees.items)) }
+    ensures ok { IfOk result (λ trees.
+        AreTrees sources.now lists.now (map (λ parsed. parsed.unit) trees.items)) }
     ensures err { IfErr result (IsTreeFault sources.now lists.now) }
 {
     let mut trees = Vec::new(alloc);

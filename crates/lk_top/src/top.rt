@@ -1,9 +1,9 @@
 //! The top call.
-ghost use Rattle.std.specs.Prelude.{◌≡◌, ◌≢◌, ◌≤◌, None, map, IsTrue, string_bytes};
+ghost use Rattle.std.specs.Prelude.{◌≡◌, None, map, IsTrue, string_bytes};
 ghost use Rattle.std.specs.Option.{ForSome};
 ghost use Rattle.lk_words.specs.Words.{command};
-ghost use Rattle.lk_sources.specs.Shelves.{shelved, HasRisen, IsAsBefore};
-ghost use Rattle.lk_top.specs.Texts.{usage_line, unwritten_line, no_memory_line};
+ghost use Rattle.lk_sources.specs.Shelves.{shelved, HasRisen};
+ghost use Rattle.lk_top.specs.Texts.{usage_line, no_memory_line};
 ghost use Rattle.lk_top.specs.Results.{is_report};
 ghost use Rattle.lk_top.specs.Run.{sunk, Got, NoneHasRisen, Reports, Refuses, Misses, Fails, AlwaysAnswers, AlwaysReports, AlwaysRefuses, IsOrNoMemory, Told, Published, leaves_output};
 
