@@ -1,0 +1,10 @@
+pub mod Calls
+pub mod Declared
+pub mod Expressions
+pub mod Lists
+pub mod Owners
+pub mod Programs
+pub mod Rules
+pub mod StatementOwners
+pub mod Statements
+pub mod Walks
