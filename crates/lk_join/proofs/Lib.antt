@@ -1,8 +1,10 @@
+pub mod Agreed
 pub mod Chains
 pub mod Completed
 pub mod Counting
 pub mod Distinct
 pub mod Entering
+pub mod Fitting
 pub mod Giving
 pub mod Growing
 pub mod Joined
@@ -12,6 +14,7 @@ pub mod Numbering
 pub mod Placing
 pub mod Refusing
 pub mod Relabelling
+pub mod RowNumbers
 pub mod Saying
 pub mod Shaping
 pub mod Starting

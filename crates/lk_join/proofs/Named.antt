@@ -11,8 +11,10 @@ use Rattle.lk_typed.specs.declared.whole.WholeEntity.{WholeEntity}
 use Rattle.lk_types.proofs.AddLemmas.{last_got}
 use Rattle.lk_types.proofs.GrowLemmas.{get_before}
 use Rattle.lk_types.proofs.KeptLemmas.{read_got}
+use Rattle.lk_join.specs.Agreeing.{MayPut, MayTell, MayTellAt}
 use Rattle.lk_join.specs.Entities.{AreNamed, Gathered, HaveOneName, IsListed, IsPushed, IsPushedNamed, IsTold, IsToldAt, number_named}
 use Rattle.lk_join.specs.Entities.IsListed.{pushed, told}
+use Rattle.lk_join.specs.Entities.IsTold.{defined}
 use Rattle.lk_join.proofs.Saying.{push_cases, set_here, set_there, told_linkage, told_name}
 
 pub nothing_named : (entities : Gathered) → entities.list ≡ [] → entities.names ≡ [] → AreNamed entities
@@ -126,6 +128,15 @@ module _ (old new : Gathered) (is : WholeEntity) (number : ℕ) (h : AreNamed ol
       all = λ n x at outside. ap (λ ns. number_named ns x.name) k.names ∙ all_told n x at outside (cases_eq n number);
     }
 
+-- what may be put may be told of the entity under its name
+pub found_may : (old : Gathered) (is : WholeEntity) (number : ℕ) → AreNamed old → is.linkage ≡ External → number_named old.names is.name ≡ Some number →
+    MayPut old.list is → MayTellAt old.list number is
+found_may old is number h external at may there there_at =
+    let f = h.found is.name number at in
+    let it = same_Some f.0 there (sym f.1 ∙ there_at) in
+    may number there there_at
+    (record { first = ap (λ (x : WholeEntity). x.linkage) (sym it) ∙ f.2; second = external; name = ap (λ (x : WholeEntity). x.name) (sym it) ∙ f.3 })
+
 -- ---- what is told
 
 pub none_of : {X : Type 0} (o : Option X) → is_some o ≡ false → o ≡ None
@@ -136,15 +147,25 @@ pub some_of : {X : Type 0} (o : Option X) → is_some o ≡ true → (x : X) × 
 some_of None is = absurd (false≢true is)
 some_of (Some x) is = (x, refl)
 
-pub told_at : (old self new : Gathered) (number : ℕ) (there is here : WholeEntity) → old ≡ self → number < length self.list → there ≡ get_or old.list number there → there.kind ≡ is.kind →
-    IsTold there is here → new.list ≡ slice_set old.list number here → new.names ≡ old.names → IsToldAt self new number is
-told_at old self new number there is here same within got kind h list names =
-    subst (λ (g : Gathered). IsToldAt g new number is) same (record {
+pub told_at : (old self new : Gathered) (number : ℕ) (there is here : WholeEntity) → old ≡ self → number < length self.list → there ≡ get_or old.list number there → MayTellAt self.list number is →
+    (MayTell there is → IsTold there is here) → new.list ≡ slice_set old.list number here → new.names ≡ old.names → IsToldAt self new number is
+told_at old self new number there is here same within got may h list names =
+    let at = subst (λ (g : Gathered). slice_get g.list number ≡ Some there) same (read_got old.list number there (subst (λ (g : Gathered). number < length g.list) (sym same) within) got) in
+    let tells = may there at in
+    record {
       there = there;
-      at = read_got old.list number there (subst (λ (g : Gathered). number < length g.list) (sym same) within) got;
-      kind = kind;
+      at = at;
+      kind = tells.kind;
       here = here;
-      told = h;
-      list = list;
-      names = names;
-    })
+      told = h tells;
+      list = list ∙ ap (λ (g : Gathered). slice_set g.list number here) same;
+      names = names ∙ ap (λ (g : Gathered). g.names) same;
+    }
+
+-- a definition is told of what isn't defined
+pub defined_told : (there is : WholeEntity) (place : ℕ × ℕ) → is.defined ≡ Some place → MayTell there is → IsTold there is (record there { ty = is.ty; defined = is.defined })
+defined_told there is place at tells = by_definition tells.defined
+  where
+    by_definition : (is.defined ≡ None) ⊎ (there.defined ≡ None) → IsTold there is (record there { ty = is.ty; defined = is.defined })
+    by_definition (inl nothing) = absurd (none-some place (sym nothing ∙ at))
+    by_definition (inr free) = defined place at free

@@ -3,9 +3,10 @@ use Rattle.std.proofs.Common.{◌≡◌, ◌∙◌, ◌↔◌, List, ℕ, Bool, 
 use Rattle.std.proofs.lemmas.Bool.{false≢true}
 use Rattle.std.specs.Prelude.{MatchOption}
 use Rattle.lk_base.specs.declared.refusal.Refusal.{Refusal}
-use Rattle.lk_link.specs.Clashes.{HasMain, IsClash, IsFirstClash}
+use Rattle.lk_link.specs.Clashes.{HasMain, IsClash, IsFirstClash, defined_twice, types_differ}
 use Rattle.lk_link.specs.Sources.{Units}
 use Rattle.lk_link.specs.declared.clash.Clash.{Clash}
+use Rattle.lk_join.specs.Agreeing.{AreAgreed}
 use Rattle.lk_join.specs.Program.{IsRefusal, no_main, refusal_of}
 use Rattle.lk_join.specs.Program.IsRefusal.{without_main, clashing}
 
@@ -28,3 +29,7 @@ module _ (units given : Units) (same : given ≡ units) where
   nothing_clashes externs found first is =
       let none = subst (λ (o : Option Clash). MatchOption o ((other : Clash) → IsClash given externs other → ⊥) (IsFirstClash given externs)) is first in
       subst (λ (us : Units). (clash : Clash) → IsClash us externs clash → ⊥) same none
+
+-- sources that speak against nothing agree
+pub agreed : (units : Units) (externs : List (List ℕ)) → ((clash : Clash) → IsClash units externs clash → ⊥) → AreAgreed units
+agreed units externs nothing = record { once = λ clash is. nothing clash (defined_twice is); alike = λ clash is. nothing clash (types_differ is) }

@@ -5,8 +5,13 @@ use Rattle.std.specs.Map.{lookup}
 use Rattle.lk_link.specs.Sources.{ComesBefore, IsDefinition, IsEntity, Units}
 use Rattle.lk_typed.specs.declared.entity.Entity.{Entity}
 use Rattle.lk_typed.specs.declared.entity.Linkage.TheVariants.{External}
+use Rattle.lk_typed.specs.declared.unit.TypedUnit.{TypedUnit}
 use Rattle.lk_typed.specs.declared.whole.WholeEntity.{WholeEntity}
 use Rattle.lk_join.specs.Forms.{IsHere}
+
+-- each type of a source has its number in the program: `types` has the rows of the sources
+abbrev pub HaveNumbers : Units → (types : List (List ℕ)) → Type 0
+HaveNumbers units types = (s : ℕ) (unit : TypedUnit) (row : List ℕ) → slice_get units s ≡ Some unit → slice_get types s ≡ Some row → length unit.types.types ≡ length row
 
 -- the program's entities so far, and of each name of external linkage the number of its entity
 pub record Gathered : Type 0 where

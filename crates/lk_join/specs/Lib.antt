@@ -1,3 +1,4 @@
+pub mod Agreeing
 pub mod Classes
 pub mod Completing
 pub mod Entities

@@ -1,9 +1,11 @@
 //! The functions and objects of static storage of the program.
-ghost use Rattle.std.specs.Prelude.{◌≡◌, ◌↔◌, ◌<◌, ◌≤◌, ◌^◌, [], IfOk, IsTrue, OnOk, length};
+ghost use Rattle.std.specs.Prelude.{◌≡◌, ◌↔◌, ◌<◌, ◌≤◌, ◌^◌, [], All, IfOk, IsTrue, OnOk, length};
 ghost use Rattle.std.specs.List.{Any};
-ghost use Rattle.lk_join.specs.Entities.{AreEntityRows, AreNamed, ArePut, IsListed, IsPushed, IsPushedNamed, IsSaid, IsToldAt, number_named};
+ghost use Rattle.lk_join.specs.Agreeing.{AreAgreed, FitFrom, MayPut, MayTellAt};
+ghost use Rattle.lk_join.specs.Entities.{AreEntityRows, AreNamed, ArePut, HaveNumbers, IsListed, IsPushed, IsPushedNamed, IsSaid, IsToldAt, number_named};
 ghost use Rattle.lk_join.specs.Program.{HasMainAt, IsMainFunction};
 ghost use Rattle.lk_link.specs.Clashes.{HasMain};
+ghost use Rattle.lk_link.specs.Sources.{AreSources, HaveOwnNames};
 ghost use Rattle.lk_typed.specs.declared.entity.Linkage.TheVariants as linkage;
 
 use crate::forms::here;
@@ -35,14 +37,11 @@ impl Model for Entities {
     ghost invariant = { λ entities. length entities.list.items ≤ 2 ^ 32 };
 }
 
-/// What a source says of an entity, with the program's type. `NoMemory` where that has no number in the program, which
-/// doesn't come.
+/// What a source says of an entity, with the program's type.
 fn entity_here(entity: &Entity, place: (u32, u32), row: &[TypeId]) -> Result<WholeEntity, NoMemory>
+    requires { entity.now.ty < length row.now }
     ensures { IfOk result (IsSaid row.now place entity.now) }
 {
-    if entity.ty.index() >= row.len() {
-        return Err(NoMemory);
-    }
     let ty = here(row, entity.ty);
     let name = entity.name.copy()?;
     let defined = if is_defined(entity) {
@@ -57,16 +56,6 @@ fn entity_here(entity: &Entity, place: (u32, u32), row: &[TypeId]) -> Result<Who
         ty,
         defined,
     })
-}
-
-/// Whether two entities are both functions, or both objects.
-fn are_of_one_kind(a: EntityKind, b: EntityKind) -> bool
-    ensures { IsTrue result ↔ (a ≡ b) }
-{
-    match a {
-        EntityKind::Function => matches!(b, EntityKind::Function),
-        EntityKind::Object => matches!(b, EntityKind::Object),
-    }
 }
 
 /// Whether an entity is a function `main` of external linkage.
@@ -114,25 +103,17 @@ impl Entities {
     }
 
     /// Tells of an entity that is there what a source says of it: where that defines it, the source and its type there.
-    /// `NoMemory` where one is a function and the other an object, or both are defined, which doesn't come: the sources
-    /// would clash (C99 6.2.7, 2; 6.9, 5).
-    fn tell(&mut self, number: u32, is: &WholeEntity) -> Result<(), NoMemory>
-        requires { number < length self.old.list }
-        ensures { OnOk result (IsToldAt self.old self.new number is.now) }
+    fn tell(&mut self, number: u32, is: &WholeEntity)
+        requires there { number < length self.old.list }
+        requires may { MayTellAt self.old.list number is.now }
+        ensures { IsToldAt self.old self.new number is.now }
     {
         let there = &mut self.list[number as usize];
-        if !are_of_one_kind(there.kind, is.kind) {
-            return Err(NoMemory);
-        }
         if is.defined.is_none() {
-            return Ok(());
-        }
-        if there.defined.is_some() {
-            return Err(NoMemory);
+            return;
         }
         there.defined = is.defined;
         there.ty = is.ty;
-        Ok(())
     }
 
     /// Puts an entity behind the others, under its name.
@@ -155,13 +136,14 @@ impl Entities {
     /// Puts an entity of external linkage: each name has one (C99 6.2.2, 2).
     fn put_external(&mut self, is: WholeEntity) -> Result<u32, NoMemory>
         requires named { AreNamed self.old }
+        requires may { MayPut self.old.list is }
         requires external { is.linkage ≡ linkage.External }
         ensures listed { IfOk result (IsListed self.old.list self.new.list is) }
         ensures named { OnOk result (AreNamed self.new) }
     {
         match self.find(&is.name) {
             Some(number) => {
-                self.tell(number, &is)?;
+                self.tell(number, &is);
                 Ok(number)
             }
             None => {
@@ -184,7 +166,8 @@ impl Entities {
 
     /// Puts an entity of a source. Answers its number in the program.
     fn put(&mut self, is: WholeEntity) -> Result<u32, NoMemory>
-        requires { AreNamed self.old }
+        requires named { AreNamed self.old }
+        requires may { MayPut self.old.list is }
         ensures listed { IfOk result (IsListed self.old.list self.new.list is) }
         ensures named { OnOk result (AreNamed self.new) }
     {
@@ -202,7 +185,10 @@ impl Entities {
         entities: &[Entity],
         row: &[TypeId],
     ) -> Result<Seq<u32>, NoMemory>
-        requires { AreNamed self.old }
+        requires named { AreNamed self.old }
+        requires fit { FitFrom self.old.list entities.now 0 }
+        requires names { HaveOwnNames entities.now }
+        requires numbered { All (λ entity. entity.ty < length row.now) entities.now }
         ensures put { IfOk result (λ numbers.
             ArePut source row.now self.old.list entities.now numbers self.new.list) }
         ensures named { OnOk result (AreNamed self.new) }
@@ -226,7 +212,10 @@ impl Entities {
         types: &[Seq<TypeId>],
     ) -> Result<Vec<Seq<u32>>, NoMemory>
         requires few { length units.now < 2 ^ 32 }
+        requires sources { AreSources units.now }
+        requires agreed { AreAgreed units.now }
         requires types { length types.now ≡ length units.now }
+        requires numbers { HaveNumbers units.now types.now }
         requires empty { self.old.list ≡ [] }
         requires named { AreNamed self.old }
         ensures { IfOk result (λ rows.
@@ -259,7 +248,10 @@ pub(crate) fn join_entities(
     types: &[Seq<TypeId>],
 ) -> Result<Joined, NoMemory>
     requires few { length units.now < 2 ^ 32 }
+    requires sources { AreSources units.now }
+    requires agreed { AreAgreed units.now }
     requires types { length types.now ≡ length units.now }
+    requires numbers { HaveNumbers units.now types.now }
     requires main { HasMain units.now }
     ensures main_at { IfOk result (λ joined. HasMainAt joined.entities joined.main) }
     ensures rows { IfOk result (λ joined.

@@ -1,5 +1,5 @@
 //! The forms of types of a source, made of the program's types.
-ghost use Rattle.std.specs.Prelude.{◌≡◌, ◌<◌, ◌^◌, ℕ, All, IfOk, length};
+ghost use Rattle.std.specs.Prelude.{◌≡◌, ◌<◌, ◌^◌, All, IfOk, length};
 ghost use Rattle.std.specs.List.{AllZip};
 ghost use Rattle.lk_link.specs.Sources.{HasKnownMembers};
 ghost use Rattle.lk_types.specs.Building.{IsMadeOf};

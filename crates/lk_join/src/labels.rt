@@ -1,5 +1,5 @@
 //! Labels of structs: those that are one in the program have one label.
-ghost use Rattle.std.specs.Prelude.{◌≡◌, ◌<◌, ℕ, All, IfOk, OnOk, length};
+ghost use Rattle.std.specs.Prelude.{◌≡◌, ◌<◌, All, IfOk, OnOk, length};
 ghost use Rattle.lk_join.specs.Classes.{IsInProgram};
 ghost use Rattle.lk_join.specs.Labels.{AreLabels, AreOwn, HasMetAll, HaveMet, IsRelabelled};
 ghost use Rattle.lk_link.specs.Sources.{AreSources};

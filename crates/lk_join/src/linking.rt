@@ -1,5 +1,6 @@
 //! The program that sources make together.
 ghost use Rattle.std.specs.Prelude.{◌≡◌, ◌<◌, ◌^◌, [], IfErr, IfOk, Some, length};
+ghost use Rattle.lk_join.specs.Agreeing.{AreAgreed};
 ghost use Rattle.lk_join.specs.Entities.{AreEntityRows};
 ghost use Rattle.lk_join.specs.Program.{HasMainAt, IsFault, IsLinked, no_main, refusal_of};
 ghost use Rattle.lk_join.specs.Sources.{AreLinked, AreTypesOf};
@@ -126,6 +127,7 @@ fn whole_of(
 /// The program that sources make which speak against nothing.
 fn join(alloc: Global, units: Vec<TypedUnit>) -> Result<Whole, NoMemory>
     requires sources { AreSources units.items }
+    requires agreed { AreAgreed units.items }
     requires few { length units.items < 2 ^ 32 }
     requires main { HasMain units.items }
     ensures { IfOk result (λ whole. IsJoined whole units.items) }

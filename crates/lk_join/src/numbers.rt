@@ -1,9 +1,7 @@
 //! The numbers of structs in the program.
 ghost use Rattle.std.specs.Prelude.{◌<◌, All, IfOk, length};
-ghost use Rattle.lk_join.specs.Classes.{AreNumbers, IsInProgram};
-ghost use Rattle.lk_join.specs.Labels.{AreLabels};
+ghost use Rattle.lk_join.specs.Classes.{AreNumbers};
 ghost use Rattle.lk_join.specs.Numbering.{AreAllLabelled, AreLabelled, IsNumbered};
-ghost use Rattle.lk_join.specs.Places.{AreAllPutAt};
 ghost use Rattle.lk_link.specs.Sources.{AreSources};
 ghost use Rattle.lk_link.specs.Structs.{AreResolved};
 

@@ -60,7 +60,8 @@ impl Source<'_> {
     fn put_type(&self, row: &[TypeId], t: TypeId, table: &mut TypeTable) -> Result<TypeId, NoMemory>
         requires known { IsKnown self.now.types.now t }
         requires before { length row.now ≡ t }
-        ensures put { IfOk result (IsPutAt table.new row.now self.now.structs.now (type_at self.now.types.now t)) }
+        ensures put { IfOk result
+            (IsPutAt table.new row.now self.now.structs.now (type_at self.now.types.now t)) }
         ensures gives { OnOk result
             (GivesMembers self.now.types.now row.now self.now.structs.now table.old table.new) }
     {
@@ -72,7 +73,8 @@ impl Source<'_> {
 
     /// Puts the types of the source to the program's. Answers their numbers there.
     fn put_types(&self, table: &mut TypeTable) -> Result<Vec<TypeId>, NoMemory>
-        ensures put { IfOk result (λ row. ArePutAt table.new row.items self.now.structs.now self.now.types.now.types) }
+        ensures put { IfOk result (λ row.
+            ArePutAt table.new row.items self.now.structs.now self.now.types.now.types) }
         ensures gives { IfOk result (λ row.
             GivesMembers self.now.types.now row.items self.now.structs.now table.old table.new) }
     {
@@ -86,7 +88,8 @@ impl Source<'_> {
 
     /// Puts the types of the source to the program's, and completes there what it completes. Answers the types' numbers.
     fn join(&self, table: &mut TypeTable) -> Result<Seq<TypeId>, NoMemory>
-        ensures put { IfOk result (λ row. ArePutAt table.new row self.now.structs.now self.now.types.now.types) }
+        ensures put { IfOk result (λ row.
+            ArePutAt table.new row self.now.structs.now self.now.types.now.types) }
         ensures gives { IfOk result (λ row.
             GivesMembers self.now.types.now row self.now.structs.now table.old table.new) }
         ensures completed { OnOk result (AreCompleted self.now.types.now self.now.structs.now table.new
@@ -138,7 +141,8 @@ fn join_rows(
     requires numbers { AreNumbers units.now numbers.now.rows numbers.now.count }
     requires few { numbers.now.count < 2 ^ 32 }
     requires incomplete { AreOpen table.old }
-    ensures put { IfOk result (λ rows. AreRowsOf units.now numbers.now.rows table.new rows.items (length units.now)) }
+    ensures put { IfOk result (λ rows.
+        AreRowsOf units.now numbers.now.rows table.new rows.items (length units.now)) }
     ensures members { IfOk result (λ rows. HasMembers units.now numbers.now.rows rows.items table.new) }
     ensures longer { OnOk result (IsLonger table.old table.new) }
 {

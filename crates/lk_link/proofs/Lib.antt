@@ -1,5 +1,6 @@
 pub mod Answering
 pub mod Becoming
+pub mod DeclaredKinds
 pub mod Differing
 pub mod Gaining
 pub mod Gathering
@@ -18,4 +19,5 @@ pub mod Placing
 pub mod Redefining
 pub mod Resolving
 pub mod Telling
+pub mod TypedSources
 pub mod Zipping

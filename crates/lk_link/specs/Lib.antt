@@ -2,7 +2,9 @@ pub mod Absent
 pub mod Clashes
 pub mod Comparing
 pub mod Differing
+pub mod EntityKinds
 pub mod First
+pub mod Laws
 pub mod Library
 pub mod LibraryTypes
 pub mod Pairs

@@ -1,11 +1,9 @@
 //! Names that several sources define.
-ghost use Rattle.std.specs.Prelude.{◌≡◌, ◌<◌, ◌↔◌, Some, IsTrue, IfOk, OnOk};
-ghost use Rattle.std.specs.List.{Any, Contains};
+ghost use Rattle.std.specs.Prelude.{◌≡◌, ◌<◌, ◌↔◌, IsTrue, IfOk, OnOk};
+ghost use Rattle.std.specs.List.{Contains};
 ghost use Rattle.lk_base.specs.declared.code.Code.TheVariants.{DefinedTwice};
 ghost use Rattle.lk_link.specs.Clashes.{IsDefinedTwice};
-ghost use Rattle.lk_link.specs.Sites.{AreNames, Grows, IsAgain, IsDefinedEarlier, IsDefinedBefore, IsAgainAt, clash_of, group_at};
-ghost use Rattle.lk_link.specs.Sources.{IsDefining, IsEntity};
-ghost use Rattle.lk_typed.specs.declared.entity.Entity.{Entity};
+ghost use Rattle.lk_link.specs.Sites.{AreNames, Grows, IsAgain, IsDefinedEarlier, IsDefinedBefore, IsAgainAt, clash_of};
 
 use crate::clash::Clash;
 use crate::names::Names;

@@ -1,5 +1,5 @@
 //! Types and structs of two sources compared.
-ghost use Rattle.std.specs.Prelude.{◌≡◌, ◌<◌, IfOk, All, length};
+ghost use Rattle.std.specs.Prelude.{◌<◌, IfOk, All, length};
 ghost use Rattle.lk_link.specs.Comparing.{IsAnsweredHere, AreOneHere, AreAllOneHere, AreMadeAs, AreOnePair, AreOneMembersHere};
 ghost use Rattle.lk_types.specs.Building.{types_of};
 ghost use Rattle.lk_types.specs.Table.{IsKnown, HasKnown};

@@ -1,5 +1,5 @@
 //! Names of the library's functions that are declared with other types.
-ghost use Rattle.std.specs.Prelude.{◌≡◌, ◌↔◌, IsTrue, IfOk, OnOk};
+ghost use Rattle.std.specs.Prelude.{◌↔◌, IsTrue, IfOk, OnOk};
 ghost use Rattle.std.specs.List.{Contains};
 ghost use Rattle.lk_link.specs.Clashes.{DiffersFromLibrary};
 ghost use Rattle.lk_link.specs.Differing.{type_at};

@@ -1,5 +1,5 @@
 //! Pairs of structs.
-ghost use Rattle.std.specs.Prelude.{◌≡◌, ◌<◌, ◌^◌, [], Some, true, length, slice_get, OnOk, OnErr};
+ghost use Rattle.std.specs.Prelude.{◌≡◌, ◌<◌, ◌^◌, [], Some, true, length, slice_get, OnOk};
 ghost use Rattle.lk_link.specs.Pairs.{IsAnswered, IsAmong};
 
 use crate::place::StructPair;

@@ -1,5 +1,5 @@
 //! A table of types beside what its structs are in the program.
-ghost use Rattle.std.specs.Prelude.{◌≡◌, ◌<◌, ◌≤◌, Some, length, slice_get};
+ghost use Rattle.std.specs.Prelude.{◌≡◌, ◌<◌, Some, length, slice_get};
 ghost use Rattle.lk_link.specs.Comparing.{SideTable};
 ghost use Rattle.lk_types.specs.Building.{IsMadeOf};
 ghost use Rattle.lk_types.specs.Table.{IsKnown, HasKnown, members_of};

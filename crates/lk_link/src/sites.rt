@@ -1,6 +1,6 @@
 //! The declarations of names of external linkage in all sources.
 ghost use Rattle.std.specs.Prelude.{◌≡◌, ◌<◌, ◌^◌, length, OnOk, IfOk};
-ghost use Rattle.lk_link.specs.Sites.{Grows, IsOfSome, IsExternalAt, IsExternalOf, IsSiteAt, AreExternals, AreSites, IsExternal, site_of};
+ghost use Rattle.lk_link.specs.Sites.{Grows, IsOfSome, IsExternalAt, IsExternalOf, IsSiteAt, AreExternals, AreSites, site_of};
 ghost use Rattle.lk_link.specs.Sources.{IsEntity};
 ghost use Rattle.lk_typed.specs.declared.entity.Entity.{Entity};
 

@@ -1,66 +1,10 @@
-//! What is asked of checked sources, and whether they have a `main`.
-ghost use Rattle.std.specs.Prelude.{◌↔◌, IsTrue, All};
+//! What checked sources define, and whether they have a `main`.
+ghost use Rattle.std.specs.Prelude.{◌↔◌, IsTrue};
 ghost use Rattle.std.specs.List.{Any};
-ghost use Rattle.lk_link.specs.Sources.{IsSource, AreSources, HasKnownMembers, HasKnownDeclarations, IsDefining, IsDefinition};
+ghost use Rattle.lk_link.specs.Sources.{IsDefining, IsDefinition};
 ghost use Rattle.lk_link.specs.Clashes.{HasMain, IsMain};
-ghost use Rattle.lk_types.specs.Table.{IsKnown};
 
 use lk_typed::{Declaration, Defines, Entity, EntityKind, Linkage, TypedUnit};
-use lk_types::{StructMember, TypeTable};
-
-/// Whether the types of these members are in the table.
-fn are_known(types: &TypeTable, members: &[StructMember]) -> bool
-    ensures { IsTrue result ↔ All (λ member. IsKnown types.now member.ty) members.now }
-{
-    members.iter().all(|member| member.ty.0 < types.count())
-}
-
-/// Whether the types of all members of structs are in the table.
-fn has_known_members(types: &TypeTable) -> bool
-    ensures { IsTrue result ↔ HasKnownMembers types.now }
-{
-    for s in 0..types.structs() {
-        if !are_known(types, types.members(s)) {
-            return false;
-        }
-    }
-    true
-}
-
-/// Whether the types of these declarations are in the table.
-fn are_declared(types: &TypeTable, declarations: &[Declaration]) -> bool
-    ensures { IsTrue result ↔ All (λ declaration. IsKnown types.now declaration.ty) declarations.now }
-{
-    declarations
-        .iter()
-        .all(|declaration| declaration.ty.0 < types.count())
-}
-
-/// Whether the types of all declarations are in the table.
-fn has_known_declarations(types: &TypeTable, entities: &[Entity]) -> bool
-    ensures { IsTrue result ↔ HasKnownDeclarations types.now entities.now }
-{
-    entities
-        .iter()
-        .all(|entity| are_declared(types, entity.declarations.list()))
-}
-
-/// Whether a unit has what a checked source has.
-fn is_source(unit: &TypedUnit) -> bool
-    ensures { IsTrue result ↔ IsSource unit.now }
-{
-    unit.structs.len() == unit.types.structs() as usize
-        && has_known_members(&unit.types)
-        && has_known_declarations(&unit.types, unit.entities.list())
-}
-
-/// Whether units have what checked sources have: each struct an entry for its tag, and each member and declaration a
-/// type of the unit's table.
-pub fn are_sources(units: &[TypedUnit]) -> bool
-    ensures { IsTrue result ↔ AreSources units.now }
-{
-    units.iter().all(|unit| is_source(unit))
-}
 
 /// Whether a declaration that defines this defines its name.
 pub(crate) fn defines(what: Defines) -> bool

@@ -1,4 +1,4 @@
-use Rattle.lk_join.proofs.Refusing.{main_there, nothing_clashes, refused_clashing, refused_without}
+use Rattle.lk_join.proofs.Refusing.{agreed, main_there, nothing_clashes, refused_clashing, refused_without}
 use Rattle.lk_join.proofs.linking.link.Goals as goal
 
 pub returns-then-not-has_main-clause-err : goal.returns-then-not-has_main-clause-err
@@ -19,3 +19,8 @@ returns-in_ok-whole-in-None-clause-ok c =
       no_clash = nothing_clashes units c.as_slice-2.result.now c.as_slice-2.ensures.value c.args.externs.now c.in_ok-clash.field-0 c.in_ok-clash.ensures c.in-None.is;
       joined = c.in_ok-whole-in-None.ensures;
     }
+
+pub join-requires-clause-agreed : goal.join-requires-clause-agreed
+join-requires-clause-agreed c =
+    agreed c.args.units.items c.args.externs.now
+    (nothing_clashes c.args.units.items c.as_slice-2.result.now c.as_slice-2.ensures.value c.args.externs.now c.in_ok-clash.field-0 c.in_ok-clash.ensures c.in-None.is)
