@@ -1,7 +1,7 @@
 -- What the reading of both kinds of files says of a command.
 use Rattle.std.proofs.Common.{inl, inr, ◌≡◌, ◌∙◌, ◌≤◌, ◌&&◌, ℕ, Bool, true, false, List, [], ◌∷◌, Option, Some, None, Bor, length, map, nat_le, refl, sym, ap, subst, arith}
 use Rattle.std.specs.List.{All, AllByRecursion, list_all}
-use Rattle.std.specs.Option.{ForSome, option_map_or}
+use Rattle.std.specs.Option.{option_map_or}
 use Rattle.std.proofs.lemmas.Bool.{leb-true}
 use Rattle.std.proofs.lemmas.List.Elements.{All-nil, All-cons, All-from_recursion, recursion_from_All}
 use Rattle.lk_base.specs.declared.code.Code.TheVariants.{TooLong}
@@ -10,7 +10,7 @@ use Rattle.lk_io.specs.Shelf.{Held, IsFileName}
 use Rattle.lk_words.specs.Words.{Check, Word, is_count, is_in_bounds, is_name}
 use Rattle.lk_sources.specs.Calls.{AreFileNames, AreFiles, AreNoFiles, AreBoth, AreNotBoth, IsUnread}
 use Rattle.lk_sources.specs.Numbers.{numbered, refusal_at}
-use Rattle.lk_sources.specs.Readable.{Reads, FailsToRead}
+use Rattle.lk_sources.specs.Readable.{FailsToRead}
 use Rattle.lk_sources.specs.Reading.{longest_externs, longest_sources, names_of, IsTooLong, nothing, long_externs, long_sources, at_externs, at_sources}
 use Rattle.lk_sources.specs.Shelves.{Shelved, IsAsBefore}
 use Rattle.lk_sources.specs.declared.fault.SourcesFault.{SourcesFault}

@@ -1,10 +1,10 @@
 -- Files that are read in order.
-use Rattle.std.proofs.Common.{◌≡◌, ◌∙◌, ℕ, ◌-◌, ◌≤◌, List, [], ◌∷◌, ◌++◌, Option, Some, length, map, refl, sym, ap, subst}
+use Rattle.std.proofs.Common.{◌≡◌, ◌∙◌, ℕ, ◌-◌, ◌≤◌, List, [], ◌∷◌, ◌++◌, Option, Some, length, map, sym, ap, subst}
 use Rattle.std.specs.Option.{ForSome}
 use Rattle.lk_io.specs.Counts.{Rose}
-use Rattle.lk_io.specs.Shelf.{Held, IsLonger}
+use Rattle.lk_io.specs.Shelf.{Held}
 use Rattle.lk_sources.specs.Calls.{IsNoFile, AreNoFiles}
-use Rattle.lk_sources.specs.Reading.{AreRead, nothing, next, Passes, here, behind, Reaches}
+use Rattle.lk_sources.specs.Reading.{AreRead, nothing, next, Passes, here, behind}
 use Rattle.lk_sources.specs.Shelves.{Shelved}
 use Rattle.lk_sources.specs.declared.reading.ReadingFault.{ReadingFault}
 use Rattle.lk_sources.specs.declared.reading.ReadingFault.TheVariants as unread

@@ -3,9 +3,11 @@ pub mod FaultsUpto
 pub mod InOrder
 pub mod Lines
 pub mod Lists
+pub mod Many
 pub mod Numbered
 pub mod OneReading
 pub mod OneResult
+pub mod Placing
 pub mod SplitsUpto
 pub mod Told
 pub mod TreesUpto

@@ -4,7 +4,7 @@ use Rattle.std.specs.Prelude.{option_and_then, codes}
 use Rattle.std.specs.Str.{bytes_eq}
 use Rattle.std.proofs.lemmas.Option.{same_Some}
 use Rattle.lk_io.specs.Shelf.{Held, IsLonger}
-use Rattle.lk_words.specs.Words.{Check, Word, command, in_bounds, is_in_bounds, named_of}
+use Rattle.lk_words.specs.Words.{Check, in_bounds, is_in_bounds, named_of}
 use Rattle.lk_sources.specs.Laws.{CommandsAreInBounds, HasOneReading, NeverTooLong}
 use Rattle.lk_sources.specs.Reading.{names_of, longest_externs, longest_sources, AreRead, nothing, next, Passes, here, behind, long_externs, long_sources, source}
 use Rattle.lk_sources.specs.declared.reading.Source.{Source}

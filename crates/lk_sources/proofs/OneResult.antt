@@ -1,25 +1,21 @@
 -- Sources are accepted with one result, and those that are accepted are not refused.
-use Rattle.std.proofs.Common.{◌≡◌, ◌∙◌, ℕ, List, [], ◌∷◌, Some, None, map, refl, sym, ap, subst}
-use Rattle.std.specs.List.{AllByRecursion}
+use Rattle.std.proofs.Common.{◌≡◌, ◌∙◌, ℕ, List, [], ◌∷◌, refl, sym, ap, subst}
 use Rattle.lk_base.specs.declared.refusal.Refusal.{Refusal}
-use Rattle.lk_io.specs.Shelf.{Held}
 use Rattle.lk_lex.specs.Tokens.{start_of}
 use Rattle.lk_lex.specs.declared.token.Token.{Token}
 use Rattle.lk_lex.specs.Laws.{HasOneList, NeverBoth}
 use Rattle.lk_parse_unit.specs.Tree.{HasOneTree}
 use Rattle.lk_tree.specs.declared.statement.Unit.{Unit}
 use Rattle.lk_typed.specs.Env.{Name}
-use Rattle.lk_words.specs.Words.{Check}
-use Rattle.lk_sources.specs.Accepting.{AreAccepted, AreRefused, stopped, unsupported, without_tree, faulty, IsAccepted, IsRefused, bad_externs, sources_refused, IsAcceptedFor, IsRefusedFor, too_long, refused, units_of}
-use Rattle.lk_sources.specs.Externs.{Listed, Names, BadLine, listed, externs_text}
+use Rattle.lk_sources.specs.Accepting.{AreAccepted, AreRefused, stopped, unsupported, without_tree, faulty, IsAccepted, bad_externs, sources_refused, too_long, refused, units_of}
+use Rattle.lk_sources.specs.Externs.{Names, listed, externs_text}
 use Rattle.lk_sources.specs.Faults.{AreFaultless, AreFaulty}
 use Rattle.lk_sources.specs.Faults as fault
-use Rattle.lk_sources.specs.Laws.{IsAlike, HasOneResult, NeverRefused, HasOneResultFor, NeverRefusedFor}
+use Rattle.lk_sources.specs.Laws.{HasOneResult, NeverRefused, HasOneResultFor, NeverRefusedFor}
 use Rattle.lk_sources.specs.Numbers.{number_of, numbered}
 use Rattle.lk_sources.specs.Splitting.{AreSplit, nothing, next, StopsIn, here, behind, first_word}
 use Rattle.lk_sources.specs.Trees.{AreTrees, HasNoTree}
 use Rattle.lk_sources.specs.Trees as tree
-use Rattle.lk_sources.specs.declared.accepting.Accepted.{Accepted}
 use Rattle.lk_sources.specs.declared.reading.Source.{Source}
 use Rattle.lk_sources.proofs.OneReading.{has_one_reading, never_too_long}
 

@@ -1,10 +1,10 @@
 -- How far the splits of several sources have come.
-use Rattle.std.specs.Bool.{⊤}
-use Rattle.std.proofs.Common.{◌≡◌, ◌≢◌, ◌∙◌, ◌≤◌, ◌⊎◌, inl, inr, ℕ, true, List, [], ◌∷◌, ◌++◌, Option, Some, None, length, refl, sym, ap, subst}
-use Rattle.std.specs.List.{All, AllZip}
+use Rattle.std.proofs.Common.{◌≡◌, ◌≢◌, ◌∙◌, ◌<◌, ◌≤◌, ◌+◌, ◌⊎◌, inl, inr, ℕ, true, List, [], ◌∷◌, ◌++◌, Option, Some, None, length, refl, sym, ap, subst, arith}
+use Rattle.std.specs.List.{All}
 use Rattle.std.specs.Option.{option_or, option_map}
-use Rattle.std.proofs.lemmas.List.{append_assoc, append-nil}
-use Rattle.std.proofs.lemmas.List.Elements.{All-head, All-tail, All-weaker}
+use Rattle.std.proofs.lemmas.List.{append_assoc, append-nil, length-append}
+use Rattle.std.proofs.lemmas.List.Elements.{All-head, All-nil, All-push, All-tail, All-weaker}
+use Rattle.std.proofs.lemmas.Option.{same_Some}
 use Rattle.lk_base.specs.Files.{has_name, with_name}
 use Rattle.lk_base.specs.declared.code.Code.{Code}
 use Rattle.lk_base.specs.declared.code.Code.TheVariants.{Byte, Token as BadToken, UnsupportedWord}
@@ -15,7 +15,7 @@ use Rattle.lk_base.specs.declared.spot.Spot.{Spot}
 use Rattle.lk_lex.specs.Answer.{Extends, IsRefused, first_refused, refusal, text_of}
 use Rattle.lk_lex.specs.Answer as answer
 use Rattle.lk_lex.specs.Lengths.{IsStop}
-use Rattle.lk_lex.specs.TokenList.{IsInside}
+use Rattle.lk_lex.specs.TokenList.{AreTokensOf, IsInside}
 use Rattle.lk_lex.specs.Tokens.{Splits, Stops, start_of}
 use Rattle.lk_lex.specs.Tokens as split
 use Rattle.lk_lex.specs.declared.place.Place.{Place}
@@ -23,7 +23,7 @@ use Rattle.lk_lex.specs.declared.token.Token.{Token}
 use Rattle.lk_sources.specs.Calls.{IsSplit, AreAllInside, IsSplitFault}
 use Rattle.lk_sources.specs.Numbers.{number_of}
 use Rattle.lk_sources.specs.Readable.{AreNamed, AreShort}
-use Rattle.lk_sources.specs.Splitting.{AreSplit, nothing, next, StopsIn, here, behind, word_in, first_word}
+use Rattle.lk_sources.specs.Splitting.{AreFiled, AreSplit, nothing, next, StopsIn, here, behind, word_in, first_word}
 use Rattle.lk_sources.specs.declared.reading.Source.{Source}
 use Rattle.lk_sources.specs.declared.splitting.Split.TheVariants as splits
 use Rattle.lk_sources.proofs.Numbered.{has_extended, with_itself}
@@ -42,11 +42,11 @@ no_word : (code : Code) → (code ≡ Byte) ⊎ (code ≡ BadToken) → code ≡
 no_word code (inl e) is = let clash = sym e ∙ is in cc
 no_word code (inr e) is = let clash = sym e ∙ is in cc
 
-pub word_found : (names : List (List ℕ)) (own : ℕ) (s : Source) (last : List (List ℕ)) (told : Refusal) → IsRefused names own s.bytes last told → told.code ≡ UnsupportedWord →
-    IsSplit names own s last (splits.Word told)
-word_found names own s last told (answer.stopped code spot stops) is = absurd (no_word code (stop_is stops) is)
-word_found names own s last told (answer.unsupported tokens token split found) is =
-    (tokens, split, ap (option_map (λ (t : Token). refusal UnsupportedWord t.spot (text_of s.bytes t))) found)
+pub word_found : (names : List (List ℕ)) (own : ℕ) (s : Source) (last : List (List ℕ)) (told : Refusal) → IsRefused names own s.bytes last told → told.spot.file < length last →
+    told.code ≡ UnsupportedWord → IsSplit names own s last (splits.Word told)
+word_found names own s last told (answer.stopped code spot stops) there is = absurd (no_word code (stop_is stops) is)
+word_found names own s last told (answer.unsupported tokens token split found) there is =
+    ((tokens, split, ap (option_map (λ (t : Token). refusal UnsupportedWord t.spot (text_of s.bytes t))) found), there)
 
 pub stop_found : (names : List (List ℕ)) (own : ℕ) (bytes : List ℕ) (last : List (List ℕ)) (told : Refusal) → IsRefused names own bytes last told → told.code ≢ UnsupportedWord →
     IsStop names (start_of own) bytes last (fault.Refused told)
@@ -92,6 +92,36 @@ inside_more [] (list ∷ lists) s tokens all inside = absurd all
 inside_more (first ∷ before) [] s tokens all inside = absurd all
 inside_more (first ∷ before) (list ∷ lists) s tokens all inside = (all.0, inside_more before lists s tokens all.1 inside)
 
+-- ---- the files of tokens
+
+last_has : {A : Type 0} (P : A → Type 0) (before : List A) (last : A) → All P (before ++ last ∷ []) → P last
+last_has P [] last all = All-head P last [] all
+last_has P (a ∷ before) last all = last_has P before last (All-tail P a (before ++ last ∷ []) all)
+
+-- tokens of an answer stand in its files
+pub filed_in : (bytes : List ℕ) (files : List (List ℕ)) (tokens : List Token) → AreTokensOf bytes files tokens → AreFiled (length files) tokens
+filed_in bytes files tokens are =
+    let last = last_has (λ (t : Token). t.spot.file < length files) are.ended.before are.ended.last (subst (All (λ (t : Token). t.spot.file < length files)) are.ended.all are.filed) in
+    record { some = omega (arith, last); each = are.filed }
+
+-- behind other names too
+below_later : (now last : List (List ℕ)) (file : ℕ) → Extends now last → file < length now → file < length last
+below_later now last file (more, is) below =
+    let longer : length last ≡ length now + length more = ap length is ∙ length-append now more in
+    omega (arith, longer, below)
+
+filed_later : (now last : List (List ℕ)) (tokens : List Token) → Extends now last → AreFiled (length now) tokens → AreFiled (length last) tokens
+filed_later now last tokens extends filed = record {
+  some = below_later now last 0 extends filed.some;
+  each = All-weaker (λ (t : Token). t.spot.file < length now) (λ (t : Token). t.spot.file < length last) (λ t below. below_later now last t.spot.file extends below) tokens filed.each;
+}
+
+-- the first of two refusals stands there, where each does
+first_in : (files : ℕ) (word : Option Refusal) (later : Refusal) → ((told : Refusal) → word ≡ Some told → told.spot.file < files) → later.spot.file < files →
+    (told : Refusal) → option_or word (Some later) ≡ Some told → told.spot.file < files
+first_in files None later before there told is = subst (λ (r : Refusal). r.spot.file < files) (same_Some later told is) there
+first_in files (Some word) later before there told is = before told is
+
 -- These sources are split, with these lists, where no word is found in them. The rest is left.
 pub record Upto (names : List (List ℕ)) (sources rest : List Source) (now : List (List ℕ)) (lists : List (List Token)) (word : Option Refusal) : Type 0 where
   pub before : List Source
@@ -100,12 +130,14 @@ pub record Upto (names : List (List ℕ)) (sources rest : List Source) (now : Li
   pub split : AreSplit names before all now
   pub found : first_word before all ≡ word
   pub kept : word ≡ None → (all ≡ lists) × AreAllInside before all
+  pub filed : All (AreFiled (length now)) lists
+  pub word_in : (told : Refusal) → word ≡ Some told → told.spot.file < length now
   pub short : AreShort 1048576 rest
   pub named : AreNamed now rest
 
 pub upto_none : (names : List (List ℕ)) (sources : List Source) → AreShort 1048576 sources → AreNamed names sources → Upto names sources sources names [] None
 upto_none names sources short named =
-    record { before = []; whole = refl; all = []; split = nothing; found = refl; kept = λ e. (refl, tt); short = short; named = named }
+    record { before = []; whole = refl; all = []; split = nothing; found = refl; kept = λ e. (refl, tt); filed = All-nil (AreFiled (length names)); word_in = λ told is. cc; short = short; named = named }
 
 module _ (names : List (List ℕ)) (sources rest : List Source) (now : List (List ℕ)) (lists : List (List Token)) (word : Option Refusal) (upto : Upto names sources rest now lists word) where
   module _ (s : Source) (others : List Source) (left : rest ≡ s ∷ others) where
@@ -126,9 +158,15 @@ module _ (names : List (List ℕ)) (sources rest : List Source) (now : List (Lis
         All-weaker (λ (x : Source). has_name now x.name ≡ true) (λ (x : Source). has_name last x.name ≡ true) (λ x has. has_extended now last x.name extends has) others
         (All-tail (λ (x : Source). has_name now x.name ≡ true) s others (subst (AreNamed now) left upto.named))
 
+    filed_more : (last : List (List ℕ)) → Extends now last → All (AreFiled (length last)) lists
+    filed_more last extends = All-weaker (AreFiled (length now)) (AreFiled (length last)) (λ tokens filed. filed_later now last tokens extends filed) lists upto.filed
+
+    word_later : (last : List (List ℕ)) → Extends now last → (told : Refusal) → word ≡ Some told → told.spot.file < length last
+    word_later last extends told is = below_later now last told.spot.file extends (upto.word_in told is)
+
     pub upto_tokens : (last : List (List ℕ)) (tokens : List Token) → Extends now last → IsSplit now (number_of now s.name) s last (splits.Tokens tokens) →
         Upto names sources others last (lists ++ tokens ∷ []) word
-    upto_tokens last tokens extends (split, supported, inside) =
+    upto_tokens last tokens extends (split, supported, inside, filed) =
         let none : word_in s tokens ≡ None = ap (option_map (λ (t : Token). refusal UnsupportedWord t.spot (text_of s.bytes t))) supported in
         record {
           before = upto.before ++ s ∷ [];
@@ -137,13 +175,15 @@ module _ (names : List (List ℕ)) (sources rest : List Source) (now : List (Lis
           split = split_more s tokens upto.split split;
           found = word_more s tokens upto.split ∙ (ap (option_or (first_word upto.before upto.all)) none ∙ (option_or-none (first_word upto.before upto.all) ∙ upto.found));
           kept = λ e. (ap (λ l. l ++ tokens ∷ []) (upto.kept e).0, inside_more upto.before upto.all s tokens (upto.kept e).1 inside);
+          filed = All-push (AreFiled (length last)) lists tokens (filed_more last extends) filed;
+          word_in = word_later last extends;
           short = short_more;
           named = named_more last extends;
         }
 
     pub upto_word : (last : List (List ℕ)) (told : Refusal) (after : Option Refusal) → Extends now last → IsSplit now (number_of now s.name) s last (splits.Word told) → after ≡ option_or word (Some told) →
         Upto names sources others last lists after
-    upto_word last told after extends (tokens, split, is) kept_is =
+    upto_word last told after extends ((tokens, split, is), there) kept_is =
         record {
           before = upto.before ++ s ∷ [];
           whole = whole_more;
@@ -151,6 +191,8 @@ module _ (names : List (List ℕ)) (sources rest : List Source) (now : List (Lis
           split = split_more s tokens upto.split split;
           found = word_more s tokens upto.split ∙ (ap (option_or (first_word upto.before upto.all)) is ∙ (ap (λ w. option_or w (Some told)) upto.found ∙ sym kept_is));
           kept = λ e. absurd (some_word word told (sym kept_is ∙ e));
+          filed = filed_more last extends;
+          word_in = λ r is. first_in (length last) word told (word_later last extends) there r (sym kept_is ∙ is);
           short = short_more;
           named = named_more last extends;
         }

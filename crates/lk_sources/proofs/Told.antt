@@ -4,8 +4,8 @@ use Rattle.std.proofs.lemmas.List.Elements.{All-head}
 use Rattle.lk_base.specs.declared.code.Code.TheVariants.{BadExterns}
 use Rattle.lk_base.specs.declared.refusal.Refusal.{Refusal}
 use Rattle.lk_typed.specs.Env.{Name}
-use Rattle.lk_sources.specs.Accepting.{AreAccepted, AreRefused, units_of, IsAccepted, bad_externs, sources_refused, Refuses}
-use Rattle.lk_sources.specs.Calls.{IsInFile, IsListed, IsBadExterns}
+use Rattle.lk_sources.specs.Accepting.{AreAccepted, AreRefused, units_of, IsAccepted, IsInFile, bad_externs, sources_refused, Refuses}
+use Rattle.lk_sources.specs.Calls.{IsListed, IsBadExterns}
 use Rattle.lk_sources.specs.Externs.{Listed, Names, BadLine, listed, externs_text}
 use Rattle.lk_sources.specs.Judging.{AcceptsSources, RefusesSources}
 use Rattle.lk_sources.specs.Numbers.{refusal_at}

@@ -1,6 +1,6 @@
 -- How far the trees of several sources have come.
-use Rattle.std.proofs.Common.{◌≡◌, ◌∙◌, ℕ, zero, suc, ◌+◌, ◌<◌, ◌≤◌, List, [], ◌∷◌, ◌++◌, length, get_or, take, drop, map, refl, sym, ap, subst, arith}
-use Rattle.std.specs.List.{All, AllZip}
+use Rattle.std.proofs.Common.{◌≡◌, ◌∙◌, ℕ, zero, suc, ◌+◌, ◌<◌, ◌≤◌, List, [], ◌∷◌, ◌++◌, length, get_or, take, drop, refl, sym, ap, subst, arith}
+use Rattle.std.specs.List.{All}
 use Rattle.lk_base.specs.declared.fault.Fault.{Fault}
 use Rattle.lk_base.specs.declared.fault.Fault.TheVariants as fault
 use Rattle.lk_base.specs.declared.refusal.Refusal.{Refusal}

@@ -1,6 +1,6 @@
 -- Which commands have sources that are accepted, and why those of the others are refused.
 use Rattle.std.specs.Bool.{⊤}
-use Rattle.std.specs.Prelude.{ℕ, ◌≡◌, List, ◌∷◌, map, Some, None, slice_get}
+use Rattle.std.specs.Prelude.{ℕ, ◌≡◌, List, ◌∷◌, All, length, map, Some, None, slice_get}
 use Rattle.lk_base.specs.declared.code.Code.TheVariants.{TooLong, BadExterns}
 use Rattle.lk_base.specs.declared.refusal.Refusal.{Refusal}
 use Rattle.lk_io.specs.Shelf.{Held}
@@ -14,9 +14,11 @@ use Rattle.lk_check_unit.specs.Sources.{IsBehind, RecordsOf, TellsFirst}
 use Rattle.lk_sources.specs.Externs.{externs_text, listed, Names, BadLine}
 use Rattle.lk_sources.specs.Faults.{AreFaultless, AreFaulty}
 use Rattle.lk_sources.specs.Numbers.{numbered, refusal_at}
+use Rattle.lk_sources.specs.Readable.{AreFew}
 use Rattle.lk_sources.specs.Reading.{IsRead, IsTooLong}
-use Rattle.lk_sources.specs.Splitting.{AreSplit, StopsIn, first_word}
+use Rattle.lk_sources.specs.Splitting.{AreFiled, AreSplit, StopsIn, first_word}
 use Rattle.lk_sources.specs.Trees.{AreTrees, HasNoTree}
+use Rattle.lk_parse_unit.specs.Tree.{IsTree}
 use Rattle.lk_sources.specs.declared.accepting.Accepted.{Accepted}
 use Rattle.lk_sources.specs.declared.fault.SourcesFault.{SourcesFault}
 use Rattle.lk_sources.specs.declared.fault.SourcesFault.TheVariants as told
@@ -57,6 +59,23 @@ pub record IsCheckedSource (externs : List Name) (source : AcceptedSource) : Typ
   pub records : RecordsOf externs source.parsed.unit source.checked.types source.checked.records
   pub behind : IsBehind externs source.parsed.unit source.checked
 
+-- a tree is that of tokens that stand in the first files
+pub record IsPlaced (files : ℕ) (unit : Unit) : Type 0 where
+  pub bytes : List ℕ
+  pub tokens : List Token
+  pub tree : IsTree 200 bytes tokens unit
+  pub filed : AreFiled files tokens
+
+-- the trees stand in the files whose names are there
+abbrev pub ArePlaced : Accepted → Type 0
+ArePlaced accepted = All (IsPlaced (length accepted.files)) (units_of accepted.sources.items)
+
+-- each accepted source is checked; they stand in the files; and their numbers have 32 bits
+pub record AreChecked (accepted : Accepted) : Type 0 where
+  pub each : All (IsCheckedSource accepted.externs.items) accepted.sources.items
+  pub placed : ArePlaced accepted
+  pub few : AreFew accepted.sources.items
+
 -- the lines of the externs file are names, and the sources are accepted
 pub record IsAccepted (names : List (List ℕ)) (externs sources : List Source) (accepted : Accepted) : Type 0 where
   pub names_listed : listed (externs_text externs) ≡ Names accepted.externs.items
@@ -82,7 +101,13 @@ pub data IsRefusedFor (check : Check) (held : Held) (file : List ℕ) (refusal :
   too_long : IsTooLong check held file → refusal ≡ refusal_at (numbered check) file TooLong 1 → IsRefusedFor check held file refusal
   refused : (externs sources : List Source) → IsRead check held externs sources → IsRefused (numbered check) externs sources file refusal → IsRefusedFor check held file refusal
 
--- ---- what the call answers
+-- ---- what the calls answer
+
+-- this refusal, with the name of the file in which its place stands
+abbrev pub IsInFile : List (List ℕ) → Refusal → SourcesFault → Type 0
+IsInFile files refusal (told.Refused file is) = (is ≡ refusal) × (slice_get files refusal.spot.file ≡ Some file)
+IsInFile files refusal (told.Unread name) = ⊥
+IsInFile files refusal told.NoMemory = ⊤
 
 abbrev pub Refuses : Texts → SourcesFault → Type 0
 Refuses texts (told.Refused file refusal) = IsRefused texts.files texts.externs texts.sources file refusal

@@ -1,6 +1,6 @@
 -- What the calls inside this crate answer about files and tokens, which private contracts alone cite.
 use Rattle.std.specs.Bool.{⊤}
-use Rattle.std.specs.Prelude.{ℕ, ◌≡◌, ◌≤◌, ◌⊎◌, List, [], ◌∷◌, ◌++◌, Bool, ◌||◌, ◌==◌, if◌then◌else◌, map, length, Some, None, slice_get}
+use Rattle.std.specs.Prelude.{ℕ, ◌≡◌, ◌<◌, ◌≤◌, ◌⊎◌, List, [], ◌∷◌, ◌++◌, Bool, ◌||◌, ◌==◌, if◌then◌else◌, map, length, Some, None}
 use Rattle.std.specs.List.{All, AllZip}
 use Rattle.std.specs.Option.{ForSome}
 use Rattle.lk_base.specs.declared.code.Code.TheVariants.{BadExterns, TooLong}
@@ -17,7 +17,7 @@ use Rattle.lk_sources.specs.Externs.{Listed, Names, BadLine, is_identifier}
 use Rattle.lk_sources.specs.Numbers.{refusal_at}
 use Rattle.lk_sources.specs.Reading.{longest_externs, longest_sources, names_of, AreRead, Passes, IsAmong, Reaches, IsRead, IsNamed, IsTooLong, ComesTo}
 use Rattle.lk_sources.specs.Shelves.{Shelved, HasRisen, IsAsBefore}
-use Rattle.lk_sources.specs.Splitting.{AreSplit, StopsIn, word_in, first_word}
+use Rattle.lk_sources.specs.Splitting.{AreFiled, AreSplit, StopsIn, word_in, first_word}
 use Rattle.lk_sources.specs.Readable.{AreShort}
 use Rattle.lk_sources.specs.declared.externs.Listed as code
 use Rattle.lk_sources.specs.declared.externs.Listed.TheVariants as listing
@@ -89,8 +89,11 @@ IsListed (BadLine number) (listing.BadLine line) = line ≡ number
 -- ---- tokens
 
 abbrev pub IsSplit : List (List ℕ) → ℕ → Source → List (List ℕ) → split.Split → Type 0
-IsSplit names own s last (splits.Tokens tokens) = Splits names (start_of own) s.bytes tokens last × (first_refused s.bytes tokens ≡ None) × All (IsInside (length s.bytes)) tokens
-IsSplit names own s last (splits.Word refusal) = (tokens : List Token) × Splits names (start_of own) s.bytes tokens last × (word_in s tokens ≡ Some refusal)
+IsSplit names own s last (splits.Tokens tokens) =
+    Splits names (start_of own) s.bytes tokens last × (first_refused s.bytes tokens ≡ None) × All (IsInside (length s.bytes)) tokens ×
+    AreFiled (length last) tokens
+IsSplit names own s last (splits.Word refusal) =
+    ((tokens : List Token) × Splits names (start_of own) s.bytes tokens last × (word_in s tokens ≡ Some refusal)) × (refusal.spot.file < length last)
 
 -- the tokens of each stand in it
 abbrev pub AreAllInside : List Source → List (List Token) → Type 0
@@ -103,11 +106,10 @@ IsSplitFault names sources last (fault.Refused refusal) =
 
 -- ---- refusals
 
--- this refusal, with the name of the file in which its place stands
-abbrev pub IsInFile : List (List ℕ) → Refusal → SourcesFault → Type 0
-IsInFile files refusal (told.Refused file is) = (is ≡ refusal) × (slice_get files refusal.spot.file ≡ Some file)
-IsInFile files refusal (told.Unread name) = ⊥
-IsInFile files refusal told.NoMemory = ⊤
+-- a refusal stands in some of the first files
+abbrev pub IsFaultIn : ℕ → Fault → Type 0
+IsFaultIn files fault.NoMemory = ⊤
+IsFaultIn files (fault.Refused refusal) = refusal.spot.file < files
 
 -- this refusal in the file of this name
 abbrev pub IsRefusedAt : List ℕ → Refusal → SourcesFault → Type 0

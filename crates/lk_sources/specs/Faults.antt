@@ -1,5 +1,5 @@
 -- The faults of types and declarations in several trees (C99 6.2 to 6.9), where --externs lists these names.
-use Rattle.std.specs.Prelude.{◌≡◌, List, [], ◌∷◌}
+use Rattle.std.specs.Prelude.{◌≡◌, List, ◌∷◌}
 use Rattle.std.specs.List.{AllByRecursion}
 use Rattle.lk_base.specs.declared.refusal.Refusal.{Refusal}
 use Rattle.lk_found.specs.Findings.{refusal_of}

@@ -1,6 +1,6 @@
 -- What the reading of a command's files answers.
 use Rattle.std.specs.Bool.{⊤}
-use Rattle.std.specs.Prelude.{ℕ, ◌≡◌, ◌≤◌, true, List, length, map}
+use Rattle.std.specs.Prelude.{ℕ, ◌≡◌, ◌<◌, ◌≤◌, ◌^◌, true, List, length, map}
 use Rattle.std.specs.List.{All}
 use Rattle.std.specs.Option.{ForSome}
 use Rattle.lk_base.specs.Files.{has_name}
@@ -22,8 +22,14 @@ AreShort most sources = All (λ s. length s.bytes ≤ most) sources
 abbrev pub AreNamed : List (List ℕ) → List Source → Type 0
 AreNamed names sources = All (λ s. has_name names s.name ≡ true) sources
 
+-- there is one at least, and their numbers have 32 bits
+pub record AreFew {A : Type 0} (list : List A) : Type 0 where
+  pub some : 0 < length list
+  pub few : length list < 2 ^ 32
+
 -- what is read is no longer than it may be, and the sources' names have numbers
 pub record IsReadable (texts : Texts) : Type 0 where
+  pub few : AreFew texts.sources
   pub short_externs : AreShort longest_externs texts.externs
   pub short : AreShort longest_sources texts.sources
   pub named : AreNamed texts.files texts.sources

@@ -1,5 +1,5 @@
 -- The tokens of several sources, in their order (C99 5.1.1.2, 6.4).
-use Rattle.std.specs.Prelude.{ℕ, ◌≡◌, List, [], ◌∷◌, Option, None, option_map}
+use Rattle.std.specs.Prelude.{ℕ, ◌<◌, List, [], ◌∷◌, All, Option, None, option_map}
 use Rattle.std.specs.Option.{option_or}
 use Rattle.lk_base.specs.declared.code.Code.{Code}
 use Rattle.lk_base.specs.declared.code.Code.TheVariants.{UnsupportedWord}
@@ -16,6 +16,11 @@ pub data AreSplit : List (List ℕ) → List Source → List (List Token) → Li
   nothing : {names : List (List ℕ)} → AreSplit names [] [] names
   next : {names middle last : List (List ℕ)} {s : Source} {rest : List Source} {tokens : List Token} {lists : List (List Token)} →
       Splits names (start_of (number_of names s.name)) s.bytes tokens middle → AreSplit middle rest lists last → AreSplit names (s ∷ rest) (tokens ∷ lists) last
+
+-- tokens stand in some of the first files, of which there is one at least
+pub record AreFiled (files : ℕ) (tokens : List Token) : Type 0 where
+  pub some : 0 < files
+  pub each : All (λ token. token.spot.file < files) tokens
 
 -- the first of them of which the split stops, with that refusal
 pub data StopsIn : List (List ℕ) → List Source → Refusal → List (List ℕ) → Type 0 where

@@ -1,9 +1,9 @@
 //! The sources of a command: split, parsed and checked.
-ghost use Rattle.std.specs.Prelude.{All, IfOk, IfErr};
-ghost use Rattle.lk_sources.specs.Accepting.{AreAccepted, IsAccepted, IsCheckedSource, Refuses, units_of};
-ghost use Rattle.lk_sources.specs.Calls.{IsBadExterns};
+ghost use Rattle.std.specs.Prelude.{◌<◌, All, length, IfOk, IfErr};
+ghost use Rattle.lk_sources.specs.Accepting.{AreAccepted, AreChecked, IsAccepted, IsCheckedSource, IsPlaced, Refuses, units_of};
+ghost use Rattle.lk_sources.specs.Calls.{IsBadExterns, IsFaultIn};
 ghost use Rattle.lk_sources.specs.Judging.{AcceptsSources, IsJudged, RefusesSources};
-ghost use Rattle.lk_sources.specs.Readable.{AreNamed, AreShort, IsReadable};
+ghost use Rattle.lk_sources.specs.Readable.{AreFew, AreNamed, AreShort, IsReadable};
 
 use crate::checking::{AcceptedSource, check_all};
 use crate::externs::{Listed, externs_text, names_in};
@@ -12,6 +12,7 @@ use crate::reading::{Source, Texts};
 use crate::splitting::split_all;
 use crate::trees::trees;
 use lk_base::{Code, Fault, Files, Name, NoMemory};
+use lk_spots::faults_stand_in_files;
 use std::alloc::Global;
 
 /// The sources of a command, where they are accepted.
@@ -35,10 +36,13 @@ fn judge(
     requires few { AreShort 1048576 sources.now }
     requires named { AreNamed files.old sources.now }
     ensures checked { IfOk result (λ accepted. All (IsCheckedSource externs.now) accepted.items) }
+    ensures placed { IfOk result (λ accepted. All (IsPlaced (length files.new)) (units_of accepted.items)) }
     ensures ok { IfOk result (λ accepted.
         AreAccepted files.old externs.now sources.now files.new (units_of accepted.items)) }
     ensures err { IfErr result (IsJudged files.old externs.now sources.now files.new) }
+    ensures stands { IfErr result (IsFaultIn (length files.new)) }
 {
+    faults_stand_in_files();
     let lists = split_all(alloc, sources, files)?;
     let trees = trees(alloc, sources, &lists)?;
     let accepted = check_all(alloc, externs, trees)?;
@@ -52,10 +56,10 @@ fn accept_sources(
     sources: &[Source],
     mut files: Files,
 ) -> Result<Accepted, SourcesFault>
+    requires some { AreFew sources.now }
     requires few { AreShort 1048576 sources.now }
     requires named { AreNamed files sources.now }
-    ensures checked { IfOk result (λ accepted.
-        All (IsCheckedSource accepted.externs.items) accepted.sources.items) }
+    ensures checked { IfOk result AreChecked }
     ensures ok { IfOk result (AcceptsSources files externs.items sources.now) }
     ensures err { IfErr result (RefusesSources files externs.items sources.now) }
 {
@@ -70,13 +74,14 @@ fn accept_sources(
     }
 }
 
-/// The refusal for the file of `--externs`, of which this line is bad. A line of it is bad, and so there is one.
+/// The refusal for the file of `--externs`, of which this line is bad.
 fn bad_externs(
     alloc: Global,
     files: &mut Files,
     externs: &[Source],
     line: u32,
 ) -> Result<SourcesFault, NoMemory>
+    requires { 0 < length externs.now }
     ensures { IfOk result (IsBadExterns files.old externs.now line) }
 {
     match externs {
@@ -84,7 +89,7 @@ fn bad_externs(
             let name = first.name.copy()?;
             Ok(refused_at(alloc, files, name, Code::BadExterns, line))
         }
-        [] => Err(NoMemory),
+        [] => unreachable!(),
     }
 }
 
@@ -95,8 +100,7 @@ fn bad_externs(
 /// tree; a tree has a fault. Of the sources to which it applies the first is told.
 pub fn accept(alloc: Global, texts: Texts) -> Result<Accepted, SourcesFault>
     requires { IsReadable texts }
-    ensures checked { IfOk result (λ accepted.
-        All (IsCheckedSource accepted.externs.items) accepted.sources.items) }
+    ensures checked { IfOk result AreChecked }
     ensures ok { IfOk result (IsAccepted texts.files texts.externs texts.sources) }
     ensures err { IfErr result (Refuses texts) }
 {

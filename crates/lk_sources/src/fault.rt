@@ -1,5 +1,7 @@
 //! Why the sources of a command are not accepted.
-ghost use Rattle.lk_sources.specs.Calls.{IsInFile, IsRefusedAt};
+ghost use Rattle.std.specs.Prelude.{◌<◌, length};
+ghost use Rattle.lk_sources.specs.Accepting.{IsInFile};
+ghost use Rattle.lk_sources.specs.Calls.{IsRefusedAt};
 ghost use Rattle.lk_sources.specs.Numbers as numbers;
 
 use crate::numbers::refusal_at;
@@ -36,16 +38,15 @@ impl From<NoMemory> for SourcesFault {
     }
 }
 
-/// A refusal with the name of the file in which its place stands. Each place stands in one of the files.
-pub(crate) fn refused_in(files: &Files, refusal: Refusal) -> SourcesFault
+/// A refusal with the name of the file in which its place stands.
+pub fn refused_in(files: &Files, refusal: Refusal) -> SourcesFault
+    requires { refusal.spot.file < length files.now }
     ensures { IsInFile files.now refusal result }
 {
-    match files.get(refusal.spot.file) {
-        Some(file) => match file.copy() {
-            Ok(file) => SourcesFault::Refused { file, refusal },
-            Err(NoMemory) => SourcesFault::NoMemory,
-        },
-        None => SourcesFault::NoMemory,
+    let file = files.get(refusal.spot.file).unwrap();
+    match file.copy() {
+        Ok(file) => SourcesFault::Refused { file, refusal },
+        Err(NoMemory) => SourcesFault::NoMemory,
     }
 }
 

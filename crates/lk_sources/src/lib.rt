@@ -13,6 +13,6 @@ mod trees;
 
 pub use accepting::{Accepted, accept};
 pub use checking::AcceptedSource;
-pub use fault::SourcesFault;
+pub use fault::{SourcesFault, refused_in};
 pub use laws::{commands_are_in_bounds, one_reading, one_result};
 pub use reading::{Source, Texts, read};

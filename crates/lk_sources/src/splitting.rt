@@ -1,5 +1,5 @@
 //! The tokens of several sources.
-ghost use Rattle.std.specs.Prelude.{◌≡◌, ◌≢◌, ◌<◌, ◌≤◌, true, None, Some, length, IfOk, IfErr, OnOk};
+ghost use Rattle.std.specs.Prelude.{◌≡◌, ◌≢◌, ◌<◌, ◌≤◌, true, None, Some, length, All, IfOk, IfErr, OnOk};
 ghost use Rattle.std.specs.Option.{option_or};
 ghost use Rattle.lk_base.specs.declared.code.Code.TheVariants.{UnsupportedWord};
 ghost use Rattle.lk_base.specs.declared.fault.Fault.TheVariants.{Refused};
@@ -7,10 +7,10 @@ ghost use Rattle.lk_base.specs.Files.{has_name};
 ghost use Rattle.lk_lex.specs.Answer.{Extends};
 ghost use Rattle.lk_lex.specs.Lengths.{IsStop};
 ghost use Rattle.lk_lex.specs.Tokens.{start_of};
-ghost use Rattle.lk_sources.specs.Calls.{AreAllInside, IsSplit, IsSplitFault};
+ghost use Rattle.lk_sources.specs.Calls.{AreAllInside, IsFaultIn, IsSplit, IsSplitFault};
 ghost use Rattle.lk_sources.specs.Numbers.{number_of};
 ghost use Rattle.lk_sources.specs.Readable.{AreNamed, AreShort};
-ghost use Rattle.lk_sources.specs.Splitting.{AreSplit, first_word};
+ghost use Rattle.lk_sources.specs.Splitting.{AreFiled, AreSplit, first_word};
 
 use crate::numbers::put_name;
 use crate::reading::Source;
@@ -46,6 +46,7 @@ fn split_as(alloc: Global, source: &Source, own: u32, files: &mut Files) -> Resu
     requires own { own < length files.old }
     ensures ok { IfOk result (IsSplit files.old own source.now files.new) }
     ensures err { IfErr result (IsStop files.old (start_of own) source.now.bytes files.new) }
+    ensures stands { IfErr result (IsFaultIn (length files.new)) }
     ensures names { Extends files.old files.new }
 {
     match tokens(alloc, source.bytes.list(), own, files) {
@@ -75,6 +76,7 @@ fn split_source(alloc: Global, source: &Source, files: &mut Files) -> Result<Spl
     ensures ok { IfOk result (IsSplit files.old (number_of files.old source.now.name) source.now files.new) }
     ensures err { IfErr result (IsStop files.old (start_of (number_of files.old source.now.name))
         source.now.bytes files.new) }
+    ensures stands { IfErr result (IsFaultIn (length files.new)) }
     ensures names { OnOk result (Extends files.old files.new) }
 {
     let own = put_name(alloc, files, source.name.bytes())?;
@@ -97,7 +99,9 @@ pub(crate) fn split_all(
     ensures ok { IfOk result (λ lists. AreSplit files.old sources.now lists.items files.new) }
     ensures supported { IfOk result (λ lists. first_word sources.now lists.items ≡ None) }
     ensures inside { IfOk result (λ lists. AreAllInside sources.now lists.items) }
+    ensures filed { IfOk result (λ lists. All (AreFiled (length files.new)) lists.items) }
     ensures err { IfErr result (IsSplitFault files.old sources.now files.new) }
+    ensures stands { IfErr result (IsFaultIn (length files.new)) }
 {
     let mut lists = Vec::new(alloc);
     let mut word = None;

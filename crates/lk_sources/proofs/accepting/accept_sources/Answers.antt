@@ -1,5 +1,6 @@
-use Rattle.std.proofs.Common.{subst}
-use Rattle.lk_sources.specs.Accepting.{AreRefused}
+use Rattle.std.proofs.Common.{All, subst}
+use Rattle.lk_sources.specs.Accepting.{AreRefused, IsCheckedSource}
+use Rattle.lk_sources.proofs.Many.{accepted_few}
 use Rattle.lk_sources.proofs.Told.{told_in_file}
 use Rattle.lk_sources.proofs.accepting.accept_sources.Goals as goal
 
@@ -10,3 +11,11 @@ returns-in-Err-Refused-clause-err c =
     let refusal = c.in-Err-Refused.refusal in
     told_in_file c.args.files c.args.externs.items c.args.sources.now last refusal c.refused_in.result
     (subst (λ e. AreRefused c.args.files e c.args.sources.now last refusal) c.deref.ensures.value told) (rw c.in-Err-Refused.field-0-is at c.refused_in.ensures)
+
+pub returns-in-Ok-clause-checked : goal.returns-in-Ok-clause-checked
+returns-in-Ok-clause-checked c =
+    record {
+      each = subst (λ externs. All (IsCheckedSource externs) c.in-Ok.sources.items) c.deref.ensures.value c.in-Ok.ensures.checked;
+      placed = c.in-Ok.ensures.placed;
+      few = accepted_few c.args.sources.now c.in-Ok.sources.items c.in-Ok.ensures.ok c.requires.some;
+    }

@@ -1,4 +1,4 @@
-use Rattle.std.proofs.Common.{◌≡◌, ◌∙◌, ◌+◌, ◌<◌, List, [], ◌∷◌, ℕ, Bor, fold, get_or, length, map, take, sym, ap}
+use Rattle.std.proofs.Common.{◌∙◌, List, [], ◌∷◌, ℕ, Bor, fold, get_or, map, take, sym, ap}
 use Rattle.std.proofs.lemmas.List.Sums.{fold-append}
 use Rattle.lk_base.specs.Files.{with_name}
 use Rattle.lk_sources.proofs.Lists.{mapped_more}

@@ -1,5 +1,6 @@
 use Rattle.lk_words.specs.Seen.{seen}
 use Rattle.lk_sources.proofs.Both.{told_unread}
+use Rattle.lk_sources.proofs.Many.{read_few}
 use Rattle.lk_sources.proofs.Numbered.{sources_named}
 use Rattle.lk_sources.proofs.reading.read.Goals as goal
 
@@ -12,6 +13,7 @@ returns-in-Ok-clause-ok g c =
       externs_names = both.externs_names;
       names = both.names;
       readable = record {
+        few = read_few (seen c.args.check.now) c.in-Ok.field-0.sources c.requires both.names;
         short_externs = both.short_externs;
         short = both.short;
         named = sources_named (seen c.args.check.now) c.in_ok-files.files c.in-Ok.field-0.sources c.in_ok-files.ensures both.names;

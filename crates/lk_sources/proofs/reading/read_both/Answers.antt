@@ -1,4 +1,4 @@
-use Rattle.std.proofs.Common.{◌≡◌, ◌∙◌, Err, IfErr, Bor, List, ℕ, All, map, sym, ap, subst}
+use Rattle.std.proofs.Common.{◌∙◌, Err, IfErr, Bor, List, ℕ, All, map, sym, ap, subst}
 use Rattle.std.proofs.lemmas.Result.{err_from_is_err_and}
 use Rattle.lk_io.specs.Shelf.{IsFileName}
 use Rattle.lk_words.specs.Seen.{seen}

@@ -1,9 +1,8 @@
-use Rattle.std.proofs.Common.{◌≡◌, ◌∙◌, ◌≤◌, Err, IfErr, Bor, List, [], ℕ, get_or, take, drop, suc, map, length, refl, sym, ap, subst, arith}
+use Rattle.std.proofs.Common.{◌∙◌, ◌≤◌, Err, IfErr, Bor, List, [], ℕ, get_or, take, drop, suc, map, length, refl, sym, ap, subst, arith}
 use Rattle.std.proofs.lemmas.List.Elements.{All-nil, All-push}
 use Rattle.std.proofs.lemmas.Result.{err_from_is_err_and}
 use Rattle.lk_sources.specs.Calls.{AreNoFiles}
 use Rattle.lk_sources.specs.Reading.{nothing}
-use Rattle.lk_sources.specs.declared.reading.Source.{Source}
 use Rattle.lk_sources.proofs.InOrder.{telling, read_more, named_more, fails_behind}
 use Rattle.lk_sources.proofs.Lists.{mapped_more, mapped_cut}
 use Rattle.lk_sources.proofs.reading.read_files.Goals as goal

@@ -1,4 +1,4 @@
-use Rattle.std.proofs.Common.{◌≡◌, ◌∙◌, ◌+◌, Err, IfErr, Some, None, drop, sym, ap, subst}
+use Rattle.std.proofs.Common.{◌∙◌, ◌+◌, Err, IfErr, None, drop, sym, ap, subst}
 use Rattle.std.proofs.lemmas.Result.{err_from_is_err_and}
 use Rattle.lk_sources.specs.Calls.{IsSplitFault}
 use Rattle.lk_sources.proofs.Lists.{left_at, none_left}
@@ -55,3 +55,9 @@ returns-in-None-clause-supported c = upto_supported _ _ _ _ _ _ c.loop-source.in
 
 pub returns-in-None-clause-inside : goal.returns-in-None-clause-inside
 returns-in-None-clause-inside c = upto_inside _ _ _ _ _ _ c.loop-source.invariant (none_left c.args.sources.now c.loop-source.source-index c.loop-source-test.false) c.in-None.is
+
+pub returns-in-None-clause-filed : goal.returns-in-None-clause-filed
+returns-in-None-clause-filed c = c.loop-source.invariant.filed
+
+pub returns-in-Some-clause-stands : goal.returns-in-Some-clause-stands
+returns-in-Some-clause-stands c = c.loop-source.invariant.word_in c.in-Some.refusal c.in-Some.is

@@ -1,4 +1,4 @@
-use Rattle.std.proofs.Common.{◌≡◌, ◌∙◌, Err, IfErr, sym, ap, subst}
+use Rattle.std.proofs.Common.{◌∙◌, Err, IfErr, sym, ap, subst}
 use Rattle.std.proofs.lemmas.Result.{err_from_is_err_and}
 use Rattle.lk_lex.specs.Answer.{IsRefused}
 use Rattle.lk_lex.specs.Lengths.{IsStop}
@@ -26,4 +26,4 @@ returns-in_ok-split-in-Err-Refused-clause-ok c =
     let told = rw c.in-Err-Refused.field-0-is at c.in-Err-Refused.ensures.err in
     let refused = subst (λ b. IsRefused names c.args.own b last c.in-Err-Refused.refusal) c.list.ensures told.0 in
     let same = c.in_ok-split-in-Err-Refused.ensures.ok in
-    subst (IsSplit names c.args.own c.args.source.now last) (sym same.0) (word_found names c.args.own c.args.source.now last c.in-Err-Refused.refusal refused same.1)
+    subst (IsSplit names c.args.own c.args.source.now last) (sym same.0) (word_found names c.args.own c.args.source.now last c.in-Err-Refused.refusal refused told.1 same.1)

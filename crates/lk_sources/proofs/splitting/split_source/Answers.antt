@@ -1,4 +1,4 @@
-use Rattle.std.proofs.Common.{◌≡◌, ◌∙◌, Err, IfErr, sym, ap, subst}
+use Rattle.std.proofs.Common.{◌∙◌, Err, IfErr, sym, ap, subst}
 use Rattle.std.proofs.lemmas.Result.{err_from_is_err_and}
 use Rattle.lk_lex.specs.Answer.{Extends}
 use Rattle.lk_lex.specs.Lengths.{IsStop}

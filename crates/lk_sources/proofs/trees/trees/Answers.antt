@@ -1,4 +1,4 @@
-use Rattle.std.proofs.Common.{◌≡◌, ◌∙◌, [], Err, IfErr, List, map, length, sym, ap, subst, arith}
+use Rattle.std.proofs.Common.{◌∙◌, [], Err, IfErr, List, map, sym, ap, subst, arith}
 use Rattle.std.proofs.lemmas.Result.{err_from_is_err_and}
 use Rattle.lk_parse_unit.specs.declared.parse.Parsed.{Parsed}
 use Rattle.lk_sources.specs.Judging.{IsTreeFault}

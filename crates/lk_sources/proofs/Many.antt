@@ -1,0 +1,33 @@
+-- How many sources a command has, and how many are accepted.
+use Rattle.std.proofs.Common.{◌≡◌, ◌∙◌, ℕ, suc, true, List, length, map, nat_le, refl, sym, ap, arith}
+use Rattle.std.proofs.lemmas.Bool.{and_parts, leb-true}
+use Rattle.std.proofs.lemmas.List.{length-map}
+use Rattle.lk_lex.specs.declared.token.Token.{Token}
+use Rattle.lk_sources.specs.Accepting.{AreAccepted, units_of}
+use Rattle.lk_sources.specs.Readable.{AreFew}
+use Rattle.lk_sources.specs.Trees.{AreTrees, nothing, next}
+use Rattle.lk_sources.specs.declared.checking.AcceptedSource.{AcceptedSource}
+use Rattle.lk_sources.specs.declared.reading.Source.{Source}
+use Rattle.lk_tree.specs.declared.statement.Unit.{Unit}
+use Rattle.lk_typed.specs.Env.{Name}
+use Rattle.lk_words.specs.Words.{Check, is_count, is_in_bounds}
+
+as_many : {sources : List Source} {lists : List (List Token)} {units : List Unit} → AreTrees sources lists units → length units ≡ length sources
+as_many nothing = refl
+as_many (next tree rest) = ap suc (as_many rest)
+
+-- as many are accepted as there are
+pub accepted_few : {names last : List (List ℕ)} {externs : List Name} (sources : List Source) (accepted : List AcceptedSource) → AreAccepted names externs sources last (units_of accepted) → AreFew sources →
+    AreFew accepted
+accepted_few sources accepted are few =
+    let same = length-map accepted (λ (s : AcceptedSource). s.parsed.unit) in
+    let many = as_many are.trees in
+    record { some = omega (arith, same, many, few.some); few = omega (arith, same, many, few.few) }
+
+-- a command has 1 to 64
+pub read_few : (check : Check) (sources : List Source) → is_in_bounds check ≡ true → map (λ s. s.name) sources ≡ check.files → AreFew sources
+read_few check sources bounds names =
+    let counted = (and_parts (is_count (length check.files)) _ bounds).0 in
+    let parts = and_parts (nat_le 1 (length check.files)) (nat_le (length check.files) 64) counted in
+    let same = sym (length-map sources (λ (s : Source). s.name)) ∙ ap length names in
+    record { some = omega (arith, same, leb-true 1 (length check.files) parts.0); few = omega (arith, same, leb-true (length check.files) 64 parts.1) }
