@@ -4,8 +4,6 @@
 mod lines;
 mod names;
 mod order;
-mod there;
 
 pub use lines::report;
 pub use names::{place_of, text_of};
-pub use there::{are_there, can_be_named};

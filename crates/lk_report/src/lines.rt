@@ -1,7 +1,7 @@
 //! The report.
 ghost use Rattle.std.specs.Prelude.{◌≡◌, ◌<◌, ◌++◌, All, flat_map, length, IfOk, OnOk};
 ghost use Rattle.lk_report.specs.Names.{CanBeNamed};
-ghost use Rattle.lk_report.specs.Report.{locks_text, held_text, state_text, access_word, function_text, point_text, access_text, accesses_text, location_text, is_state, count_of, total_text, report_text, AreLockPlaces, IsAccessThere, IsVerdictThere};
+ghost use Rattle.lk_report.specs.Report.{locks_text, held_text, state_text, access_word, access_text, accesses_text, location_text, is_state, count_of, total_text, report_text, AreLockPlaces, IsAccessThere, IsVerdictThere};
 
 use crate::names::{push_location_spot, push_spot, push_text};
 use crate::order::in_order;

@@ -1,5 +1,5 @@
 //! How places of sources, locations and lock places are written.
-ghost use Rattle.std.specs.Prelude.{◌≡◌, ◌<◌, ◌++◌, length, slice_get, Some, IfOk, IfSome, OnOk};
+ghost use Rattle.std.specs.Prelude.{◌≡◌, ◌<◌, ◌++◌, length, Some, IfOk, IfSome, OnOk};
 ghost use Rattle.std.specs.Option.{option_copied};
 ghost use Rattle.lk_types.specs.Table.{IsKnown, type_at};
 ghost use Rattle.lk_types.specs.Nodes.{IsNode};

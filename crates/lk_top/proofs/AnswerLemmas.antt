@@ -1,8 +1,5 @@
 -- What the parts of an answer say of the whole.
-use Rattle.std.proofs.Common.{ℕ, ◌≡◌, ◌∙◌, Bool, true, false, if◌then◌else◌, List, [], ◌∷◌, refl, sym, ap, subst}
-use Rattle.std.specs.List.{AllZip}
-use Rattle.std.specs.Prelude.{All}
-use Rattle.std.proofs.lemmas.List.Elements.{All-cons, All-head, All-nil, All-tail, All-weaker}
+use Rattle.std.proofs.Common.{ℕ, ◌≡◌, ◌∙◌, Bool, true, false, if◌then◌else◌, List, refl, sym, ap, subst}
 use Rattle.lk_base.specs.declared.code.Code.{Code}
 use Rattle.lk_base.specs.declared.code.Code.TheVariants.{TooManyPoints, TooManyLabels}
 use Rattle.lk_base.specs.declared.refusal.Refusal as base
@@ -13,85 +10,50 @@ use Rattle.lk_facts.specs.Lowered.{IsLowered}
 use Rattle.lk_facts.specs.declared.program.Program.{Program as Points}
 use Rattle.lk_facts.specs.declared.verdict.Verdict.{Verdict}
 use Rattle.lk_io.specs.Shelf.{Held}
-use Rattle.lk_elaborate.specs.Checked.{IsCheckedOf}
-use Rattle.lk_join.specs.Program as linking
-use Rattle.lk_join.specs.Program.{IsLinked}
-use Rattle.lk_lex.specs.declared.token.Token.{Token}
 use Rattle.lk_lower_expr.specs.Programs.{IsMadeOf}
 use Rattle.lk_lower_unit.specs.PointNumbers.{HasMorePoints}
+use Rattle.lk_program.specs.Program.{IsFault}
 use Rattle.lk_safe.specs.Soundness.{HasNoOtherRaces}
 use Rattle.lk_solve.specs.Verdicts.{HasVerdicts}
-use Rattle.lk_sources.specs.Accepting.{IsAccepted, IsCheckedSource, Refuses, units_of}
+use Rattle.lk_sources.specs.Accepting.{IsAccepted, IsInFile, Refuses}
 use Rattle.lk_sources.specs.Numbers.{numbered}
 use Rattle.lk_sources.specs.Readable.{Reads, FailsToRead}
 use Rattle.lk_sources.specs.Reading.{IsRead}
 use Rattle.lk_sources.specs.Shelves.{Shelved}
-use Rattle.lk_sources.specs.Trees.{AreTrees}
-use Rattle.lk_sources.specs.Trees.AreTrees.{next}
 use Rattle.lk_sources.specs.declared.accepting.Accepted as code
-use Rattle.lk_sources.specs.declared.checking.AcceptedSource.{AcceptedSource}
 use Rattle.lk_sources.specs.declared.fault.SourcesFault.{SourcesFault}
 use Rattle.lk_sources.specs.declared.fault.SourcesFault.TheVariants as told
 use Rattle.lk_sources.specs.declared.reading.Source.{Source}
 use Rattle.lk_sources.specs.declared.reading.Texts.{Texts}
-use Rattle.lk_typed.specs.Env.{Name}
-use Rattle.lk_typed.specs.TypedUnits.{IsTypedUnit}
-use Rattle.lk_typed.specs.declared.unit.TypedUnit.{TypedUnit}
 use Rattle.lk_typed.specs.declared.whole.Whole.{Whole}
 use Rattle.lk_words.specs.Words.{Check}
-use Rattle.lk_top.specs.Analysis.{AreTyped, IsAtMain, IsNoProgram, IsWhole, of_places, of_points, unlinked, too_many_points, too_many_labels}
+use Rattle.lk_top.specs.Analysis.{IsAtMain, IsNoProgram, IsWhole, of_places, of_points, unlinked, too_many_points, too_many_labels}
 use Rattle.lk_top.specs.Answer as judged
-use Rattle.lk_top.specs.Answer.{JudgesWhole, JudgesUnits, ShowsVerdicts, Tells, TellsAtMain, Analyses, ShowsFault, Judges, Answers, HasReadyTypes, IsNumbered, TypesSource, has_points, too_many_places, links, is_unlinked}
+use Rattle.lk_top.specs.Answer.{JudgesWhole, ShowsVerdicts, Tells, TellsAtMain, Analyses, ShowsFault, Judges, Answers, has_points, too_many_places}
 use Rattle.lk_top.specs.Outcome as outcome
 use Rattle.lk_top.specs.Outcome.{Refused, Becomes, Follows}
 use Rattle.lk_top.specs.Results as results
 use Rattle.lk_top.specs.Results.{IsReport, IsRefusal, has_suspect, status_of, is_report}
+use Rattle.lk_top.specs.Texts.{refused_line}
 use Rattle.lk_top.specs.declared.answer.Answer.{Answer}
 use Rattle.lk_top.specs.declared.answer.Answer.TheVariants.{Report, Refusal, Unread}
 
 -- ---- what accepted sources come to
 
--- their types are as their typed trees ask for them
-pub all_ready : (externs : List Name) (sources : List AcceptedSource) → All (IsCheckedSource externs) sources → All HasReadyTypes sources
-all_ready externs sources = All-weaker (IsCheckedSource externs) HasReadyTypes (λ source checked. (checked.ready, checked.few)) sources
-
--- the trees of sources are numbered
-pub all_numbered : (texts : List Source) (lists : List (List Token)) (sources : List AcceptedSource) → AreTrees texts lists (units_of sources) → All IsNumbered sources
-all_numbered texts lists [] are = All-nil IsNumbered
-all_numbered texts lists (source ∷ sources) (next {rest = rest} {lists = others} tree are) =
-    All-cons IsNumbered source sources (record { externals = tree.externals }, tree.ordinals) (all_numbered rest others sources are)
-
--- sources that are checked and numbered come to typed trees
-pub all_typed : (externs : List Name) (sources : List AcceptedSource) (units : List TypedUnit) → All (IsCheckedSource externs) sources → All IsNumbered sources → AllZip TypesSource sources units →
-    AllZip (IsTypedUnit externs) (units_of sources) units
-all_typed externs [] [] checked numbered typed = typed
-all_typed externs [] (unit ∷ units) checked numbered typed = absurd typed
-all_typed externs (source ∷ sources) [] checked numbered typed = absurd typed
-all_typed externs (source ∷ sources) (unit ∷ units) checked numbered typed = (
-  typed.0 externs (checked_of externs source (All-head (IsCheckedSource externs) source sources checked) (All-head IsNumbered source sources numbered)),
-  all_typed externs sources units (All-tail (IsCheckedSource externs) source sources checked) (All-tail IsNumbered source sources numbered) typed.1,
-)
-  where
-    checked_of : (externs : List Name) (source : AcceptedSource) → IsCheckedSource externs source → IsNumbered source → IsCheckedOf externs source.parsed.unit source.checked
-    checked_of externs source checked (before, numbers) = record { before = before; numbers = numbers; faultless = checked.faultless; records = checked.records; behind = checked.behind }
-
-module _ (sources : code.Accepted) (units : List TypedUnit) (typed : AreTyped sources units) where
-  whole_of : (whole : Whole) → IsLinked units sources.externs.items whole → IsWhole sources whole
-  whole_of whole joined = record { units = units; typed = typed; linked = joined }
-
+module _ (sources : code.Accepted) where
   -- a line that tells a bound at main is the refusal of the program
   told_at_main : (whole : Whole) (code : Code) (answer : Answer) → TellsAtMain sources.files whole code answer → ((refusal : base.Refusal) → IsAtMain whole code refusal → IsNoProgram sources refusal) → Analyses sources answer
   told_at_main whole code (Report text ends) (refusal, is, tells) why = absurd tells
   told_at_main whole code (Refusal line) (refusal, is, (file, at_file, line_is)) why = (file, refusal, record { why = why refusal is; at = at_file }, line_is)
   told_at_main whole code (Unread line) (refusal, is, tells) why = absurd tells
 
-  shown : (whole : Whole) → IsLinked units sources.externs.items whole → (points : Points) → (HasMorePoints whole 65536 → ⊥) → IsMadeOf whole points → IsLowered points → (verdicts : List Verdict) → HasVerdicts points verdicts →
+  shown : (whole : Whole) → IsWhole sources whole → (points : Points) → (HasMorePoints whole 65536 → ⊥) → IsMadeOf whole points → IsLowered points → (verdicts : List Verdict) → HasVerdicts points verdicts →
       (HasMoreLabels points 65536 → ⊥) → HasNoOtherRaces points verdicts → (answer : Answer) → ShowsVerdicts sources.files points verdicts answer → Analyses sources answer
-  shown whole joined points few made lowered verdicts has few_labels safe (Report text ends) (text_is, status_is) = (
+  shown whole is points few made lowered verdicts has few_labels safe (Report text ends) (text_is, status_is) = (
     verdicts,
     record {
       whole = whole;
-      is_whole = whole_of whole joined;
+      is_whole = is;
       few_points = few;
       points = points;
       made = made;
@@ -103,26 +65,32 @@ module _ (sources : code.Accepted) (units : List TypedUnit) (typed : AreTyped so
     },
     status_is,
   )
-  shown whole joined points few made lowered verdicts has few_labels safe (Refusal line) shows = absurd shows
-  shown whole joined points few made lowered verdicts has few_labels safe (Unread line) shows = absurd shows
+  shown whole is points few made lowered verdicts has few_labels safe (Refusal line) shows = absurd shows
+  shown whole is points few made lowered verdicts has few_labels safe (Unread line) shows = absurd shows
 
-  of_whole : (whole : Whole) → IsLinked units sources.externs.items whole → (answer : Answer) → JudgesWhole sources.files whole answer → Analyses sources answer
-  of_whole whole joined answer (has_points points few made lowered (judged.shows verdicts has few_labels safe shows)) = shown whole joined points few made lowered verdicts has few_labels safe answer shows
-  of_whole whole joined answer (has_points points few made lowered (judged.too_many more tells)) =
-      told_at_main whole TooManyLabels answer tells (λ refusal is. too_many_labels whole (whole_of whole joined) few (of_points points made lowered more) is)
-  of_whole whole joined answer (judged.too_many_points more tells) =
-      told_at_main whole TooManyPoints answer tells (λ refusal is. too_many_points whole (whole_of whole joined) more is)
-  of_whole whole joined answer (too_many_places few more tells) =
-      told_at_main whole TooManyLabels answer tells (λ refusal is. too_many_labels whole (whole_of whole joined) few (of_places more) is)
+  pub of_whole : (whole : Whole) → IsWhole sources whole → (answer : Answer) → JudgesWhole sources.files whole answer → Analyses sources answer
+  of_whole whole is answer (has_points points few made lowered (judged.shows verdicts has few_labels safe shows)) = shown whole is points few made lowered verdicts has few_labels safe answer shows
+  of_whole whole is answer (has_points points few made lowered (judged.too_many more tells)) =
+      told_at_main whole TooManyLabels answer tells (λ refusal at. too_many_labels whole is few (of_points points made lowered more) at)
+  of_whole whole is answer (judged.too_many_points more tells) = told_at_main whole TooManyPoints answer tells (λ refusal at. too_many_points whole is more at)
+  of_whole whole is answer (too_many_places few more tells) =
+      told_at_main whole TooManyLabels answer tells (λ refusal at. too_many_labels whole is few (of_places more) at)
 
-  of_unlinked : (refusal : base.Refusal) → linking.IsRefusal units sources.externs.items refusal → (answer : Answer) → Tells sources.files refusal answer → Analyses sources answer
-  of_unlinked refusal is (Report text ends) tells = absurd tells
-  of_unlinked refusal is (Refusal line) (file, at_file, line_is) = (file, refusal, record { why = unlinked units typed is; at = at_file }, line_is)
-  of_unlinked refusal is (Unread line) tells = absurd tells
+  -- the line of why there is no program
+  pub of_fault : (fault : SourcesFault) → IsFault sources fault → (answer : Answer) → ShowsFault fault answer → Analyses sources answer
+  of_fault (told.Refused file refusal) is (Report text ends) shows = absurd shows
+  of_fault (told.Refused file refusal) is (Refusal line) line_is = (file, refusal, record { why = unlinked is.why; at = is.at }, line_is)
+  of_fault (told.Refused file refusal) is (Unread line) shows = absurd shows
+  of_fault (told.Unread name) is answer shows = absurd is
+  of_fault told.NoMemory is answer shows = absurd shows
 
-  pub analysed : (answer : Answer) → JudgesUnits sources.files sources.externs.items units answer → Analyses sources answer
-  analysed answer (links whole joined judges) = of_whole whole joined answer judges
-  analysed answer (is_unlinked refusal is tells) = of_unlinked refusal is answer tells
+-- a refusal by what is told of it
+pub told_in : (files : List (List ℕ)) (refusal : base.Refusal) (fault : SourcesFault) (answer : Answer) → IsInFile files refusal fault → ShowsFault fault answer → Tells files refusal answer
+told_in files refusal (told.Refused file is) (Report text ends) at shows = absurd shows
+told_in files refusal (told.Refused file is) (Refusal line) (same, at) line_is = (file, at, line_is ∙ ap (refused_line file) same)
+told_in files refusal (told.Refused file is) (Unread line) at shows = absurd shows
+told_in files refusal (told.Unread name) answer at shows = absurd at
+told_in files refusal told.NoMemory answer at shows = absurd shows
 
 -- ---- what files come to that are read
 

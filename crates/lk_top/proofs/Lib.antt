@@ -1,4 +1,6 @@
 pub mod AnswerLemmas
+pub mod MainSpot
 pub mod OneOutcome
 pub mod RunLemmas
 pub mod SafeReports
+pub mod VerdictsThere

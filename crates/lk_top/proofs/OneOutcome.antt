@@ -1,11 +1,11 @@
 -- Words come to one outcome, but that several refusals may be right, and that accepted sources are told apart by what their trees show alone.
 use Rattle.std.specs.Bool.{⊤}
-use Rattle.std.proofs.Common.{ℕ, ◌≡◌, ◌∙◌, List, Some, sym, subst}
+use Rattle.std.proofs.Common.{ℕ, ◌≡◌, ◌∙◌, List, sym, subst}
 use Rattle.lk_io.specs.Shelf.{Held}
 use Rattle.lk_sources.specs.Laws.{HasOneReading, NeverRefused, NeverTooLong}
 use Rattle.lk_sources.specs.Numbers.{numbered}
 use Rattle.lk_sources.specs.declared.reading.Source.{Source}
-use Rattle.lk_words.specs.Words.{Check, command}
+use Rattle.lk_words.specs.Words.{Check}
 use Rattle.lk_top.specs.Outcome.{Outcome, Usage, Missing, Refused, Accepted, Becomes, refused, accepted, Follows, missing, too_long, read, ComesTo, no_command, checks}
 
 -- the laws by which words come to one outcome

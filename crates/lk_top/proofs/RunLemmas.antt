@@ -12,7 +12,7 @@ use Rattle.lk_words.specs.Words.{Check, command}
 use Rattle.lk_top.specs.Texts.{unwritten_line, refused_line, unread_line}
 use Rattle.lk_top.specs.declared.answer.Answer.TheVariants.{Report, Refusal, Unread}
 use Rattle.lk_top.specs.Answer.{Answers}
-use Rattle.lk_top.specs.Outcome.{Accepted, Refused, ComesTo, Follows, checks}
+use Rattle.lk_top.specs.Outcome.{Refused, ComesTo, Follows, checks}
 use Rattle.lk_top.specs.Results.{IsReport, IsRefusal, of_sources, of_program, is_report}
 use Rattle.lk_top.specs.Run.{Sunk, Got, GotFront, GotNothing, NoneHasRisen, Reports, Refuses, Misses, AlwaysAnswers, AlwaysReports, AlwaysRefuses, Line, refused, unread, Fails, Told, Published}
 use Rattle.lk_top.proofs.OneOutcome.{AreLaws, one_outcome}

@@ -7,29 +7,20 @@ use Rattle.lk_facts.specs.LabelRules.{HasMoreLabels}
 use Rattle.lk_facts.specs.Lowered.{IsLowered}
 use Rattle.lk_facts.specs.declared.program.Program.{Program}
 use Rattle.lk_facts.specs.declared.verdict.Verdict.{Verdict}
-use Rattle.std.specs.List.{AllZip}
-use Rattle.lk_join.specs.Program.{IsLinked, IsRefusal}
 use Rattle.lk_lower_expr.specs.Programs.{IsMadeOf, HasMorePlaces}
 use Rattle.lk_lower_parts.specs.Mains.{spot_of_main}
 use Rattle.lk_lower_unit.specs.PointNumbers.{HasMorePoints}
+use Rattle.lk_program.specs.Program.{IsProgram, IsUnlinked}
 use Rattle.lk_report.specs.Report.{report_text}
 use Rattle.lk_safe.specs.Soundness.{HasNoOtherRaces}
 use Rattle.lk_solve.specs.Verdicts.{HasVerdicts}
 use Rattle.lk_sources.specs.declared.accepting.Accepted as code
 use Rattle.lk_sources.specs.Accepting.{units_of}
-use Rattle.lk_typed.specs.TypedUnits.{IsTypedUnit}
-use Rattle.lk_typed.specs.declared.unit.TypedUnit.{TypedUnit}
 use Rattle.lk_typed.specs.declared.whole.Whole.{Whole}
 
--- the typed trees of sources
-abbrev pub AreTyped : code.Accepted → List TypedUnit → Type 0
-AreTyped sources units = AllZip (IsTypedUnit sources.externs.items) (units_of sources.sources.items) units
-
--- they are put together
-pub record IsWhole (sources : code.Accepted) (whole : Whole) : Type 0 where
-  pub units : List TypedUnit
-  pub typed : AreTyped sources units
-  pub linked : IsLinked units sources.externs.items whole
+-- the program into which the typed trees of accepted sources link
+abbrev pub IsWhole : code.Accepted → Whole → Type 0
+IsWhole sources whole = IsProgram sources.externs.items (units_of sources.sources.items) whole
 
 -- more labels than are analysed: its locations and lock places alone are more, or those of its points
 pub data HasTooManyLabels (whole : Whole) : Type 0 where
@@ -58,7 +49,7 @@ pub record IsAtMain (whole : Whole) (code : Code) (refusal : Refusal) : Type 0 w
 
 -- Why they make no program: their typed trees speak against one another, or are over a bound; that is told at main.
 pub data IsNoProgram (sources : code.Accepted) (refusal : Refusal) : Type 0 where
-  unlinked : (units : List TypedUnit) → AreTyped sources units → IsRefusal units sources.externs.items refusal → IsNoProgram sources refusal
+  unlinked : IsUnlinked sources.externs.items (units_of sources.sources.items) refusal → IsNoProgram sources refusal
   too_many_points : (whole : Whole) → IsWhole sources whole → HasMorePoints whole 65536 → IsAtMain whole TooManyPoints refusal → IsNoProgram sources refusal
   too_many_labels : (whole : Whole) → IsWhole sources whole → (HasMorePoints whole 65536 → ⊥) → HasTooManyLabels whole → IsAtMain whole TooManyLabels refusal → IsNoProgram sources refusal
 

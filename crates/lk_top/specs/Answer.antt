@@ -1,32 +1,22 @@
 -- What an answer says of the words, the shelf's files and its count of faults.
-use Rattle.std.specs.Prelude.{ℕ, ◌≡◌, ◌⊎◌, true, List, [], Some, slice_get}
+use Rattle.std.specs.Prelude.{ℕ, ◌≡◌, ◌<◌, true, List, Some, length, slice_get}
 use Rattle.std.specs.Option.{ForSome}
 use Rattle.lk_base.specs.declared.refusal.Refusal.{Refusal}
-use Rattle.lk_base.specs.declared.status.Status.{Status}
+use Rattle.lk_base.specs.declared.spot.Spot.{Spot}
 use Rattle.lk_facts.specs.declared.verdict.Verdict.{Verdict}
 use Rattle.lk_base.specs.declared.code.Code.{Code}
 use Rattle.lk_base.specs.declared.code.Code.TheVariants.{TooManyPoints, TooManyLabels}
 use Rattle.lk_facts.specs.LabelRules.{HasMoreLabels}
 use Rattle.lk_facts.specs.Lowered.{IsLowered}
 use Rattle.lk_facts.specs.declared.program.Program.{Program as Points}
-use Rattle.lk_elaborate.specs.Checked.{IsCheckedOf}
-use Rattle.lk_join.specs.Program as linking
-use Rattle.lk_join.specs.Program.{IsLinked}
 use Rattle.lk_lower_expr.specs.Programs.{IsMadeOf, HasMorePlaces}
+use Rattle.lk_lower_parts.specs.Mains.{spot_of_main}
 use Rattle.lk_lower_unit.specs.PointNumbers.{HasMorePoints}
 use Rattle.lk_report.specs.Report.{report_text}
 use Rattle.lk_safe.specs.Soundness.{HasNoOtherRaces}
 use Rattle.lk_solve.specs.Verdicts.{HasVerdicts}
-use Rattle.lk_typed.specs.Env.{Name}
-use Rattle.lk_tree.specs.Numbers.{numbered}
-use Rattle.lk_tree.specs.declared.statement.Unit.{Unit}
-use Rattle.lk_typed.specs.Elements.{HasFewElements}
-use Rattle.lk_typed.specs.Meaning.{IsReady}
-use Rattle.lk_typed.specs.TypedUnits.{IsTypedUnit}
-use Rattle.lk_typed.specs.declared.unit.TypedUnit.{TypedUnit}
 use Rattle.lk_typed.specs.declared.whole.Whole.{Whole}
 use Rattle.lk_sources.specs.declared.accepting.Accepted as code
-use Rattle.lk_sources.specs.declared.checking.AcceptedSource.{AcceptedSource}
 use Rattle.lk_sources.specs.Reading as reading
 use Rattle.lk_sources.specs.Shelves.{Shelved, HasRisen, IsAsBefore}
 use Rattle.lk_sources.specs.declared.fault.SourcesFault.{SourcesFault}
@@ -60,17 +50,9 @@ ShowsVerdicts files points verdicts (answer.Unread line) = ⊥
 
 -- ---- accepted sources
 
--- a source's types are as its typed tree asks for them
-abbrev pub HasReadyTypes : AcceptedSource → Type 0
-HasReadyTypes source = IsReady source.checked.types × HasFewElements source.checked.types
-
--- the nodes of a source have their numbers
-abbrev pub IsNumbered : AcceptedSource → Type 0
-IsNumbered source = (before : Unit) × (source.parsed.unit ≡ numbered before)
-
--- a source comes to this typed tree, whatever names --externs lists
-abbrev pub TypesSource : AcceptedSource → TypedUnit → Type 0
-TypesSource source typed = (externs : List Name) → IsCheckedOf externs source.parsed.unit source.checked → IsTypedUnit externs source.parsed.unit typed
+-- main stands in one of the files
+abbrev pub HasMainIn : List (List ℕ) → Whole → Type 0
+HasMainIn files whole = (spot : Spot) × (spot_of_main whole ≡ Some spot) × (spot.file < length files)
 
 -- what points come to: they have their verdicts, or too many labels
 pub data JudgesPoints (files : List (List ℕ)) (whole : Whole) (points : Points) (shown : Answer) : Type 0 where
@@ -82,11 +64,6 @@ pub data JudgesWhole (files : List (List ℕ)) (whole : Whole) (shown : Answer) 
   has_points : (points : Points) → (HasMorePoints whole 65536 → ⊥) → IsMadeOf whole points → IsLowered points → JudgesPoints files whole points shown → JudgesWhole files whole shown
   too_many_points : HasMorePoints whole 65536 → TellsAtMain files whole TooManyPoints shown → JudgesWhole files whole shown
   too_many_places : (HasMorePoints whole 65536 → ⊥) → HasMorePlaces whole 65536 → TellsAtMain files whole TooManyLabels shown → JudgesWhole files whole shown
-
--- what typed trees come to: they link into a program, or speak against one another
-pub data JudgesUnits (files : List (List ℕ)) (externs : List Name) (units : List TypedUnit) (shown : Answer) : Type 0 where
-  links : (whole : Whole) → IsLinked units externs whole → JudgesWhole files whole shown → JudgesUnits files externs units shown
-  is_unlinked : (refusal : Refusal) → linking.IsRefusal units externs refusal → Tells files refusal shown → JudgesUnits files externs units shown
 
 -- the report of sources that are accepted, or the line of why they make no program
 abbrev pub Analyses : code.Accepted → Answer → Type 0

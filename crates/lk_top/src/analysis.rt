@@ -1,63 +1,27 @@
 //! What accepted sources come to: the program that they make, its points, and what is reported of these.
-ghost use Rattle.std.specs.List.{AllZip};
-ghost use Rattle.std.specs.Prelude.{◌≡◌, [], All, IfOk};
+ghost use Rattle.std.specs.Prelude.{◌≡◌, ◌<◌, [], All, IfOk, length, map};
 ghost use Rattle.lk_facts.specs.Lowered.{IsLowered};
 ghost use Rattle.lk_graph.specs.Single.{ArePlaceNodes};
-ghost use Rattle.lk_sources.specs.Accepting.{IsCheckedSource};
-ghost use Rattle.lk_top.specs.Answer.{Analyses, JudgesPoints, JudgesUnits, JudgesWhole, ShowsVerdicts, Tells, TellsAtMain};
-ghost use Rattle.lk_top.specs.Answer.{HasReadyTypes, IsNumbered, TypesSource};
+ghost use Rattle.lk_program.specs.Program.{StandIn};
+ghost use Rattle.lk_report.specs.Names.{CanBeNamed};
+ghost use Rattle.lk_report.specs.Report.{IsVerdictThere};
+ghost use Rattle.lk_sources.specs.Accepting.{AreChecked};
+ghost use Rattle.lk_top.specs.Answer.{Analyses, HasMainIn, JudgesPoints, JudgesWhole, ShowsVerdicts, TellsAtMain};
 
-use crate::answer::Answer;
+use crate::answer::{Answer, refuse};
 use crate::status::status_of;
-use crate::texts::refused_line;
-use lk_base::{Code, Fault, Files, Name, NameFault, NoMemory, Refusal};
-use lk_elaborate::elaborate;
+use lk_base::{Code, Files, Name, NameFault, NoMemory, Refusal};
 use lk_facts::{Points, Verdict};
-use lk_join::link;
-use lk_link::are_sources;
 use lk_lower_parts::{LowerFault, main_spot};
 use lk_lower_unit::lower;
-use lk_report::{are_there, can_be_named, report};
+use lk_point_spots::points_stand_in_files;
+use lk_program::program_of;
+use lk_report::report;
 use lk_safe::verdicts_are_safe;
 use lk_solve::{SolveFault, verdicts_of};
-use lk_sources::{Accepted, AcceptedSource};
-use lk_typed::{TypedUnit, Whole};
+use lk_sources::{Accepted, refused_in};
+use lk_typed::Whole;
 use std::alloc::Global;
-
-/// The typed tree of a source.
-fn typed_unit(alloc: Global, source: AcceptedSource) -> Result<TypedUnit, NoMemory>
-    requires { HasReadyTypes source }
-    ensures { IfOk result (TypesSource source) }
-{
-    let AcceptedSource { parsed, checked } = source;
-    let unit = elaborate(alloc, &parsed.unit, checked)?;
-    Ok(unit)
-}
-
-/// The typed tree of each source, in their order.
-fn typed_units(alloc: Global, sources: Vec<AcceptedSource>) -> Result<Vec<TypedUnit>, NoMemory>
-    requires { All HasReadyTypes sources.items }
-    ensures { IfOk result (λ units. AllZip TypesSource sources.items units.items) }
-{
-    let mut units = Vec::new(alloc);
-    for source in sources {
-        let unit = typed_unit(alloc, source)?;
-        units.push(unit)?;
-    }
-    Ok(units)
-}
-
-/// The line of a refusal of the program. Its place stands in one of the files, so a name is there.
-fn refuse(alloc: Global, files: &Files, refusal: &Refusal) -> Result<Answer, NoMemory>
-    ensures { IfOk result (Tells files.now refusal.now) }
-{
-    match files.get(refusal.spot.file) {
-        Some(file) => Ok(Answer::Refusal {
-            line: refused_line(alloc, file.bytes(), refusal)?,
-        }),
-        None => Err(NoMemory),
-    }
-}
 
 /// The name of a refusal that tells none.
 fn no_name(alloc: Global) -> Result<Name, NoMemory>
@@ -76,29 +40,26 @@ fn refuse_at_main(
     whole: &Whole,
     code: Code,
 ) -> Result<Answer, NoMemory>
+    requires { HasMainIn files.now whole.now }
     ensures { IfOk result (TellsAtMain files.now whole.now code) }
 {
-    let Some(spot) = main_spot(whole) else {
-        return Err(NoMemory);
-    };
+    let spot = main_spot(whole).unwrap();
     let name = no_name(alloc)?;
-    let answer = refuse(alloc, files, &Refusal { code, spot, name })?;
+    let answer = refuse(alloc, refused_in(files, Refusal { code, spot, name }))?;
     Ok(answer)
 }
 
-/// The report of verdicts. What they speak of is there, and so are the files of all places.
+/// The report of verdicts.
 fn told(
     alloc: Global,
     files: &Files,
     points: &Points,
     verdicts: &[Verdict],
 ) -> Result<Answer, NoMemory>
-    requires { ArePlaceNodes points.now }
+    requires named { CanBeNamed files.now points.now }
+    requires there { All (IsVerdictThere points.now) verdicts.now }
     ensures { IfOk result (ShowsVerdicts files.now points.now verdicts.now) }
 {
-    if !can_be_named(points, files) || !are_there(points, verdicts) {
-        return Err(NoMemory);
-    }
     let status = status_of(verdicts);
     let text = report(alloc, verdicts, points, files)?;
     Ok(Answer::Report { text, status })
@@ -112,6 +73,8 @@ fn judge_points(
     whole: &Whole,
     points: &Points,
 ) -> Result<Answer, NoMemory>
+    requires main { HasMainIn files.now whole.now }
+    requires named { CanBeNamed files.now points.now }
     requires places { ArePlaceNodes points.now }
     requires lowered { IsLowered points.now }
     ensures { IfOk result (JudgesPoints files.now whole.now points.now) }
@@ -134,8 +97,12 @@ fn judge_points(
 
 /// What the program that sources make comes to. Each location and lock place is a label.
 fn judge_whole(alloc: Global, files: &Files, whole: &Whole) -> Result<Answer, NoMemory>
+    requires some { 0 < length files.now }
+    requires main { HasMainIn files.now whole.now }
+    requires stand { StandIn (length files.now) (map (λ linked. linked.unit) whole.now.sources) }
     ensures { IfOk result (JudgesWhole files.now whole.now) }
 {
+    points_stand_in_files();
     match lower(alloc, whole) {
         Ok(points) => {
             let answer = judge_points(alloc, files, whole, &points)?;
@@ -153,43 +120,19 @@ fn judge_whole(alloc: Global, files: &Files, whole: &Whole) -> Result<Answer, No
     }
 }
 
-/// What these typed trees come to, where `--externs` lists these names. A checked source has what `link` asks of it.
-fn judge_units(
-    alloc: Global,
-    files: &Files,
-    units: Vec<TypedUnit>,
-    externs: &[Name],
-) -> Result<Answer, NoMemory>
-    ensures { IfOk result (JudgesUnits files.now externs.now units.items) }
-{
-    if units.len() > u32::MAX as usize || !are_sources(&units) {
-        return Err(NoMemory);
-    }
-    match link(alloc, units, externs) {
-        Ok(whole) => {
-            let answer = judge_whole(alloc, files, &whole)?;
-            Ok(answer)
-        }
-        Err(Fault::Refused(refusal)) => {
-            let answer = refuse(alloc, files, &refusal)?;
-            Ok(answer)
-        }
-        Err(Fault::NoMemory) => Err(NoMemory),
-    }
-}
-
 /// What accepted sources come to.
 pub(crate) fn analyse(alloc: Global, accepted: Accepted) -> Result<Answer, NoMemory>
-    requires checked { All (IsCheckedSource accepted.externs.items) accepted.sources.items }
-    requires numbered { All IsNumbered accepted.sources.items }
+    requires { AreChecked accepted }
     ensures { IfOk result (Analyses accepted) }
 {
-    let Accepted {
-        files,
-        externs,
-        sources,
-    } = accepted;
-    let units = typed_units(alloc, sources)?;
-    let answer = judge_units(alloc, &files, units, &externs)?;
-    Ok(answer)
+    match program_of(alloc, accepted) {
+        Ok(program) => {
+            let answer = judge_whole(alloc, &program.files, &program.whole)?;
+            Ok(answer)
+        }
+        Err(fault) => {
+            let answer = refuse(alloc, fault)?;
+            Ok(answer)
+        }
+    }
 }

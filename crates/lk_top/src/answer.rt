@@ -26,7 +26,7 @@ pub(crate) enum Answer {
 }
 
 /// The line of why files are not accepted.
-fn refuse(alloc: Global, fault: SourcesFault) -> Result<Answer, NoMemory>
+pub(crate) fn refuse(alloc: Global, fault: SourcesFault) -> Result<Answer, NoMemory>
     ensures { IfOk result (ShowsFault fault) }
 {
     match fault {
@@ -42,7 +42,7 @@ fn refuse(alloc: Global, fault: SourcesFault) -> Result<Answer, NoMemory>
 
 /// What files come to that are read.
 fn judge(alloc: Global, texts: Texts) -> Result<Answer, NoMemory>
-    requires readable { IsReadable texts }
+    requires { IsReadable texts }
     ensures { IfOk result (Judges texts.files texts.externs texts.sources) }
 {
     match accept(alloc, texts) {

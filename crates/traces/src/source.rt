@@ -1,18 +1,14 @@
 //! The points of a source.
-ghost use Rattle.std.specs.Prelude.{All};
-ghost use Rattle.lk_sources.specs.Accepting.{IsCheckedSource};
+ghost use Rattle.lk_sources.specs.Accepting.{AreChecked};
 ghost use Rattle.lk_sources.specs.Readable.{IsReadable};
-ghost use Rattle.traces.specs.Sources.{HasReadyTypes};
 
-use lk_base::{Name, NoMemory};
-use lk_elaborate::elaborate;
+use lk_base::NoMemory;
 use lk_facts::Points;
 use lk_io::FileShelf;
-use lk_join::link;
-use lk_link::are_sources;
 use lk_lower_unit::lower;
-use lk_sources::{Accepted, AcceptedSource, Texts, accept, commands_are_in_bounds, read};
-use lk_typed::{TypedUnit, Whole};
+use lk_program::{Program, program_of};
+use lk_sources::{Accepted, Texts, accept, commands_are_in_bounds, read};
+use lk_typed::Whole;
 use lk_words::command;
 use std::alloc::Global;
 use std::rt::Files;
@@ -25,58 +21,23 @@ fn check_words(alloc: Global, file: &str) -> Result<Vec<String>, NoMemory> {
     Ok(words)
 }
 
-/// The typed tree of a source.
-fn typed_unit(alloc: Global, source: AcceptedSource) -> Result<TypedUnit, NoMemory>
-    requires { HasReadyTypes source }
-{
-    let AcceptedSource { parsed, checked } = source;
-    let unit = elaborate(alloc, &parsed.unit, checked)?;
-    Ok(unit)
-}
-
-/// The typed trees of sources.
-fn typed_units(alloc: Global, sources: Vec<AcceptedSource>) -> Result<Vec<TypedUnit>, NoMemory>
-    requires { All HasReadyTypes sources.items }
-{
-    let mut units = Vec::new(alloc);
-    for source in sources {
-        let unit = typed_unit(alloc, source)?;
-        units.push(unit)?;
-    }
-    Ok(units)
-}
-
-/// The program that typed trees make, or none.
-fn linked(alloc: Global, externs: &[Name], units: Vec<TypedUnit>) -> Option<Whole> {
-    if units.len() > u32::MAX as usize || !are_sources(&units) {
-        return None;
-    }
-    link(alloc, units, externs).ok()
-}
-
 /// The program of accepted sources, or none.
-fn program_of(alloc: Global, accepted: Accepted) -> Result<Option<Whole>, NoMemory>
-    requires { All (IsCheckedSource accepted.externs.items) accepted.sources.items }
+fn whole_of(alloc: Global, accepted: Accepted) -> Option<Whole>
+    requires { AreChecked accepted }
 {
-    let Accepted {
-        files: _,
-        externs,
-        sources,
-    } = accepted;
-    let units = typed_units(alloc, sources)?;
-    Ok(linked(alloc, &externs, units))
+    match program_of(alloc, accepted) {
+        Ok(Program { files: _, whole }) => Some(whole),
+        Err(_) => None,
+    }
 }
 
 /// The program that a text makes, or none.
-fn program_in(alloc: Global, text: Texts) -> Result<Option<Whole>, NoMemory>
+fn program_in(alloc: Global, text: Texts) -> Option<Whole>
     requires { IsReadable text }
 {
     match accept(alloc, text) {
-        Ok(accepted) => {
-            let whole = program_of(alloc, accepted)?;
-            Ok(whole)
-        }
-        Err(_) => Ok(None),
+        Ok(accepted) => whole_of(alloc, accepted),
+        Err(_) => None,
     }
 }
 
@@ -89,10 +50,7 @@ fn program_at(rt: &(impl Files + AllocGlobal), file: &str) -> Result<Option<Whol
     };
     commands_are_in_bounds();
     match read(rt.alloc(), &check, &mut FileShelf::new(rt)) {
-        Ok(text) => {
-            let whole = program_in(rt.alloc(), text)?;
-            Ok(whole)
-        }
+        Ok(text) => Ok(program_in(rt.alloc(), text)),
         Err(_) => Ok(None),
     }
 }

@@ -1,8 +1,15 @@
-use Rattle.std.proofs.Common.{Err, ap, subst}
+use Rattle.std.proofs.Common.{Err, All, ap, subst, sym}
+use Rattle.lk_report.specs.Report.{IsVerdictThere}
 use Rattle.lk_top.specs.Answer.{ShowsVerdicts, shows, too_many}
 use Rattle.lk_top.proofs.SafeReports.{no_other_races}
+use Rattle.lk_top.proofs.VerdictsThere.{verdicts_there}
 use Rattle.lk_top.proofs.analysis.judge_points.Goals as goal
 use Rattle.lk_types.specs.Building.{IsTable}
+
+pub told-requires-clause-there : goal.told-requires-clause-there
+told-requires-clause-there c =
+    let points = c.args.points.now in
+    subst (All (IsVerdictThere points)) (sym c.deref.ensures.value) (verdicts_there points c.in-Ok.verdicts.items c.count.ensures.in_range c.in-Ok.ensures.ok)
 
 pub returns-in_ok-answer-in-Ok : goal.returns-in_ok-answer-in-Ok
 returns-in_ok-answer-in-Ok c =

@@ -1,6 +1,11 @@
-use Rattle.std.proofs.Common.{Err, ap}
+use Rattle.std.proofs.Common.{Err, ap, length}
 use Rattle.lk_top.specs.Answer.{has_points, too_many_points, too_many_places}
 use Rattle.lk_top.proofs.analysis.judge_whole.Goals as goal
+
+pub judge_points-requires-clause-named : goal.judge_points-requires-clause-named
+judge_points-requires-clause-named c =
+    let stand = c.points_stand_in_files.ensures (length c.args.files.now) c.args.whole.now c.in-Ok.points c.requires.some c.requires.stand c.in-Ok.ensures.made in
+    record { roots = stand.0; points = stand.1; nodes = c.in-Ok.ensures.nodes }
 
 pub returns-in_ok-answer-in-Ok : goal.returns-in_ok-answer-in-Ok
 returns-in_ok-answer-in-Ok c = has_points c.in-Ok.points c.in-Ok.ensures.few c.in-Ok.ensures.made c.in-Ok.ensures.lowered c.in_ok-answer-in-Ok.ensures

@@ -1,10 +1,5 @@
-use Rattle.lk_top.proofs.AnswerLemmas.{all_numbered, judged_accepted, judged_refused}
+use Rattle.lk_top.proofs.AnswerLemmas.{judged_accepted, judged_refused}
 use Rattle.lk_top.proofs.answer.judge.Goals as goal
-
-pub analyse-requires-clause-numbered : goal.analyse-requires-clause-numbered
-analyse-requires-clause-numbered c =
-    let are = c.in-Ok.ensures.ok.are in
-    all_numbered c.args.texts.sources are.lists c.in-Ok.accepted.sources.items are.trees
 
 pub returns-in_ok-answer-in-Ok : goal.returns-in_ok-answer-in-Ok
 returns-in_ok-answer-in-Ok c =

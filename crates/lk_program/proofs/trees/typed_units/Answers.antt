@@ -2,8 +2,8 @@ use Rattle.std.proofs.Common.{◌++◌, ◌∷◌, [], List, sym, subst}
 use Rattle.std.specs.List.{AllZip}
 use Rattle.lk_typed.specs.declared.unit.TypedUnit.{TypedUnit}
 use Rattle.lk_sources.specs.declared.checking.AcceptedSource.{AcceptedSource}
-use Rattle.lk_top.specs.Answer.{TypesSource}
-use Rattle.lk_top.proofs.analysis.typed_units.Goals as goal
+use Rattle.lk_program.specs.Trees.{TypesSource}
+use Rattle.lk_program.proofs.trees.typed_units.Goals as goal
 
 -- one more source comes to one more typed tree
 zip_push : (xs : List AcceptedSource) (ys : List TypedUnit) (x : AcceptedSource) (y : TypedUnit) → AllZip TypesSource xs ys → TypesSource x y → AllZip TypesSource (xs ++ x ∷ []) (ys ++ y ∷ [])
