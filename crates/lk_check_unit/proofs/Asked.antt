@@ -20,9 +20,10 @@ use Rattle.lk_typed.specs.declared.typed.Typed.{Typed}
 use Rattle.lk_check_decl.specs.Breaches.{told}
 use Rattle.lk_found.specs.Findings.{IsFoundTyping}
 use Rattle.lk_found.specs.declared.found.Found.{Found}
-use Rattle.lk_check_walk.specs.Walking.{IsFurther, Judges}
+use Rattle.lk_checker.specs.Moves.{IsFurther}
+use Rattle.lk_checker.specs.declared.checker.Checker.{Checker}
+use Rattle.lk_check_walk.specs.Walking.{Judges}
 use Rattle.lk_check_walk.specs.Walks.{Walks}
-use Rattle.lk_check_walk.specs.declared.checker.Checker.{Checker}
 use Rattle.lk_check_unit.specs.Asking.{IsOperandFound, WalksOperand, value_in}
 use Rattle.lk_check_unit.specs.Bodies.{Asks, Grows, IsPlain}
 use Rattle.lk_check_unit.specs.declared.body.Asked.{Asked}

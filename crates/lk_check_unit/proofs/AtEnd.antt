@@ -14,9 +14,9 @@ use Rattle.lk_rules.specs.Keeping.{Kept}
 use Rattle.lk_check_decl.specs.Breaches.{told}
 use Rattle.lk_found.specs.Keepings.{KeepsAll}
 use Rattle.lk_found.specs.Findings.{mark_at}
-use Rattle.lk_check_walk.specs.Specifying.{IsSame, KeepsAt}
-use Rattle.lk_check_walk.specs.Walks.{IsIn, Tells, kept_in}
-use Rattle.lk_check_walk.specs.declared.checker.Checker.{Checker}
+use Rattle.lk_checker.specs.Moves.{IsSame, KeepsAt}
+use Rattle.lk_checker.specs.States.{IsIn, Tells, kept_in}
+use Rattle.lk_checker.specs.declared.checker.Checker.{Checker}
 use Rattle.lk_check_unit.specs.Later.{AreKnownPending, AsksAll, pending_codes, pending_rules}
 use Rattle.lk_check_unit.specs.declared.pending.Pending.{Pending}
 use Rattle.lk_check_unit.proofs.Later.{codes_first, nothing_left}

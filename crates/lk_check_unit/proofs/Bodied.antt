@@ -36,10 +36,11 @@ use Rattle.lk_found.specs.Truth.{IsBegunAmong}
 use Rattle.lk_found.proofs.Environments.{extend_both}
 use Rattle.lk_found.specs.Declarators.{scope_told}
 use Rattle.lk_found.specs.Keepings.{KeepsAll, codes_at}
+use Rattle.lk_checker.specs.Moves.{IsFurther}
+use Rattle.lk_checker.specs.States.{IsIn, kept_in}
+use Rattle.lk_checker.specs.declared.checker.Checker.{Checker}
 use Rattle.lk_check_walk.proofs.Truth.{truth_behind, truth_still}
-use Rattle.lk_check_walk.specs.Walking.{IsFurther}
-use Rattle.lk_check_walk.specs.Walks.{IsIn, Walks, kept_in}
-use Rattle.lk_check_walk.specs.declared.checker.Checker.{Checker}
+use Rattle.lk_check_walk.specs.Walks.{Walks}
 use Rattle.lk_check_unit.specs.Bodies.{IsAround, IsRound, Passes, WalksItems, items_told}
 use Rattle.lk_check_unit.specs.Definitions.{DeclaresParameters, EntersBody, Heads, IsFunctionName, IsHeaded, WalksBody, WalksDefinition, behind_specifiers, in_body_of, specifiers_of, type_defined}
 use Rattle.lk_check_unit.specs.Later.{TellsNamingOf}

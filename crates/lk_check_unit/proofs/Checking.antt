@@ -31,10 +31,11 @@ use Rattle.lk_found.specs.Structs.{AreListed}
 use Rattle.lk_found.specs.Truth.{AddsTruth, IsSoInside, AddsTags, IsOfTag, NoTag}
 use Rattle.lk_found.specs.Uses.{AddsUses, IsOfUse, IsOfWord, taken_in, word_in}
 use Rattle.lk_found.specs.Findings.{IsOfExpression, IsOfInitialiser, IsOfName, IsOfTypeName, refusal_of}
-use Rattle.lk_check_walk.specs.Walks.{IsIn, TellsTruth, kept_in, recorded_in}
-use Rattle.lk_check_walk.specs.declared.checker.Checker.{Checker}
-use Rattle.lk_check_walk.specs.declared.checker.Outside.{Outside}
-use Rattle.lk_check_walk.proofs.KeepsAll.{in_same}
+use Rattle.lk_checker.specs.States.{IsIn, kept_in, recorded_in}
+use Rattle.lk_checker.specs.declared.checker.Checker.{Checker}
+use Rattle.lk_checker.specs.declared.checker.Outside.{Outside}
+use Rattle.lk_checker.proofs.KeepsAll.{in_same}
+use Rattle.lk_check_walk.specs.Walks.{TellsTruth}
 use Rattle.lk_check_walk.proofs.Truth.{truth_still}
 use Rattle.lk_predeclared.specs.Beginning.{IsOutsideOf}
 use Rattle.lk_check_unit.specs.Later.{WalksBut, pending_codes}

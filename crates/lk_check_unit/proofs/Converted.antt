@@ -13,9 +13,10 @@ use Rattle.lk_typed.specs.Ty.{Ty}
 use Rattle.lk_rules.proofs.Roles.{additions_in_any_role}
 use Rattle.lk_found.specs.declared.found.Found.{Found}
 use Rattle.lk_found.specs.declared.found.Stands.{Stands}
+use Rattle.lk_checker.specs.States.{IsIn, StandsIn}
+use Rattle.lk_checker.specs.declared.checker.Checker.{Checker}
 use Rattle.lk_check_walk.specs.Walking.{Judges}
-use Rattle.lk_check_walk.specs.Walks.{IsIn, StandsIn, Walks}
-use Rattle.lk_check_walk.specs.declared.checker.Checker.{Checker}
+use Rattle.lk_check_walk.specs.Walks.{Walks}
 use Rattle.lk_check_unit.specs.Bodies.{IsPlain}
 use Rattle.lk_check_unit.specs.Converting.{IsConvertedFound, WalksConverted, role_of}
 

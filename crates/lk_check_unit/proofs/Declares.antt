@@ -52,12 +52,13 @@ use Rattle.lk_found.specs.declared.declarators.Asked.{Asked}
 use Rattle.lk_found.specs.declared.declarators.DeclaratorFound.{DeclaratorFound}
 use Rattle.lk_found.specs.declared.found.At.{At}
 use Rattle.lk_found.specs.declared.gathered.Specified.{Specified}
+use Rattle.lk_checker.specs.Moves.{IsSame, KeepsAt, IsFurther}
+use Rattle.lk_checker.specs.States.{operand_in, IsIn, IsSound, StandsIn, kept_in}
+use Rattle.lk_checker.specs.declared.checker.Checker.{Checker}
 use Rattle.lk_check_walk.proofs.Truth.{truth_same, truth_then}
 use Rattle.lk_check_walk.specs.Declarators.{FindsDeclarator, IsDeclared}
-use Rattle.lk_check_walk.specs.Specifying.{IsSame, KeepsAt, Specifies}
-use Rattle.lk_check_walk.specs.Walking.{IsFurther, operand_in}
-use Rattle.lk_check_walk.specs.Walks.{IsIn, IsSound, StandsIn, Walks, kept_in}
-use Rattle.lk_check_walk.specs.declared.checker.Checker.{Checker}
+use Rattle.lk_check_walk.specs.Specifying.{Specifies}
+use Rattle.lk_check_walk.specs.Walks.{Walks}
 use Rattle.lk_check_unit.specs.Bodies.{IsPlain, WalksDeclaration}
 use Rattle.lk_check_unit.specs.Declaring.{DeclaresName, KeepsBut, PutsDeclared, PutsTypes, WaitsIn, listed, type_recorded}
 use Rattle.lk_check_unit.specs.InitDeclarators.{DeclaresAll, DeclaresOne, FindsName, HidesCodes, IsNamedAmong, IsToldBy, NameIsFound, PutsIfNamed, PutsPending, WalksNode}

@@ -21,9 +21,9 @@ use Rattle.lk_check_decl.specs.declared.words.Scope.TheVariants.{File}
 use Rattle.lk_found.specs.Keepings.{KeepsAll, codes_at}
 use Rattle.lk_found.specs.Findings.{mark_at}
 use Rattle.lk_found.specs.declared.found.At.{At}
-use Rattle.lk_check_walk.specs.Specifying.{KeepsAt}
-use Rattle.lk_check_walk.specs.Walks.{IsIn, Tells, kept_in}
-use Rattle.lk_check_walk.specs.declared.checker.Checker.{Checker}
+use Rattle.lk_checker.specs.Moves.{KeepsAt}
+use Rattle.lk_checker.specs.States.{IsIn, Tells, kept_in}
+use Rattle.lk_checker.specs.declared.checker.Checker.{Checker}
 use Rattle.lk_check_unit.specs.Declaring.{DeclaresName, WaitsIn, listed}
 use Rattle.lk_check_unit.specs.Definitions.{DefinesName}
 use Rattle.lk_check_unit.specs.Later.{pending_codes}

@@ -8,9 +8,10 @@ use Rattle.lk_typed.specs.Env.{Env, extend}
 use Rattle.lk_typed.specs.Initialisers.{designator_adds, designator_part, designator_parts, designators_add}
 use Rattle.lk_typed.specs.NodeRules.{are_typed}
 use Rattle.lk_typed.specs.StatementRules.{condition_rules}
+use Rattle.lk_checker.specs.States.{IsSound}
+use Rattle.lk_checker.specs.declared.checker.Checker.{Checker}
 use Rattle.lk_check_walk.proofs.Walking.{no_walk, then_walks}
-use Rattle.lk_check_walk.specs.Walks.{IsSound, Walks}
-use Rattle.lk_check_walk.specs.declared.checker.Checker.{Checker}
+use Rattle.lk_check_walk.specs.Walks.{Walks}
 use Rattle.lk_check_unit.specs.Bodies.{Asks, IsPlain}
 use Rattle.lk_check_unit.specs.Initialising.{WalksDesignator, WalksDesignators}
 use Rattle.lk_check_unit.specs.declared.body.Asked.{Asked}

@@ -12,9 +12,10 @@ use Rattle.lk_typed.specs.NodeRules.{are_typed, has_type}
 use Rattle.lk_typed.specs.Nodes.{AnInitialiser, at}
 use Rattle.lk_check_decl.specs.declared.initialisers.Target.{Target}
 use Rattle.lk_found.proofs.Environments.{extend_both}
+use Rattle.lk_checker.specs.States.{IsSound}
+use Rattle.lk_checker.specs.declared.checker.Checker.{Checker}
 use Rattle.lk_check_walk.proofs.Walking.{no_walk, then_walks}
-use Rattle.lk_check_walk.specs.Walks.{IsSound, Walks}
-use Rattle.lk_check_walk.specs.declared.checker.Checker.{Checker}
+use Rattle.lk_check_walk.specs.Walks.{Walks}
 use Rattle.lk_check_unit.specs.Bodies.{IsPlain}
 use Rattle.lk_check_unit.specs.Initialising.{IsKnownTarget, WalksDesignators, WalksEntries, WalksEntry, WalksInit, entry_adds, object_for}
 use Rattle.lk_check_unit.proofs.Designated.{and_then, and_true}

@@ -32,10 +32,11 @@ use Rattle.lk_check_decl.specs.Breaches.{told}
 use Rattle.lk_check_decl.specs.Switches.{switch_of}
 use Rattle.lk_labels.specs.Leasts.{AreLabels}
 use Rattle.lk_found.proofs.Environments.{extend_both}
+use Rattle.lk_checker.specs.States.{IsSound, Tells, kept_in}
+use Rattle.lk_checker.specs.declared.checker.Checker.{Checker}
 use Rattle.lk_check_walk.proofs.Gathers.{both_assoc}
 use Rattle.lk_check_walk.proofs.Walking.{no_walk}
-use Rattle.lk_check_walk.specs.Walks.{IsSound, Tells, Walks, kept_in}
-use Rattle.lk_check_walk.specs.declared.checker.Checker.{Checker}
+use Rattle.lk_check_walk.specs.Walks.{Walks}
 use Rattle.lk_check_unit.specs.Asking.{WalksOperand, value_in}
 use Rattle.lk_check_unit.specs.Bodies.{Asks, IsAround, IsKnownResult, IsPlain, IsRound, Passes, WalksForm, WalksHead, WalksItems, WalksReturn, WalksScoped, WalksStatement, WalksTurning, at_stmt, form_breaches, head_adds, head_parts, items_told, name_told, told_of}
 use Rattle.lk_check_unit.specs.Scoping.{Enters, Leaves}

@@ -32,14 +32,16 @@ use Rattle.lk_found.specs.Findings.{mark_at}
 use Rattle.lk_found.specs.declared.declarators.DeclaratorFound.{DeclaratorFound}
 use Rattle.lk_found.specs.declared.found.At.{At}
 use Rattle.lk_found.specs.declared.gathered.Specified.{Specified}
-use Rattle.lk_check_walk.proofs.GoingOn.{scope_known, type_same}
+use Rattle.lk_checker.proofs.GoingOn.{scope_known, type_same}
+use Rattle.lk_checker.specs.Shaped.{IsKnownFound}
+use Rattle.lk_checker.specs.Moves.{IsSame, KeepsAt, IsFurther}
+use Rattle.lk_checker.specs.States.{IsSound, kept_in}
+use Rattle.lk_checker.specs.declared.checker.Checker.{Checker}
 use Rattle.lk_check_walk.proofs.WalkedForms.{scope_stays}
 use Rattle.lk_check_walk.proofs.Truth.{truth_still, told_still}
-use Rattle.lk_check_walk.specs.Declarators.{FindsDeclarator, IsDeclared, IsKnownFound}
-use Rattle.lk_check_walk.specs.Specifying.{AreSpecified, IsSame, KeepsAt, Specifies}
-use Rattle.lk_check_walk.specs.Walking.{IsFurther}
-use Rattle.lk_check_walk.specs.Walks.{IsSound, kept_in, TellsTruth}
-use Rattle.lk_check_walk.specs.declared.checker.Checker.{Checker}
+use Rattle.lk_check_walk.specs.Declarators.{FindsDeclarator, IsDeclared}
+use Rattle.lk_check_walk.specs.Specifying.{AreSpecified, Specifies}
+use Rattle.lk_check_walk.specs.Walks.{TellsTruth}
 use Rattle.lk_check_unit.specs.Bodies.{IsPlain}
 use Rattle.lk_check_unit.specs.Definitions.{FunctionIsNamed, Heads, IsFunctionName, IsHeaded, IsKnownHeaded, NamesFunction, behind_specifiers, specifiers_of, type_defined}
 use Rattle.lk_check_unit.specs.Later.{TellsNaming, TellsNamingOf}

@@ -13,9 +13,9 @@ use Rattle.lk_typed.specs.Nodes.{AnExpression, Placed}
 use Rattle.lk_typed.specs.Parts.{added_by, first_adds, first_part, perhaps}
 use Rattle.lk_typed.specs.StatementRules.{condition_rules, dropped_rules}
 use Rattle.lk_check_decl.specs.Breaches.{told}
+use Rattle.lk_checker.specs.declared.checker.Checker.{Checker}
 use Rattle.lk_check_walk.proofs.Walking.{then_walks}
 use Rattle.lk_check_walk.specs.Walks.{Walks}
-use Rattle.lk_check_walk.specs.declared.checker.Checker.{Checker}
 use Rattle.lk_check_unit.specs.Bodies.{Asks, AsksFirst, IsPlain, WalksDeclaration, WalksHead, head_adds, head_parts}
 use Rattle.lk_check_unit.specs.declared.body.Asked.{Asked}
 use Rattle.lk_check_unit.proofs.Standing.{plain_behind}

@@ -13,10 +13,11 @@ use Rattle.lk_names.specs.InScope.{InScope}
 use Rattle.lk_rules.proofs.Kept.{a_watch_tells_faults, none_broken}
 use Rattle.lk_rules.specs.Keeping.{IsBroken, KeepsNodes, seen_by}
 use Rattle.lk_check_decl.specs.declared.initialisers.Target.{Target}
+use Rattle.lk_checker.specs.States.{IsSound, kept_in, recorded_in}
+use Rattle.lk_checker.specs.declared.checker.Checker.{Checker}
 use Rattle.lk_check_walk.proofs.Walking.{no_walk}
 use Rattle.lk_check_walk.proofs.Truth.{truth_behind, truth_still}
-use Rattle.lk_check_walk.specs.Walks.{IsSound, Walks, kept_in, recorded_in}
-use Rattle.lk_check_walk.specs.declared.checker.Checker.{Checker}
+use Rattle.lk_check_walk.specs.Walks.{Walks}
 use Rattle.lk_check_unit.specs.Bodies.{Grows, IsPlain}
 use Rattle.lk_check_unit.specs.InitDeclarators.{HidesCodes}
 use Rattle.lk_check_unit.specs.Initialising.{IsKnownTarget, WalksInit, object_for}

@@ -28,9 +28,10 @@ use Rattle.lk_check_decl.specs.declared.initialisers.Target.{Target}
 use Rattle.lk_found.specs.Findings.{IsFoundTyping, mark_at}
 use Rattle.lk_found.specs.declared.found.At.{At}
 use Rattle.lk_found.specs.declared.found.Found.{Found}
+use Rattle.lk_checker.specs.States.{IsSound, Tells, kept_in}
+use Rattle.lk_checker.specs.declared.checker.Checker.{Checker}
 use Rattle.lk_check_walk.proofs.Walking.{no_walk}
-use Rattle.lk_check_walk.specs.Walks.{IsSound, Tells, Walks, kept_in}
-use Rattle.lk_check_walk.specs.declared.checker.Checker.{Checker}
+use Rattle.lk_check_walk.specs.Walks.{Walks}
 use Rattle.lk_rules.specs.Keeping.{KeepsCodes}
 use Rattle.lk_check_unit.specs.Bodies.{IsPlain}
 use Rattle.lk_check_unit.specs.Converting.{IsConvertedFound, WalksConverted}

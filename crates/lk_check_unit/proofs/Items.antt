@@ -11,9 +11,9 @@ use Rattle.lk_typed.specs.Declarations.{declaration_adds}
 use Rattle.lk_typed.specs.Parts.{item_adds, item_around, item_part, items_in_turn}
 use Rattle.lk_typed.specs.StatementRules.{Around}
 use Rattle.lk_typed.specs.Statements.{around_behind}
+use Rattle.lk_checker.specs.States.{IsSound}
+use Rattle.lk_checker.specs.declared.checker.Checker.{Checker}
 use Rattle.lk_check_walk.proofs.Walking.{no_walk}
-use Rattle.lk_check_walk.specs.Walks.{IsSound}
-use Rattle.lk_check_walk.specs.declared.checker.Checker.{Checker}
 use Rattle.lk_check_unit.specs.Bodies.{IsKnownResult, IsRound, Passes, WalksDeclaration, WalksItem, WalksItems, item_told, items_told}
 use Rattle.lk_check_unit.specs.declared.body.Body.{Body}
 use Rattle.lk_check_unit.proofs.Arounds.{behind_only}

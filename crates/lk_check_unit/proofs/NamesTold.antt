@@ -26,8 +26,9 @@ use Rattle.lk_found.specs.Truth.{IsSoInside, IsOfTag, NoTag}
 use Rattle.lk_found.specs.Findings.{IsDeclaredAs, IsOfName}
 use Rattle.lk_found.specs.declared.records.DeclaredHere.{DeclaredHere}
 use Rattle.lk_found.proofs.Entries.{AreNodesOf, among_first, among_second, is_expression, nodes_of_node, put_is, so_among, so_still}
-use Rattle.lk_check_walk.specs.Walks.{TellsTruth, recorded_in, TellsOwn}
-use Rattle.lk_check_walk.specs.declared.checker.Checker.{Checker}
+use Rattle.lk_checker.specs.States.{recorded_in}
+use Rattle.lk_checker.specs.declared.checker.Checker.{Checker}
+use Rattle.lk_check_walk.specs.Walks.{TellsTruth, TellsOwn}
 use Rattle.lk_check_walk.proofs.Truth.{declared_longer, name_longer, told_of_node, told_still, told_then}
 use Rattle.lk_check_unit.specs.Declaring.{IsRecordedAs, PutsDeclared, type_recorded}
 use Rattle.lk_check_unit.specs.InitDeclarators.{PutsIfNamed}

@@ -55,11 +55,10 @@ use Rattle.lk_found.specs.Recorded.{Recorded}
 use Rattle.lk_found.specs.Structs.{AreListed}
 use Rattle.lk_found.specs.Findings.{mark_at}
 use Rattle.lk_found.specs.declared.found.At.{At}
+use Rattle.lk_checker.specs.Moves.{IsSame, KeepsAt, IsFurther}
+use Rattle.lk_checker.specs.States.{IsIn, IsSound, Tells, kept_in, recorded_in}
+use Rattle.lk_checker.specs.declared.checker.Checker.{Checker}
 use Rattle.lk_check_walk.proofs.Recordings.{in_recorded, with_records}
-use Rattle.lk_check_walk.specs.Specifying.{IsSame, KeepsAt}
-use Rattle.lk_check_walk.specs.Walking.{IsFurther}
-use Rattle.lk_check_walk.specs.Walks.{IsIn, IsSound, Tells, kept_in, recorded_in}
-use Rattle.lk_check_walk.specs.declared.checker.Checker.{Checker}
 use Rattle.lk_check_unit.specs.Declaring.{AsksComplete, AsksType, DeclaresName, IsHow, IsWaiting, KeepsBut, PutsDeclared, PutsName, PutsTypes, WaitsIn, complete_rules, declared_by, listed, meant_by, type_recorded}
 use Rattle.lk_check_unit.proofs.NamesTold.{puts_behind}
 use Rattle.lk_check_unit.specs.Later.{AreKnownPending, pending_codes, pending_rules}

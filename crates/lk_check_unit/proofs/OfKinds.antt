@@ -17,8 +17,9 @@ use Rattle.lk_found.specs.declared.records.InitialiserKind.{InitialiserKind}
 use Rattle.lk_found.specs.declared.records.InitialiserKind.TheVariants.{Value, Word}
 use Rattle.lk_found.proofs.Entries.{adds_put}
 use Rattle.lk_found.proofs.Lasting.{known_longer}
-use Rattle.lk_check_walk.specs.Walks.{IsIn, IsSound, TellsTruth}
-use Rattle.lk_check_walk.specs.declared.checker.Checker.{Checker}
+use Rattle.lk_checker.specs.States.{IsIn, IsSound}
+use Rattle.lk_checker.specs.declared.checker.Checker.{Checker}
+use Rattle.lk_check_walk.specs.Walks.{TellsTruth}
 use Rattle.lk_check_walk.proofs.Recordings.{sound_recorded, walks_recorded, with_records}
 use Rattle.lk_check_unit.specs.Bodies.{Grows}
 use Rattle.lk_check_unit.specs.Initialising.{IsNoWord, IsWord, WalksExpr, object_for}

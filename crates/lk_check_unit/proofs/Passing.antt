@@ -6,9 +6,10 @@ use Rattle.lk_typed.specs.StatementRules.{Around}
 use Rattle.lk_typed.specs.Statements.{StmtTeller, StmtTold, around_behind, only, scoped, then_told}
 use Rattle.lk_names.specs.declared.names.Mark.{Mark}
 use Rattle.lk_check_decl.specs.Breaches.{told}
+use Rattle.lk_checker.specs.States.{IsIn}
+use Rattle.lk_checker.specs.declared.checker.Checker.{Checker}
 use Rattle.lk_check_walk.proofs.Walking.{then_walks}
-use Rattle.lk_check_walk.specs.Walks.{IsIn, Walks}
-use Rattle.lk_check_walk.specs.declared.checker.Checker.{Checker}
+use Rattle.lk_check_walk.specs.Walks.{Walks}
 use Rattle.lk_check_unit.specs.Bodies.{IsAround, Passes}
 use Rattle.lk_check_unit.specs.Scoping.{Enters, Leaves}
 use Rattle.lk_check_unit.specs.declared.body.Body.{Body}

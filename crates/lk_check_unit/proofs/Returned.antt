@@ -26,9 +26,10 @@ use Rattle.lk_typed.specs.Typings.{ForEach, IsResult, IsTyping}
 use Rattle.lk_typed.specs.declared.typed.Typed.{Typed}
 use Rattle.lk_check_decl.specs.Breaches.{told}
 use Rattle.lk_found.specs.declared.found.Found.{Found}
+use Rattle.lk_checker.specs.States.{IsSound}
+use Rattle.lk_checker.specs.declared.checker.Checker.{Checker}
 use Rattle.lk_check_walk.proofs.Walking.{no_walk}
-use Rattle.lk_check_walk.specs.Walks.{IsSound, Walks}
-use Rattle.lk_check_walk.specs.declared.checker.Checker.{Checker}
+use Rattle.lk_check_walk.specs.Walks.{Walks}
 use Rattle.lk_check_unit.specs.Bodies.{WalksReturn}
 use Rattle.lk_check_unit.specs.Converting.{IsConvertedFound, IsReturnCode, WalksConverted, conversion_rules, given_rules}
 use Rattle.lk_check_unit.proofs.Asked.{result_found}

@@ -15,9 +15,10 @@ use Rattle.lk_rules.specs.Keeping.{IsBroken}
 use Rattle.lk_check_decl.specs.declared.words.Scope.TheVariants.{File}
 use Rattle.lk_found.proofs.Environments.{extend_both}
 use Rattle.lk_found.specs.Keepings.{Codes, KeepsAll, codes_at}
+use Rattle.lk_checker.specs.States.{IsSound, kept_in}
+use Rattle.lk_checker.specs.declared.checker.Checker.{Checker}
 use Rattle.lk_check_walk.proofs.Truth.{truth_of_node}
-use Rattle.lk_check_walk.specs.Walks.{IsSound, Walks, kept_in}
-use Rattle.lk_check_walk.specs.declared.checker.Checker.{Checker}
+use Rattle.lk_check_walk.specs.Walks.{Walks}
 use Rattle.lk_check_unit.specs.Bodies.{Grows, IsPlain}
 use Rattle.lk_check_unit.specs.Definitions.{WalksDefinition}
 use Rattle.lk_check_unit.specs.InitDeclarators.{PutsPending, WalksNode}

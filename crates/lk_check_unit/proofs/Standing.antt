@@ -13,8 +13,9 @@ use Rattle.lk_typed.specs.StatementRules.{Around}
 use Rattle.lk_names.specs.InScope.{env_in}
 use Rattle.lk_names.specs.declared.names.Mark.{Mark}
 use Rattle.lk_found.specs.declared.found.Stands.{Stands}
-use Rattle.lk_check_walk.specs.Walks.{IsSound, StandsIn, Walks}
-use Rattle.lk_check_walk.specs.declared.checker.Checker.{Checker}
+use Rattle.lk_checker.specs.States.{IsSound, StandsIn}
+use Rattle.lk_checker.specs.declared.checker.Checker.{Checker}
+use Rattle.lk_check_walk.specs.Walks.{Walks}
 use Rattle.lk_typed.specs.declared.role.Role.TheVariants as role
 use Rattle.lk_check_unit.specs.Bodies.{IsAround, IsKnownResult, IsPlain, IsRound}
 use Rattle.lk_check_unit.specs.Scoping.{Enters}

@@ -7,8 +7,8 @@ use Rattle.lk_types.specs.Table.{IsKnown}
 use Rattle.lk_names.specs.declared.names.Mark.{Mark}
 use Rattle.lk_typed.specs.Faults.{Breach}
 use Rattle.lk_found.specs.declared.found.At.{At}
-use Rattle.lk_check_walk.specs.Walks.{IsSound, Tells}
-use Rattle.lk_check_walk.specs.declared.checker.Checker.{Checker}
+use Rattle.lk_checker.specs.States.{IsSound, Tells}
+use Rattle.lk_checker.specs.declared.checker.Checker.{Checker}
 use Rattle.lk_check_unit.specs.Bodies.{Grows, IsKnownResult, Stays}
 use Rattle.lk_check_unit.specs.Scoping.{Enters, IsBeside, Leaves}
 use Rattle.lk_check_unit.specs.declared.body.Body.{Body}

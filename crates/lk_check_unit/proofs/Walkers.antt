@@ -5,8 +5,9 @@ use Rattle.lk_typed.specs.Nodes.{Placed}
 use Rattle.lk_typed.specs.StatementRules.{Around}
 use Rattle.lk_typed.specs.Statements.{StmtTold, around_behind, only, scoped, then_told}
 use Rattle.lk_names.specs.declared.names.Mark.{Mark}
-use Rattle.lk_check_walk.specs.Walks.{IsSound, Walks}
-use Rattle.lk_check_walk.specs.declared.checker.Checker.{Checker}
+use Rattle.lk_checker.specs.States.{IsSound}
+use Rattle.lk_checker.specs.declared.checker.Checker.{Checker}
+use Rattle.lk_check_walk.specs.Walks.{Walks}
 use Rattle.lk_check_unit.specs.Bodies.{IsKnownResult, IsPlain, IsRound, Passes}
 use Rattle.lk_check_unit.specs.Scoping.{Enters, Leaves}
 use Rattle.lk_check_unit.specs.declared.body.Body.{Body}

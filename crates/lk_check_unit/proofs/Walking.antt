@@ -21,10 +21,11 @@ use Rattle.lk_rules.specs.Keeping.{KeepsCodes, KeepsNodes}
 use Rattle.lk_found.proofs.Environments.{extend_nothing}
 use Rattle.lk_found.proofs.Entries.{is_expression}
 use Rattle.lk_found.specs.Structs.{AreListed}
+use Rattle.lk_checker.specs.States.{IsIn, IsSound, kept_in, recorded_in}
+use Rattle.lk_checker.specs.declared.checker.Checker.{Checker}
 use Rattle.lk_check_walk.proofs.Gathers.{both_nothing}
 use Rattle.lk_check_walk.proofs.Truth.{truth_behind, truth_of_node, truth_still}
-use Rattle.lk_check_walk.specs.Walks.{IsIn, IsSound, Walks, kept_in, recorded_in}
-use Rattle.lk_check_walk.specs.declared.checker.Checker.{Checker}
+use Rattle.lk_check_walk.specs.Walks.{Walks}
 use Rattle.lk_check_unit.specs.Scoping.{Enters, Leaves}
 
 -- ---- environments that are extended

@@ -10,8 +10,8 @@ use Rattle.lk_typed.specs.Ty.{Ty}
 use Rattle.lk_typed.specs.Typing.{Typing}
 use Rattle.lk_typed.specs.Typings.{IsResult}
 use Rattle.lk_typed.specs.declared.typed.Typed.{Typed}
+use Rattle.lk_checker.specs.declared.checker.Checker.{Checker}
 use Rattle.lk_check_walk.specs.Walks.{Walks}
-use Rattle.lk_check_walk.specs.declared.checker.Checker.{Checker}
 use Rattle.lk_check_unit.specs.Bodies.{IsPlain}
 
 abbrev pub WalksOperand : Expr → Checker → Checker → Type 0

@@ -25,8 +25,9 @@ use Rattle.lk_check_decl.specs.Breaches.{told}
 use Rattle.lk_check_decl.specs.Switches.{switch_of}
 use Rattle.lk_labels.specs.Leasts.{AreLabels}
 use Rattle.lk_found.specs.declared.found.At.{At}
-use Rattle.lk_check_walk.specs.Walks.{IsIn, IsSound, Walks}
-use Rattle.lk_check_walk.specs.declared.checker.Checker.{Checker}
+use Rattle.lk_checker.specs.States.{IsIn, IsSound}
+use Rattle.lk_checker.specs.declared.checker.Checker.{Checker}
+use Rattle.lk_check_walk.specs.Walks.{Walks}
 use Rattle.lk_check_unit.specs.declared.body.Asked.{Asked}
 use Rattle.lk_check_unit.specs.declared.body.Body.{Body}
 

@@ -19,8 +19,8 @@ use Rattle.lk_typed.specs.Parts.{to_result}
 use Rattle.lk_typed.specs.Ty.{Ty}
 use Rattle.lk_found.specs.Findings.{IsFoundTyping}
 use Rattle.lk_found.specs.declared.found.Found.{Found}
+use Rattle.lk_checker.specs.declared.checker.Checker.{Checker}
 use Rattle.lk_check_walk.specs.Walks.{Walks}
-use Rattle.lk_check_walk.specs.declared.checker.Checker.{Checker}
 use Rattle.lk_check_unit.specs.Bodies.{IsPlain}
 
 abbrev pub role_of : Option Ty → Role

@@ -29,10 +29,9 @@ use Rattle.lk_found.specs.Recorded.{with_declared}
 use Rattle.lk_found.specs.Findings.{IsDeclaredAs}
 use Rattle.lk_found.specs.declared.found.At.{At}
 use Rattle.lk_found.specs.declared.records.DeclaredHere.{DeclaredHere}
-use Rattle.lk_check_walk.specs.Moves.{GoesOn, Grows}
-use Rattle.lk_check_walk.specs.Specifying.{KeepsAt}
-use Rattle.lk_check_walk.specs.Walks.{IsIn, kept_in, recorded_in}
-use Rattle.lk_check_walk.specs.declared.checker.Checker.{Checker}
+use Rattle.lk_checker.specs.Moves.{GoesOn, Grows, KeepsAt}
+use Rattle.lk_checker.specs.States.{IsIn, kept_in, recorded_in}
+use Rattle.lk_checker.specs.declared.checker.Checker.{Checker}
 use Rattle.lk_check_unit.specs.Later.{pending_codes, pending_rules}
 use Rattle.lk_check_unit.specs.declared.declared.How.{How}
 use Rattle.lk_check_unit.specs.declared.declared.NameFound.{NameFound}

@@ -29,8 +29,9 @@ use Rattle.lk_rules.specs.Keeping.{Kept}
 use Rattle.lk_found.specs.Truth.{IsBegunAmong}
 use Rattle.lk_found.specs.Declarators.{name_codes, scope_told}
 use Rattle.lk_found.specs.Keepings.{Codes, KeepsAll, codes_at}
-use Rattle.lk_check_walk.specs.Walks.{IsIn, Walks, kept_in}
-use Rattle.lk_check_walk.specs.declared.checker.Checker.{Checker}
+use Rattle.lk_checker.specs.States.{IsIn, kept_in}
+use Rattle.lk_checker.specs.declared.checker.Checker.{Checker}
+use Rattle.lk_check_walk.specs.Walks.{Walks}
 use Rattle.lk_check_unit.specs.Bodies.{IsPlain}
 use Rattle.lk_check_unit.specs.InitDeclarators.{PutsIfNamed}
 use Rattle.lk_check_unit.specs.Later.{TellsNamingOf}

@@ -27,8 +27,9 @@ use Rattle.lk_check_decl.specs.declared.words.Scope.{Scope}
 use Rattle.lk_check_decl.specs.declared.words.Scope.TheVariants.{Block}
 use Rattle.lk_found.specs.Declarators.{name_codes}
 use Rattle.lk_found.specs.declared.gathered.Specified.{Specified}
-use Rattle.lk_check_walk.specs.Walks.{IsIn, Walks, recorded_in}
-use Rattle.lk_check_walk.specs.declared.checker.Checker.{Checker}
+use Rattle.lk_checker.specs.States.{IsIn, recorded_in}
+use Rattle.lk_checker.specs.declared.checker.Checker.{Checker}
+use Rattle.lk_check_walk.specs.Walks.{Walks}
 use Rattle.lk_check_unit.specs.Bodies.{IsPlain}
 use Rattle.lk_check_unit.specs.Declaring.{KeepsBut, PutsDeclared}
 use Rattle.lk_check_unit.specs.Initialising.{object_for}

@@ -28,8 +28,9 @@ use Rattle.lk_check_decl.specs.Initialisers.{object_in}
 use Rattle.lk_check_decl.specs.declared.initialisers.Target.{Target}
 use Rattle.lk_found.specs.Findings.{IsFoundTyping}
 use Rattle.lk_found.specs.declared.found.Found.{Found}
-use Rattle.lk_check_walk.specs.Walks.{IsIn, Walks}
-use Rattle.lk_check_walk.specs.declared.checker.Checker.{Checker}
+use Rattle.lk_checker.specs.States.{IsIn}
+use Rattle.lk_checker.specs.declared.checker.Checker.{Checker}
+use Rattle.lk_check_walk.specs.Walks.{Walks}
 use Rattle.lk_check_unit.specs.Bodies.{IsPlain}
 
 abbrev pub object_for : Table → Option Target → Option Object

@@ -19,8 +19,9 @@ use Rattle.lk_found.specs.Begun.{KeepsBegun}
 use Rattle.lk_found.specs.Truth.{IsSoInside, NoTag}
 use Rattle.lk_found.specs.Findings.{IsDeclaredAs, IsOfName, mark_at}
 use Rattle.lk_found.specs.declared.records.DeclaredHere.{DeclaredHere}
-use Rattle.lk_check_walk.specs.Walks.{IsIn, IsSound, kept_in, TellsTruth, TellsOwn}
-use Rattle.lk_check_walk.specs.declared.checker.Checker.{Checker}
+use Rattle.lk_checker.specs.States.{IsIn, IsSound, kept_in}
+use Rattle.lk_checker.specs.declared.checker.Checker.{Checker}
+use Rattle.lk_check_walk.specs.Walks.{TellsTruth, TellsOwn}
 use Rattle.lk_check_unit.specs.declared.pending.Pending.{Pending}
 
 -- these nodes are walked, but for these codes, in whatever order others are kept

@@ -3,8 +3,8 @@ use Rattle.std.specs.Prelude.{◌≡◌}
 use Rattle.lk_names.specs.Growing.{IsMarkOf}
 use Rattle.lk_names.specs.declared.names.Mark.{Mark}
 use Rattle.lk_typed.specs.Env.{Env, Additions, enter, extend, past_scope}
-use Rattle.lk_check_walk.specs.Walks.{IsIn, IsSound, kept_in, recorded_in}
-use Rattle.lk_check_walk.specs.declared.checker.Checker.{Checker}
+use Rattle.lk_checker.specs.States.{IsIn, IsSound, kept_in, recorded_in}
+use Rattle.lk_checker.specs.declared.checker.Checker.{Checker}
 
 -- only names changed
 pub record IsBeside (old new : Checker) : Type 0 where

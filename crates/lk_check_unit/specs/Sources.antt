@@ -25,10 +25,10 @@ use Rattle.lk_found.specs.Truth.{IsSoInside}
 use Rattle.lk_found.specs.Structs.{AreListed}
 use Rattle.lk_found.specs.Uses.{HasUses, IsOfUse, IsOfWord, taken_in, word_in}
 use Rattle.lk_found.specs.Findings.{IsOfExpression, IsOfInitialiser, IsOfName, IsOfTypeName, refusal_of}
-use Rattle.lk_check_walk.specs.declared.checker.Checked.{Checked}
-use Rattle.lk_check_walk.specs.declared.checker.Checker.{Checker}
+use Rattle.lk_checker.specs.declared.checker.Checked.{Checked}
+use Rattle.lk_checker.specs.declared.checker.Checker.{Checker}
+use Rattle.lk_checker.specs.Moves.{IsSame}
 use Rattle.lk_predeclared.specs.Beginning.{IsOutsideOf}
-use Rattle.lk_check_walk.specs.Specifying.{IsSame}
 use Rattle.lk_check_unit.specs.Bodies.{Grows, IsPlain}
 use Rattle.lk_check_unit.specs.InitDeclarators.{PutsPending}
 use Rattle.lk_check_unit.specs.Later.{AsksAll, WalksBut, pending_codes}

@@ -8,14 +8,15 @@ ghost use Rattle.lk_typed.specs.Statements.{kind_in, switch_kind};
 ghost use Rattle.lk_typed.specs.StatementRules as rule;
 ghost use Rattle.lk_typed.specs.Typing.{Typing, constant_in};
 ghost use Rattle.lk_typed.specs.Typings.{IsOperand, IsResult};
-ghost use Rattle.lk_check_walk.specs.Walks.{IsSound};
+ghost use Rattle.lk_checker.specs.States.{IsSound};
 ghost use Rattle.lk_check_unit.specs.Asking.{IsOperandFound, WalksOperand, value_in};
 ghost use Rattle.lk_check_unit.specs.Bodies.{Asks, Grows, IsKnownResult, IsPlain, Stays};
 
 use crate::body::{Asked, Body};
 use lk_base::{Kind, NoMemory};
 use lk_check_decl::{condition_code, dropped_code, switch_code};
-use lk_check_walk::Checker;
+use lk_check_walk::judge;
+use lk_checker::Checker;
 use lk_found::Stands;
 use lk_tree::Expr;
 use lk_typed::{Constant, ExprType, Role, Typed, kind_of, value};
@@ -33,7 +34,7 @@ pub(crate) fn operand(checker: &mut Checker, e: &Expr) -> Result<Option<Typed>, 
         role: Role::Operand,
         in_size: false,
     };
-    let found = checker.judge(e, stands)?;
+    let found = judge(checker, e, stands)?;
     Ok(found.typing)
 }
 
@@ -177,6 +178,6 @@ pub(crate) fn case_constant(checker: &mut Checker, e: &Expr) -> Result<Option<Co
         role: Role::Operand,
         in_size: false,
     };
-    let found = checker.judge(e, stands)?;
+    let found = judge(checker, e, stands)?;
     Ok(constant_of(&found.typing))
 }

@@ -9,13 +9,13 @@ ghost use Rattle.lk_typed.specs.Meaning.{meaning};
 ghost use Rattle.lk_typed.specs.Sizes.{is_complete as spec_complete};
 ghost use Rattle.lk_typed.specs.Typings.{structs_in};
 ghost use Rattle.lk_check_decl.specs.Breaches.{told};
-ghost use Rattle.lk_check_walk.specs.Specifying.{IsSame, KeepsAt};
-ghost use Rattle.lk_check_walk.specs.Walks.{IsIn};
+ghost use Rattle.lk_checker.specs.Moves.{IsSame, KeepsAt};
+ghost use Rattle.lk_checker.specs.States.{IsIn};
 ghost use Rattle.lk_check_unit.specs.Later.{pending_rules, AreKnownPending, AsksAll};
 
 use crate::pending::Pending;
 use lk_base::{Code, NoMemory};
-use lk_check_walk::Checker;
+use lk_checker::Checker;
 use lk_typed::{Members, is_complete};
 use lk_types::{TypeId, TypeTable};
 

@@ -8,8 +8,8 @@ ghost use Rattle.lk_typed.specs.Meaning.{meaning};
 ghost use Rattle.lk_typed.specs.NodeParts.{object_of};
 ghost use Rattle.lk_check_decl.specs.Twins.{given_of, scope_of};
 ghost use Rattle.lk_check_decl.specs.declared.words.Scope.TheVariants.{File};
-ghost use Rattle.lk_check_walk.specs.Walking.{IsFurther};
-ghost use Rattle.lk_check_walk.specs.Walks.{IsSound};
+ghost use Rattle.lk_checker.specs.Moves.{IsFurther};
+ghost use Rattle.lk_checker.specs.States.{IsSound};
 ghost use Rattle.lk_check_unit.specs.Bodies.{Grows, WalksDeclaration};
 ghost use Rattle.lk_check_unit.specs.Declaring.{listed};
 ghost use Rattle.lk_check_unit.specs.Initialising.{IsKnownTarget, object_for};
@@ -21,7 +21,8 @@ use crate::initialisers::initialiser;
 use crate::pending::Pending;
 use lk_base::{NoMemory, Seq};
 use lk_check_decl::{Given, Holder, Scope, Target, has_extern, has_static, may_lack_size};
-use lk_check_walk::Checker;
+use lk_check_walk::{declarator, specifiers};
+use lk_checker::Checker;
 use lk_found::{Asked, At, Specified, declared_name};
 use lk_tree::{Declare, Init, InitDeclarator, Storage};
 use lk_types::TypeId;
@@ -159,7 +160,7 @@ fn init_declarator(
         may_be_absent: may_lack_size(words, d.init.is_some()),
         in_size: false,
     };
-    let found = checker.declarator(&d.declarator, told.ty, asked)?;
+    let found = declarator(checker, &d.declarator, told.ty, asked)?;
     let named = name_of(checker, scope, words, d, &found.ty)?;
     put_pending(pending, named.pending)?;
     let target = object(named.ty, is_static(scope, words));
@@ -214,7 +215,8 @@ pub(crate) fn declaration(
     ensures walks { OnOk result (WalksNode checker.old checker.new scope node.now pending.old pending.new) }
 {
     let declarators = node.declarators.list();
-    let told = checker.specifiers(
+    let told = specifiers(
+        checker,
         node.specifiers.list(),
         Holder::Declaration,
         is_alone(declarators),

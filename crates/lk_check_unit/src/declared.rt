@@ -15,9 +15,8 @@ ghost use Rattle.lk_check_decl.specs.GivenSizes.{GivesSize};
 ghost use Rattle.lk_check_decl.specs.Names.{use_rules};
 ghost use Rattle.lk_check_decl.specs.Twins.{given_of, scope_of};
 ghost use Rattle.lk_found.specs.Named.{name_in};
-ghost use Rattle.lk_check_walk.specs.Specifying.{IsSame, KeepsAt};
-ghost use Rattle.lk_check_walk.specs.Walking.{IsFurther};
-ghost use Rattle.lk_check_walk.specs.Walks.{IsIn, IsSound};
+ghost use Rattle.lk_checker.specs.Moves.{IsSame, KeepsAt, IsFurther};
+ghost use Rattle.lk_checker.specs.States.{IsIn, IsSound};
 ghost use Rattle.lk_check_unit.specs.Declaring.{complete_rules, declared_by, meant_by, AsksComplete};
 ghost use Rattle.lk_check_unit.specs.Declaring.{AsksType, DeclaresName, IsHow, IsWaiting, PutsName};
 ghost use Rattle.lk_check_unit.specs.Declaring.{PutsDeclared, PutsTypes, WaitsIn, type_recorded};
@@ -30,7 +29,7 @@ use lk_check_decl::{
     Given, NameUse, Scope, completed, defines_of, given_code, has_extern, has_typedef, list_size,
     meaning_of, object_code, text_size, use_code, waits_for_end,
 };
-use lk_check_walk::Checker;
+use lk_checker::Checker;
 use lk_found::{At, DeclaredHere, DeclaredName};
 use lk_tree::{Init, Storage};
 use lk_typed::{Declared, Defines, ExprType, Linkage, form, is_function};

@@ -10,9 +10,8 @@ ghost use Rattle.lk_typed.specs.Meaning.{meaning};
 ghost use Rattle.lk_typed.specs.NodeParts as spec;
 ghost use Rattle.lk_typed.specs.StatementRules.{in_function};
 ghost use Rattle.lk_found.specs.Named.{name_in};
-ghost use Rattle.lk_check_walk.specs.Specifying.{IsSame, KeepsAt};
-ghost use Rattle.lk_check_walk.specs.Walking.{IsFurther};
-ghost use Rattle.lk_check_walk.specs.Walks.{IsSound};
+ghost use Rattle.lk_checker.specs.Moves.{IsSame, KeepsAt, IsFurther};
+ghost use Rattle.lk_checker.specs.States.{IsSound};
 ghost use Rattle.lk_check_unit.specs.Bodies.{Grows, IsAround};
 ghost use Rattle.lk_check_unit.specs.Definitions.{DeclaresParameters, DefinesName, EntersBody, Heads};
 ghost use Rattle.lk_check_unit.specs.Definitions.{IsKnownHeaded, NamesFunction, WalksBody, WalksDefinition};
@@ -23,7 +22,8 @@ use crate::scopes::{enter, leave};
 use crate::statements::block_items;
 use lk_base::NoMemory;
 use lk_check_decl::{Given, Holder, Scope, definition_code};
-use lk_check_walk::Checker;
+use lk_check_walk::{declarator, specifiers};
+use lk_checker::Checker;
 use lk_found::{Asked, At, DeclaratorFound, DeclaredName, declared_name};
 use lk_labels::labels_of;
 use lk_names::{LeftScope, Mark};
@@ -167,13 +167,20 @@ fn head(checker: &mut Checker, node: &Function) -> Result<Headed, NoMemory>
     ensures heads { IfOk result (Heads node.now checker.old checker.new) }
 {
     let at = at_definition(node);
-    let told = checker.specifiers(node.specifiers.list(), Holder::Definition, false, false)?;
+    let told = specifiers(
+        checker,
+        node.specifiers.list(),
+        Holder::Definition,
+        false,
+        false,
+    )?;
     checker.keep_all(at, told.breaches.as_slice())?;
     let asked = Asked {
         may_be_absent: false,
         in_size: false,
     };
-    let DeclaratorFound { ty, parameters, .. } = checker.declarator(
+    let DeclaratorFound { ty, parameters, .. } = declarator(
+        checker,
         &node.declarator,
         told.ty,
         asked,

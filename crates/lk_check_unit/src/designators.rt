@@ -1,12 +1,12 @@
 //! Designators of initialisers (C99 6.7.8).
 ghost use Rattle.std.specs.Prelude.{◌≡◌, ◌&&◌, OnOk, IfOk};
-ghost use Rattle.lk_check_walk.specs.Walks.{IsSound};
+ghost use Rattle.lk_checker.specs.States.{IsSound};
 ghost use Rattle.lk_check_unit.specs.Bodies.{Grows};
 ghost use Rattle.lk_check_unit.specs.Initialising.{WalksDesignator, WalksDesignators};
 
 use crate::asking::condition;
 use lk_base::NoMemory;
-use lk_check_walk::Checker;
+use lk_checker::Checker;
 use lk_tree::Designator;
 
 /// A designator: whether its index has a type, where it has one.

@@ -10,12 +10,12 @@ ghost use Rattle.lk_typed.specs.Redeclared.{function_type, object_type};
 ghost use Rattle.lk_typed.specs.Ty.{Ty};
 ghost use Rattle.lk_names.specs.InScope.{env_in, IsKnownScope};
 ghost use Rattle.lk_check_decl.specs.Twins.{scope_of};
-ghost use Rattle.lk_check_walk.specs.Walks.{IsIn, IsSound};
+ghost use Rattle.lk_checker.specs.States.{IsIn, IsSound};
 ghost use Rattle.lk_check_unit.specs.Declaring.{PutsTypes};
 
 use lk_base::{Name, NoMemory};
 use lk_check_decl::{Scope, composite_if_equal, linkage_of};
-use lk_check_walk::Checker;
+use lk_checker::Checker;
 use lk_names::Names;
 use lk_tree::Storage;
 use lk_typed::{Declared, ExprType, Linkage, Meaning, is_function};

@@ -1,6 +1,6 @@
 //! External declarations (C99 6.9).
 ghost use Rattle.std.specs.Prelude.{OnOk};
-ghost use Rattle.lk_check_walk.specs.Walks.{IsSound};
+ghost use Rattle.lk_checker.specs.States.{IsSound};
 ghost use Rattle.lk_check_unit.specs.Bodies.{Grows};
 ghost use Rattle.lk_check_unit.specs.Sources.{WalksExternal, WalksExternals};
 
@@ -9,7 +9,7 @@ use crate::definitions::definition;
 use crate::pending::Pending;
 use lk_base::{NoMemory, Seq};
 use lk_check_decl::Scope;
-use lk_check_walk::Checker;
+use lk_checker::Checker;
 use lk_tree::Decl;
 
 /// An external declaration.

@@ -2,14 +2,14 @@
 ghost use Rattle.std.specs.Prelude.{◌≡◌, ◌&&◌, ◌++◌, List, [], OnOk, IfOk, if◌then◌else◌};
 ghost use Rattle.lk_typed.specs.Faults.{Breach};
 ghost use Rattle.lk_check_decl.specs.Breaches.{told};
-ghost use Rattle.lk_check_walk.specs.Walks.{IsSound};
+ghost use Rattle.lk_checker.specs.States.{IsSound};
 ghost use Rattle.lk_check_unit.specs.Bodies.{AsksFirst, Grows, WalksHead};
 
 use crate::asking::{condition_if_any, dropped_if_any, nothing};
 use crate::body::Asked;
 use crate::declarations::declaration_in_block;
 use lk_base::{Code, NoMemory};
-use lk_check_walk::Checker;
+use lk_checker::Checker;
 use lk_tree::{Expr, ForFirst};
 use lk_typed::lesser;
 

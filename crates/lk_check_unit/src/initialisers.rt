@@ -1,7 +1,7 @@
 //! Initialisers (C99 6.7.8).
 ghost use Rattle.std.specs.Prelude.{◌≡◌, None, IfOk, OnOk, is_none, suc, if◌then◌else◌};
 ghost use Rattle.lk_types.specs.Table.{IsKnown};
-ghost use Rattle.lk_check_walk.specs.Walks.{IsSound};
+ghost use Rattle.lk_checker.specs.States.{IsSound};
 ghost use Rattle.lk_check_unit.specs.Bodies.{Grows};
 ghost use Rattle.lk_check_unit.specs.Initialising.{IsKnownTarget, IsNoWord, IsWord, WalksEntries, WalksEntry};
 ghost use Rattle.lk_check_unit.specs.Initialising.{WalksExpr, WalksInit, WalksList};
@@ -12,7 +12,8 @@ use crate::seen::{braces_code, found_code, part_of, target_type, word_code};
 use crate::written::{braces_of, text_of, word_type};
 use lk_base::{Code, NoMemory};
 use lk_check_decl::Target;
-use lk_check_walk::Checker;
+use lk_check_walk::judge;
+use lk_checker::Checker;
 use lk_found::{At, InitialiserKind};
 use lk_tree::{Entry, Expr, Init, InitList};
 use lk_types::TypeId;
@@ -65,7 +66,7 @@ fn value(checker: &mut Checker, target: &Option<Target>, e: &Expr) -> Result<boo
     let text = text_of(e)?;
     let target_ty = target_type(target);
     let ty = listed(&target_ty);
-    let found = checker.judge(e, stands_for(&ty))?;
+    let found = judge(checker, e, stands_for(&ty))?;
     let code = found_code(&checker.types, target, text, &found);
     checker.keep(at_expression(e), code)?;
     Ok(both(found.typing.is_some(), is_fit(&code)))

@@ -1,11 +1,11 @@
 //! Codes of statements.
 ghost use Rattle.std.specs.Prelude.{OnOk, option_map};
 ghost use Rattle.lk_tree.specs.declared.statement.StmtForm.{out-StmtForm};
-ghost use Rattle.lk_check_walk.specs.Walks.{Tells};
+ghost use Rattle.lk_checker.specs.States.{Tells};
 ghost use Rattle.lk_check_unit.specs.Bodies.{at_stmt, name_told};
 
 use lk_base::{Code, NoMemory};
-use lk_check_walk::Checker;
+use lk_checker::Checker;
 use lk_found::At;
 use lk_tree::{Stmt, StmtForm};
 

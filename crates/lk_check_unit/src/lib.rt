@@ -25,6 +25,6 @@ mod statements;
 mod written;
 
 pub use definitions::items_of;
-pub use lk_check_walk::Checked;
+pub use lk_checker::Checked;
 pub use source::{check, check_faults};
 pub use written::braces_of;

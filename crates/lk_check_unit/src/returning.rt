@@ -6,7 +6,7 @@ ghost use Rattle.lk_typed.specs.StatementRules as spec;
 ghost use Rattle.lk_typed.specs.Typing.{Typing};
 ghost use Rattle.lk_typed.specs.Typings.{IsOperand, IsTyping};
 ghost use Rattle.lk_check_decl.specs.Breaches.{told};
-ghost use Rattle.lk_check_walk.specs.Walks.{IsSound};
+ghost use Rattle.lk_checker.specs.States.{IsSound};
 ghost use Rattle.lk_check_unit.specs.Bodies.{Grows, IsKnownResult, WalksReturn};
 ghost use Rattle.lk_check_unit.specs.Converting.{conversion_rules, given_rules, IsReturnCode};
 
@@ -14,7 +14,8 @@ use crate::body::Body;
 use crate::converting::{listed, stands_for};
 use lk_base::{Code, NoMemory};
 use lk_check_decl::{return_code, return_value_code};
-use lk_check_walk::Checker;
+use lk_check_walk::judge;
+use lk_checker::Checker;
 use lk_tree::Expr;
 use lk_typed::{ExprType, Typed, convert_code, value};
 use lk_types::{TypeId, TypeTable};
@@ -73,7 +74,7 @@ fn return_value(
     ensures walks { IfOk result (WalksReturn (Some e.now) checker.old checker.new returned) }
 {
     let ty = listed(&returned);
-    let found = checker.judge(e, stands_for(&ty))?;
+    let found = judge(checker, e, stands_for(&ty))?;
     Ok(code_if_typed(&checker.types, returned, &found.typing))
 }
 

@@ -1,7 +1,7 @@
 //! Scopes (C99 6.2.1).
 ghost use Rattle.lk_check_unit.specs.Scoping.{Enters, Leaves};
 
-use lk_check_walk::Checker;
+use lk_checker::Checker;
 use lk_names::Mark;
 
 /// Begins a scope.

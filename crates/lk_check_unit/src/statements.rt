@@ -3,7 +3,7 @@ ghost use Rattle.std.specs.Prelude.{ℕ, Some, OnOk, IfOk};
 ghost use Rattle.lk_tree.specs.declared.statement.BlockItem.TheOpen.{StmtForm-F};
 ghost use Rattle.lk_tree.specs.declared.statement.BlockItem.{out-BlockItem};
 ghost use Rattle.lk_tree.specs.declared.statement.StmtForm.{out-StmtForm};
-ghost use Rattle.lk_check_walk.specs.Walks.{IsSound};
+ghost use Rattle.lk_checker.specs.States.{IsSound};
 ghost use Rattle.lk_check_unit.specs.Bodies.{IsKnownResult, Stays, WalksForm, WalksItem, WalksItems};
 ghost use Rattle.lk_check_unit.specs.Bodies.{WalksScoped, WalksStatement, WalksTurning};
 
@@ -17,7 +17,7 @@ use crate::returning::returning;
 use crate::scopes::{enter, leave};
 use lk_base::{Boxed, Code, Name, NoMemory};
 use lk_check_decl::{break_code, continue_code};
-use lk_check_walk::Checker;
+use lk_checker::Checker;
 use lk_labels::{goto_code, label_code};
 use lk_tree::{BlockItem, Expr, ForFirst, Stmt, StmtForm};
 

@@ -1,5 +1,5 @@
 -- The arguments of a call, one after the other.
-use Rattle.std.proofs.Common.{◌≡◌, ◌∙◌, ◌++◌, ◌+◌, ℕ, Bool, List, [], ◌∷◌, All, length, refl, sym, ap, subst}
+use Rattle.std.proofs.Common.{◌≡◌, ◌∙◌, ◌++◌, ℕ, Bool, List, [], ◌∷◌, All, length, refl, sym, ap, subst}
 use Rattle.std.specs.Prelude.{slice_get}
 use Rattle.std.proofs.lemmas.List.{map-append}
 use Rattle.std.proofs.lemmas.List.Elements.{All-nil}
@@ -7,7 +7,6 @@ use Rattle.lk_types.specs.Table.{Table}
 use Rattle.lk_tree.specs.declared.expression.Expr.{Expr}
 use Rattle.lk_typed.specs.Env.{Env, both, extend, nothing}
 use Rattle.lk_typed.specs.Expressions.{expression}
-use Rattle.lk_typed.specs.Forms as forms
 use Rattle.lk_typed.specs.Forms.{found_at, placed_arguments}
 use Rattle.lk_typed.specs.Library.{Passing}
 use Rattle.lk_typed.specs.Nodes.{AnExpression, at}
@@ -22,11 +21,15 @@ use Rattle.lk_found.specs.declared.found.Found.{Found}
 use Rattle.lk_found.specs.declared.found.Stands.{Stands}
 use Rattle.lk_found.proofs.Lasting.{found_elsewhere, found_longer}
 use Rattle.lk_found.proofs.Argued.{added_last, given_longer, given_elsewhere, nothing_given, placed_last, in_place_of, given_is, nodes_last}
+use Rattle.lk_typed.specs.Forms as forms
+use Rattle.lk_checker.specs.Moves.{IsFurther}
+use Rattle.lk_checker.specs.States.{IsIn, IsSound}
+use Rattle.lk_checker.specs.declared.checker.Checker.{Checker}
+use Rattle.lk_checker.proofs.GoingOn.{same_further, then_further}
 use Rattle.lk_check_walk.specs.Arguments.{AreArgumentsJudged, JudgesArguments}
-use Rattle.lk_check_walk.specs.Walking.{IsFurther, Judges}
-use Rattle.lk_check_walk.specs.Walks.{IsIn, IsSound, Walks}
-use Rattle.lk_check_walk.specs.declared.checker.Checker.{Checker}
-use Rattle.lk_check_walk.proofs.Further.{no_further, operand_further, then_further}
+use Rattle.lk_check_walk.specs.Walking.{Judges}
+use Rattle.lk_check_walk.specs.Walks.{Walks}
+use Rattle.lk_check_walk.proofs.Further.{operand_further}
 use Rattle.lk_check_walk.proofs.Walking.{in_any_role, no_walk, then_walks, walks_in}
 
 -- ---- the walk
@@ -109,7 +112,7 @@ pub record AreArgued (old now : Checker) (f : Found) (in_size : Bool) (es : List
 pub none_argued : (checker : Checker) (f : Found) (in_size : Bool) (given : Given) → IsSound checker → HasOperand checker.types f → IsNothing given → AreArgued checker checker f in_size [] given
 none_argued checker f in_size given sound operand none = record {
   judged = λ at_end env x is_in size found. no_arguments at_end checker env x given (no_walk at_end checker env sound is_in) (nothing_given checker.types env given none);
-  further = no_further checker sound;
+  further = same_further checker sound;
   operand = operand;
   operands = subst (λ list. All (λ (a : Argument). IsOperand checker.types a.typing) list) (sym none.arguments) (All-nil (λ (a : Argument). IsOperand checker.types a.typing));
 }

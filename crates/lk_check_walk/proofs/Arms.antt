@@ -1,8 +1,6 @@
 -- The walk of an expression, by how many parts its form has.
 use Rattle.std.proofs.Common.{◌≡◌, ◌∙◌, ℕ, Bool, true, false, List, [], ◌∷◌, Option, Some, None, refl, sym, ap, subst}
-use Rattle.std.specs.Prelude.{◌||◌, IfSome, if◌then◌else◌, option_map}
-use Rattle.std.specs.List.{list_any}
-use Rattle.std.proofs.lemmas.Slice.Eq.{bytes_eq-Decides}
+use Rattle.std.specs.Prelude.{IfSome, if◌then◌else◌, option_map}
 use Rattle.lk_types.specs.Building.{IsLonger, IsTable}
 use Rattle.lk_types.specs.Table.{Table, IsKnown}
 use Rattle.lk_types.proofs.GrowLemmas.{longer_then}
@@ -14,7 +12,7 @@ use Rattle.lk_tree.specs.declared.operators.AssignOperator.{AssignOperator}
 use Rattle.lk_tree.specs.declared.operators.BinaryOperator.{BinaryOperator}
 use Rattle.lk_typed.proofs.Meanings.{meaning_stays}
 use Rattle.lk_typed.specs.Assignments.{operator_of}
-use Rattle.lk_typed.specs.Env.{Additions, Env, Name, Role, AsFunction, AsOperand, as_function, as_operand, both, converted_to, extend, is_name, is_one_of, nothing}
+use Rattle.lk_typed.specs.Env.{Additions, Env, Role, AsFunction, AsOperand, as_function, as_operand, both, converted_to, extend, nothing}
 use Rattle.lk_typed.specs.ExprRules.{additions_of}
 use Rattle.lk_typed.specs.Expressions.{expression}
 use Rattle.lk_typed.specs.Forms.{as_cast, as_right}
@@ -23,7 +21,6 @@ use Rattle.lk_typed.specs.Names.{IsKnownRole, role_in}
 use Rattle.lk_typed.specs.Nodes.{AnExpression, ATypeName, Placed, at}
 use Rattle.lk_typed.specs.Ty.{Ty, is_function}
 use Rattle.lk_typed.specs.Typing.{Judged, Named, Typing}
-use Rattle.lk_names.specs.InScope.{env_in}
 use Rattle.lk_rules.specs.Laws.{name_found}
 use Rattle.lk_found.specs.Arguments.{IsGiven, added_by, arguments_placed, found_of, function_in, nodes_of}
 use Rattle.lk_found.specs.Judging.{HasKnownType, HasOperand}
@@ -35,10 +32,13 @@ use Rattle.lk_found.specs.declared.found.TypeFound.{TypeFound}
 use Rattle.lk_found.proofs.Argued.{given_elsewhere}
 use Rattle.lk_found.proofs.Lasting.{found_elsewhere, found_longer, found_operand}
 use Rattle.lk_found.proofs.Forms.{Layer, form_in, in_role}
+use Rattle.lk_checker.specs.Moves.{IsFurther}
+use Rattle.lk_checker.specs.States.{operand_in, IsIn, IsSound, Settles, StandsIn}
+use Rattle.lk_checker.specs.declared.checker.Checker.{Checker}
+use Rattle.lk_checker.proofs.Somewhere.{somewhere}
 use Rattle.lk_check_walk.specs.Arguments.{JudgesArguments}
-use Rattle.lk_check_walk.specs.Walking.{AreJudged, IsFormJudged, IsFurther, Judges, JudgesForm, JudgesSides, JudgesTwo, NamesType, behind_operand, operand_in}
-use Rattle.lk_check_walk.specs.Walks.{IsIn, IsSound, Settles, StandsIn, Walks}
-use Rattle.lk_check_walk.specs.declared.checker.Checker.{Checker}
+use Rattle.lk_check_walk.specs.Walking.{AreJudged, IsFormJudged, Judges, JudgesForm, JudgesSides, JudgesTwo, NamesType, behind_operand}
+use Rattle.lk_check_walk.specs.Walks.{Walks}
 use Rattle.lk_check_walk.proofs.Further.{role_further}
 use Rattle.lk_check_walk.proofs.Walking.{in_any_role, judged_as, no_walk, parts_of_layer, then_walks, walks_in}
 
@@ -259,52 +259,6 @@ arm_call at_end old middle last new stands e function arguments env f given foun
     (role_further old.types last.types stands.role sound.ready.table_is (longer_then old.types middle.types last.types walks.longer k.walks.longer) known ∙ is.role)
     (found_longer middle.types last.types env f x walks.sound.ready.table_is k.walks.longer (found_elsewhere middle.types inside env f x refl j.found))
     (given_elsewhere last.types next env given ys refl k.given))
-
--- ---- some environment in which a state is
-
-same_name_turned : (a b : Name) → is_name a b ≡ is_name b a
-same_name_turned a b = by_test a b (is_name a b) (is_name b a) refl refl
-  where
-    by_test : (a b : Name) (p q : Bool) → is_name a b ≡ p → is_name b a ≡ q → p ≡ q
-    by_test a b true true e d = refl
-    by_test a b false false e d = refl
-    by_test a b true false e d = sym ((bytes_eq-Decides b a).1 (sym ((bytes_eq-Decides a b).0 e))) ∙ d
-    by_test a b false true e d = sym e ∙ (bytes_eq-Decides a b).1 (sym ((bytes_eq-Decides b a).0 d))
-
-one_of_keys : (keys : List Name) (name : Name) → is_one_of keys name ≡ list_any (is_name name) keys
-one_of_keys [] name = refl
-one_of_keys (key ∷ keys) name =
-    ap (λ b. if b then true else is_one_of keys name) (same_name_turned key name) ∙ either_way (is_name name key) (is_one_of keys name) ∙ ap (λ b. is_name name key || b) (one_of_keys keys name)
-  where
-    either_way : (a b : Bool) → (if a then true else b) ≡ (a || b)
-    either_way true b = refl
-    either_way false b = refl
-
-abbrev some_env : Checker → Stands → Env
-some_env checker stands =
-    env_in checker.types
-    (record {
-      outside = record { defined = checker.outside.defined.keys; externs = checker.outside.externs.keys };
-      declared = [];
-      base = 0;
-      tags = [];
-      tag_base = 0;
-      structs = [];
-      result = None;
-      role = role_in checker.types stands.role;
-      in_size = stands.in_size;
-    })
-    checker.names
-
-pub somewhere : (checker : Checker) (stands : Stands) → (env : Env) × StandsIn checker stands env
-somewhere checker stands = (
-  some_env checker stands,
-  record {
-    is_in = record { scope = refl; defined = one_of_keys checker.outside.defined.keys; externs = one_of_keys checker.outside.externs.keys };
-    role = refl;
-    in_size = refl;
-  },
-)
 
 -- ---- what holds in whatever environment it stands
 

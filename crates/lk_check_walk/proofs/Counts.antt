@@ -1,55 +1,50 @@
 -- Enumerators that are walked one after another.
-use Rattle.std.proofs.Common.{◌≡◌, ◌∙◌, ◌++◌, inl, inr, Bool, false, List, [], ◌∷◌, Option, Some, None, map, refl, sym, ap, subst}
-use Rattle.std.specs.Prelude.{◌||◌, if◌then◌else◌, is_some, option_map, slice_get, ℤ, pos, ◌+ℤ◌}
+use Rattle.std.proofs.Common.{◌≡◌, ◌∙◌, ◌++◌, Bool, false, List, [], ◌∷◌, Option, Some, None, map, refl, sym, ap, subst}
+use Rattle.std.specs.Prelude.{◌||◌, if◌then◌else◌, is_some, option_map, ℤ}
 use Rattle.lk_types.specs.Table.{Table}
 use Rattle.lk_tree.specs.declared.expression.Expr.{Expr}
 use Rattle.lk_tree.specs.declared.expression.Item.{Item, out-Item}
-use Rattle.lk_typed.specs.Env.{Additions, AsOperand, Env, Name, as_operand, extend}
+use Rattle.lk_typed.specs.Env.{Additions, AsOperand, Env, as_operand, extend}
 use Rattle.lk_typed.specs.Expressions.{expr_adds, expr_constant, expression, item_found}
 use Rattle.lk_typed.specs.Faults.{Breach}
-use Rattle.lk_typed.specs.HolderRules.{counted_rules, fits_int, item_rules, written_rules}
+use Rattle.lk_typed.specs.HolderRules.{item_rules}
 use Rattle.lk_typed.specs.Layers.{item_told}
 use Rattle.lk_typed.specs.NodeParts.{parts}
 use Rattle.lk_typed.specs.NodeRules.{breaches, item_meaning, mark, plain_name}
-use Rattle.lk_typed.specs.Nodes as nodes
-use Rattle.lk_typed.specs.Nodes.{AnExpression, AnItem, Placed, at}
+use Rattle.lk_typed.specs.Nodes.{AnExpression, AnItem, at}
 use Rattle.lk_typed.specs.Parts.{added_by, items_parts, perhaps}
 use Rattle.lk_typed.specs.Redeclared.{name_rules}
 use Rattle.lk_typed.specs.Stands.{Mark}
 use Rattle.lk_typed.specs.Telling.{item_value, size_added, size_holds}
-use Rattle.lk_typed.specs.Told.{ItemTold, declares, enumerator, in_int, items_hold_sizeof, items_in_turn, with_optional}
-use Rattle.lk_typed.specs.Typing.{Judged, Typing, constant_in, known_value}
-use Rattle.lk_typed.specs.declared.constant.Constant.{Constant}
+use Rattle.lk_typed.specs.Told.{ItemTold, declares, enumerator, items_hold_sizeof, items_in_turn}
+use Rattle.lk_typed.specs.Typing.{Judged, Typing, constant_in}
 use Rattle.lk_rules.proofs.Parts.{items_are_asked}
 use Rattle.lk_rules.proofs.Kept.{codes_are_kept_behind_parts}
 use Rattle.lk_rules.proofs.Layered.{items_follow_their_parts}
 use Rattle.lk_rules.specs.Keeping.{KeepsCodes}
 use Rattle.lk_rules.specs.NodeLaws.{has_type_if_there}
-use Rattle.lk_names.specs.InScope.{InScope}
-use Rattle.lk_types.specs.Building.{IsLonger}
 use Rattle.lk_types.proofs.GrowLemmas.{longer_then}
 use Rattle.lk_typed.specs.Names.{role_in}
 use Rattle.lk_typed.specs.declared.role.Role.TheVariants.{Operand}
 use Rattle.lk_found.proofs.Gathering.{or_false}
-use Rattle.lk_found.proofs.Keepings.{unnamed_none}
 use Rattle.lk_found.proofs.Environments.{extend_both}
-use Rattle.lk_found.specs.Keepings.{AreUnnamed}
 use Rattle.lk_found.specs.Findings.{IsFoundTyping, mark_at}
 use Rattle.lk_found.specs.declared.found.At.{At}
 use Rattle.lk_found.specs.declared.found.Found.{Found}
 use Rattle.lk_found.specs.declared.found.Stands.{Stands}
-use Rattle.lk_check_walk.proofs.Arms.{somewhere}
-use Rattle.lk_check_walk.proofs.Gathers.{or_assoc, stands_behind}
+use Rattle.lk_typed.specs.Nodes as nodes
+use Rattle.lk_checker.proofs.Somewhere.{somewhere}
+use Rattle.lk_checker.specs.Counting.{IsSettled}
+use Rattle.lk_checker.specs.States.{operand_in, IsIn, IsSound, StandsIn, kept_in}
+use Rattle.lk_checker.specs.declared.checker.Checker.{Checker}
+use Rattle.lk_checker.specs.declared.enumerators.ItemFound.{ItemFound}
+use Rattle.lk_checker.proofs.GoingOn.{stands_behind}
+use Rattle.lk_check_walk.proofs.Gathers.{or_assoc}
 use Rattle.lk_check_walk.proofs.Walking.{no_walk, then_walks}
-use Rattle.lk_check_walk.specs.Counting.{AreItems, Counts, CountsAll, IsItem, IsSettled}
-use Rattle.lk_check_walk.specs.Moves.{GoesOn, Grows}
-use Rattle.lk_check_walk.specs.Specifying.{IsSame}
-use Rattle.lk_check_walk.proofs.KeepsAll.{in_same}
+use Rattle.lk_check_walk.specs.Counting.{AreItems, Counts, CountsAll, IsItem}
 use Rattle.lk_check_walk.proofs.Truth.{truth_of_node, truth_still}
-use Rattle.lk_check_walk.specs.Walking.{IsJudged, operand_in}
-use Rattle.lk_check_walk.specs.Walks.{IsIn, IsSound, StandsIn, Walks, kept_in}
-use Rattle.lk_check_walk.specs.declared.checker.Checker.{Checker}
-use Rattle.lk_check_walk.specs.declared.enumerators.ItemFound.{ItemFound}
+use Rattle.lk_check_walk.specs.Walking.{IsJudged}
+use Rattle.lk_check_walk.specs.Walks.{Walks}
 
 -- ---- one behind others
 
@@ -165,21 +160,6 @@ module _ (at_end : Env) (old middle new : Checker) (env : Env) (before : Option 
       (subst (λ b. IsSettled middle new behind at (out-Item i).name found.value (if b then item_rules env before value ++ name_rules behind (plain_name (out-Item i).name (item_meaning found.value)) else [])) has
       (subst (λ cs. IsSettled middle new behind at (out-Item i).name found.value (if typed then cs ++ name_rules behind (plain_name (out-Item i).name (item_meaning found.value)) else [])) coded settled))
 
--- ---- codes of values tell no name
-
-unnamed_fits : (z : Option ℤ) → AreUnnamed (fits_int z)
-unnamed_fits None b (inl is) = rw is refl
-unnamed_fits None b (inr among) = absurd among
-unnamed_fits (Some z) b among = absurd among
-
-pub unnamed_written : (c : Option Constant) → AreUnnamed (written_rules c)
-unnamed_written None = unnamed_none
-unnamed_written (Some c) = unnamed_fits (with_optional None in_int (known_value c))
-
-pub unnamed_counted : (z : Option ℤ) → AreUnnamed (counted_rules z)
-unnamed_counted None = unnamed_none
-unnamed_counted (Some z) = unnamed_fits (in_int (z +ℤ pos 1))
-
 -- ---- a value that is written
 
 pub as_it_is : (env : Env) → AsOperand ≡ env.role → as_operand env ≡ env
@@ -208,21 +188,6 @@ module _ (at_end : Env) (old middle : Checker) (in_size : Bool) (env : Env) (e :
 
   pub operand_typed : is_some found.typing ≡ is_some (expression e env).typing
   operand_typed = found_typed middle.types found (expression e env).typing judged.found.typing
-
--- ---- an enumerator that is declared behind its codes
-
-pub item_settled : (old middle new : Checker) (env : Env) (at : At) (name : Name) (value : Option ℤ) (broken : List Breach) → IsSame old middle →
-    KeepsCodes (kept_in old) (mark_at at) broken (kept_in middle) → Grows middle new → new.names.structs ≡ middle.names.structs →
-    GoesOn middle new (λ env. declares name at.ordinal (enumerator value)) → IsIn old env → IsSettled old new env at name value broken
-item_settled old middle new env at name value broken same keeps grows structs goes is = record {
-  keeps = subst (KeepsCodes (kept_in old) (mark_at at) broken) (sym grows.kept) keeps;
-  longer = subst (λ table. IsLonger table new.types) same.types grows.longer;
-  sound = grows.sound;
-  outside = grows.outside ∙ same.outside;
-  begun = λ s begun. ap (λ ss. slice_get ss s) structs ∙ ap (λ (names : InScope). slice_get names.structs s) same.names ∙ begun;
-  records = grows.records ∙ same.records;
-  behind = goes env (in_same old middle env same is);
-}
 
 -- ---- in whatever environment
 

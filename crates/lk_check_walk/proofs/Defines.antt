@@ -1,10 +1,10 @@
 -- The arms of the walk over a specifier.
-use Rattle.std.proofs.Common.{◌≡◌, ◌∙◌, ◌++◌, ℕ, Bool, List, [], ◌∷◌, Option, Some, None, map, refl, sym, ap, subst}
+use Rattle.std.proofs.Common.{◌≡◌, ◌∙◌, ◌++◌, ℕ, Bool, List, [], ◌∷◌, Option, Some, None, map, sym, ap, subst}
 use Rattle.std.specs.Prelude.{if◌then◌else◌, slice_get}
 use Rattle.std.proofs.lemmas.List.{append-nil}
 use Rattle.lk_types.specs.Building.{IsLonger}
 use Rattle.lk_types.specs.Table.{Table}
-use Rattle.lk_types.proofs.GrowLemmas.{longer_same, longer_then}
+use Rattle.lk_types.proofs.GrowLemmas.{longer_then}
 use Rattle.lk_tree.specs.declared.expression.Item.{Item}
 use Rattle.lk_tree.specs.declared.expression.Member.{Member}
 use Rattle.lk_tree.specs.declared.expression.Specifier.{Specifier, out-Specifier}
@@ -35,20 +35,21 @@ use Rattle.lk_found.specs.Truth.{IsBegunBy, NoTag}
 use Rattle.lk_found.specs.declared.fields.MembersFound.{MembersFound}
 use Rattle.lk_found.specs.declared.gathered.Gathered.{Gathered}
 use Rattle.lk_found.proofs.Defines.{typed_put}
-use Rattle.lk_check_walk.proofs.Gathers.{both_assoc, stands_behind}
-use Rattle.lk_check_walk.proofs.KeepsAll.{sound_same}
-use Rattle.lk_check_walk.proofs.NamedTypes.{gathered_stays}
+use Rattle.lk_checker.proofs.KeepsAll.{sound_same}
+use Rattle.lk_checker.proofs.NamedTypes.{gathered_stays}
+use Rattle.lk_checker.specs.Moves.{GoesOn, Grows, RecordsTag, IsSame, IsFurther}
+use Rattle.lk_checker.specs.Naming.{IsSpecifierPut, BeginsStruct}
+use Rattle.lk_checker.specs.States.{operand_in, IsIn, IsSound, StandsIn, kept_in, recorded_in}
+use Rattle.lk_checker.specs.declared.checker.Checker.{Checker}
+use Rattle.lk_checker.specs.declared.defining.BegunStruct.{BegunStruct}
+use Rattle.lk_checker.proofs.GoingOn.{stands_behind}
+use Rattle.lk_check_walk.proofs.Gathers.{both_assoc}
 use Rattle.lk_check_walk.proofs.Walking.{no_walk, walks_as, walks_then}
 use Rattle.lk_check_walk.proofs.Truth.{begun_told, told_still, truth_same}
 use Rattle.lk_check_walk.specs.Counting.{CountsAll}
 use Rattle.lk_check_walk.specs.MembersOf.{FindsAll}
-use Rattle.lk_check_walk.specs.Moves.{GoesOn, Grows, GrowsAlone, RecordsTag}
-use Rattle.lk_check_walk.specs.Naming.{IsSpecifierPut}
-use Rattle.lk_check_walk.specs.Specifying.{AreGathered, BeginsStruct, IsSame}
-use Rattle.lk_check_walk.specs.Walking.{IsFurther, operand_in}
-use Rattle.lk_check_walk.specs.Walks.{IsIn, IsSound, StandsIn, TellsOwn, Walks, WalksOwn, kept_in, recorded_in}
-use Rattle.lk_check_walk.specs.declared.checker.Checker.{Checker}
-use Rattle.lk_check_walk.specs.declared.defining.BegunStruct.{BegunStruct}
+use Rattle.lk_check_walk.specs.Specifying.{AreGathered}
+use Rattle.lk_check_walk.specs.Walks.{TellsOwn, Walks, WalksOwn}
 
 -- ---- walks that keep no code
 
@@ -75,9 +76,6 @@ walks_grow Own at_end old middle new env a b ps walks grows begun inside = recor
   keeps = subst (KeepsNodes at_end (kept_in old) ps) (sym grows.kept) walks.keeps;
   records = told_still Own at_end old middle new ps walks.sound.ready.table_is grows.longer grows.records walks.records;
 }
-
-pub grows_further : (old new : Checker) → GrowsAlone old new → KeepsBegun old.names.structs new.names.structs → IsFurther old new
-grows_further old new grows begun = record { longer = grows.longer; sound = grows.sound; outside = grows.outside; begun = begun }
 
 -- ---- an arm
 
@@ -204,15 +202,6 @@ module _ (at_end : Env) (old middle new : Checker) (in_size : Bool) (env : Env) 
       (optional_tag_rules env DefinesEnum tag) sound all.walks.sound all.walks.longer use_of.gathered
       (subst (λ b. PutsType middle.types new.types between after (enum_type b) (items_hold_sizeof (map item_found is) env before_first)) use_of.may
       (subst (PutsType middle.types new.types between after (enum_type admitted)) all.holds_sizeof type)) whole
-
-pub grows_then : (a b c : Checker) → Grows a b → Grows b c → Grows a c
-grows_then a b c f g = record { longer = longer_then a.types b.types c.types f.longer g.longer; sound = g.sound; outside = g.outside ∙ f.outside; kept = g.kept ∙ f.kept; records = g.records ∙ f.records }
-
-pub further_refl : (checker : Checker) → IsSound checker → IsFurther checker checker
-further_refl checker sound = record { longer = longer_same checker.types; sound = sound; outside = refl; begun = λ s begun. begun }
-
-pub further_then : (a b c : Checker) → IsFurther a b → IsFurther b c → IsFurther a c
-further_then a b c f g = record { longer = longer_then a.types b.types c.types f.longer g.longer; sound = g.sound; outside = g.outside ∙ f.outside; begun = λ s begun. g.begun s (f.begun s begun) }
 
 pub same_further : (a b c : Checker) → IsFurther a b → IsSame b c → IsFurther a c
 same_further a b c f g = record {

@@ -49,19 +49,23 @@ use Rattle.lk_found.specs.declared.fields.MembersFound.{MembersFound}
 use Rattle.lk_found.specs.declared.found.At.{At}
 use Rattle.lk_found.specs.declared.found.Found.{Found}
 use Rattle.lk_found.specs.declared.gathered.Specified.{Specified}
+use Rattle.lk_checker.proofs.KeepsAll.{in_same, sound_same}
+use Rattle.lk_checker.proofs.NamedTypes.{type_stays}
+use Rattle.lk_checker.specs.MembersOf.{PutsMember}
+use Rattle.lk_checker.specs.Moves.{IsSame, KeepsAt, IsFurther}
+use Rattle.lk_checker.specs.States.{operand_in, IsIn, IsSound, StandsIn, kept_in}
+use Rattle.lk_checker.specs.declared.checker.Checker.{Checker}
+use Rattle.lk_checker.proofs.GoingOn.{stands_behind}
 use Rattle.lk_check_walk.proofs.Counts.{operand_holds, operand_typed, operand_walks}
-use Rattle.lk_check_walk.proofs.Gathers.{both_assoc, both_nothing, or_assoc, stands_behind}
+use Rattle.lk_check_walk.proofs.Gathers.{both_assoc, both_nothing, or_assoc}
 use Rattle.lk_check_walk.proofs.Inside.{use_kept}
-use Rattle.lk_check_walk.proofs.KeepsAll.{in_same, sound_same}
-use Rattle.lk_check_walk.proofs.NamedTypes.{type_stays}
 use Rattle.lk_check_walk.proofs.Walking.{no_walk, then_walks, walks_then}
 use Rattle.lk_check_walk.proofs.Truth.{truth_still, told_of_node, told_still}
 use Rattle.lk_check_walk.specs.Declarators.{IsDeclared}
-use Rattle.lk_check_walk.specs.MembersOf.{AreAll, AreDeclared, AreFound, DeclaresField, DeclaresMember, DeclaresMembers, DeclaresWidth, FindsAll, FindsMember, PutsMember}
-use Rattle.lk_check_walk.specs.Specifying.{AreSpecified, IsSame, KeepsAt}
-use Rattle.lk_check_walk.specs.Walking.{IsFurther, IsJudged, operand_in}
-use Rattle.lk_check_walk.specs.Walks.{IsIn, IsSound, StandsIn, Walks, kept_in}
-use Rattle.lk_check_walk.specs.declared.checker.Checker.{Checker}
+use Rattle.lk_check_walk.specs.MembersOf.{AreAll, AreDeclared, AreFound, DeclaresField, DeclaresMember, DeclaresMembers, DeclaresWidth, FindsAll, FindsMember}
+use Rattle.lk_check_walk.specs.Specifying.{AreSpecified}
+use Rattle.lk_check_walk.specs.Walking.{IsJudged}
+use Rattle.lk_check_walk.specs.Walks.{Walks}
 
 -- ---- what members tell together
 

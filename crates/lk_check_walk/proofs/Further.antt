@@ -1,33 +1,18 @@
--- A state behind another, and what stays true of what was found before.
-use Rattle.std.proofs.Common.{◌≡◌, ◌∙◌, ℕ, Option, Some, None, refl, ap}
+-- What was found before stays true while the table grows.
+use Rattle.std.proofs.Common.{◌≡◌, ℕ, Option, Some, None, refl, ap}
 use Rattle.std.specs.Prelude.{IfSome}
 use Rattle.lk_types.specs.Building.{IsLonger, IsTable}
 use Rattle.lk_types.specs.Table.{Table, IsKnown}
-use Rattle.lk_types.proofs.GrowLemmas.{longer_same, longer_then}
 use Rattle.lk_typed.specs.Env.{ConvertedTo}
 use Rattle.lk_typed.specs.Names.{IsKnownRole, role_in}
 use Rattle.lk_typed.specs.Typings.{IsOperand}
 use Rattle.lk_typed.specs.declared.role.Role.{Role}
-use Rattle.lk_typed.specs.declared.role.Role.TheVariants as role
 use Rattle.lk_typed.specs.declared.typed.Typed.{Typed}
 use Rattle.lk_found.specs.Judging.{HasKnownType, HasOperand}
 use Rattle.lk_found.specs.declared.found.Found.{Found}
 use Rattle.lk_found.specs.declared.found.TypeFound.{TypeFound}
 use Rattle.lk_found.proofs.Lasting.{expr_type_longer, known_longer, operand_longer, type_known_longer}
-use Rattle.lk_check_walk.specs.Walking.{IsFurther}
-use Rattle.lk_check_walk.specs.Walks.{IsSound}
-use Rattle.lk_check_walk.specs.declared.checker.Checker.{Checker}
-
-pub no_further : (checker : Checker) → IsSound checker → IsFurther checker checker
-no_further checker sound = record { longer = longer_same checker.types; sound = sound; outside = refl; begun = λ s begun. begun }
-
-pub then_further : (a b c : Checker) → IsFurther a b → IsFurther b c → IsFurther a c
-then_further a b c f g = record {
-  longer = longer_then a.types b.types c.types f.longer g.longer;
-  sound = g.sound;
-  outside = g.outside ∙ f.outside;
-  begun = λ s begun. g.begun s (f.begun s begun);
-}
+use Rattle.lk_typed.specs.declared.role.Role.TheVariants as role
 
 pub operand_further : (old new : Table) (found : Found) → IsLonger old new → HasOperand old found → HasOperand new found
 operand_further old new found longer h = some_longer found.typing h

@@ -25,21 +25,19 @@ use Rattle.lk_found.specs.Truth.{IsBegunAmong, IsBegunBy, NoTag}
 use Rattle.lk_found.specs.declared.gathered.Gathered.{Gathered}
 use Rattle.lk_found.specs.declared.gathered.Specified.{Specified}
 use Rattle.lk_found.proofs.Gathering.{or_false}
-use Rattle.lk_check_walk.proofs.Arms.{somewhere}
+use Rattle.lk_checker.proofs.Somewhere.{somewhere}
+use Rattle.lk_checker.specs.Moves.{IsFurther}
+use Rattle.lk_checker.specs.States.{operand_in, IsIn, IsSound, StandsIn}
+use Rattle.lk_checker.specs.declared.checker.Checker.{Checker}
+use Rattle.lk_checker.proofs.GoingOn.{stands_behind}
 use Rattle.lk_check_walk.proofs.Walking.{no_walk, walks_as, walks_then}
 use Rattle.lk_check_walk.specs.Specifying.{AreGathered, AreSpecified, Gathers, Specifies}
-use Rattle.lk_check_walk.specs.Walking.{IsFurther, operand_in}
-use Rattle.lk_check_walk.specs.Walks.{IsIn, IsSound, StandsIn, WalksOwn}
-use Rattle.lk_check_walk.specs.declared.checker.Checker.{Checker}
+use Rattle.lk_check_walk.specs.Walks.{WalksOwn}
 
 -- ---- any walk
 
 pub further_walks : (Own : ℕ → StructTag → Type 0) (at_end : Env) (old new : Checker) (env : Env) (a : Additions) (ps : List Placed) → WalksOwn Own at_end old new env a ps ps → IsFurther old new
 further_walks Own at_end old new env a ps w = record { longer = w.longer; sound = w.sound; outside = w.outside; begun = w.begun }
-
-pub stands_behind : (old new : Checker) (in_size : Bool) (env : Env) (a : Additions) → StandsIn old (operand_in in_size) env → IsIn new (extend env a) →
-    StandsIn new (operand_in in_size) (extend env a)
-stands_behind old new in_size env a is inside = record { is_in = inside; role = is.role; in_size = is.in_size }
 
 pub extend_single : (env : Env) (a : Additions) → extend env (both a nothing) ≡ extend env a
 extend_single env a = sym (extend_both env a nothing) ∙ extend_nothing (extend env a)

@@ -12,9 +12,9 @@ use Rattle.lk_found.specs.Declarators.{KeepsUse, codes_of_use, left_of}
 use Rattle.lk_found.specs.declared.declarators.Asked.{Asked}
 use Rattle.lk_found.specs.declared.declarators.DeclaratorFound.{DeclaratorFound}
 use Rattle.lk_found.proofs.Inside.{each_all, all_nodes}
+use Rattle.lk_checker.specs.States.{kept_in}
+use Rattle.lk_checker.specs.declared.checker.Checker.{Checker}
 use Rattle.lk_check_walk.specs.Declarators.{IsDeclared}
-use Rattle.lk_check_walk.specs.Walks.{kept_in}
-use Rattle.lk_check_walk.specs.declared.checker.Checker.{Checker}
 
 -- a declarator behind which the codes of the use of its name are kept at once is walked
 pub use_kept : {at_end env : Env} {old new : Checker} {left : Option ℕ} {d : Declarator} {asked : Asked} {found : DeclaratorFound} → IsDeclared at_end old new env left d asked found → (becomes : NameUse) (last : Kept) →

@@ -1,5 +1,5 @@
 -- Parameters are found one after another (C99 6.7.5.3).
-use Rattle.std.proofs.Common.{◌≡◌, ◌∙◌, ◌++◌, ◌+◌, ◌||◌, ◌&&◌, ℕ, Bool, false, List, [], ◌∷◌, Option, Some, None, All, IfSome, sym, ap, subst}
+use Rattle.std.proofs.Common.{◌≡◌, ◌∙◌, ◌++◌, ◌||◌, ◌&&◌, ℕ, Bool, false, List, [], ◌∷◌, Option, Some, None, All, IfSome, sym, ap, subst}
 use Rattle.std.specs.Prelude.{if◌then◌else◌, option_map}
 use Rattle.lk_tree.specs.declared.expression.Parameter.{Parameter}
 use Rattle.lk_types.specs.Building.{IsPassed}
@@ -16,20 +16,20 @@ use Rattle.lk_rules.specs.Keeping.{KeepsNodes}
 use Rattle.lk_found.proofs.Shaping.{form_same, passed_stays}
 use Rattle.lk_found.specs.Parameters.{has_void, types_listed, with_last}
 use Rattle.lk_found.specs.Shapes.{params_in}
-use Rattle.lk_found.specs.declared.layers.Layer.TheVariants as layer
 use Rattle.lk_found.specs.declared.parameters.Listed.{Listed}
 use Rattle.lk_found.specs.declared.parameters.ParameterFound.{ParameterFound}
 use Rattle.lk_found.specs.declared.parameters.ParametersFound.{ParametersFound}
 use Rattle.lk_found.proofs.Listing.{is_last, nodes_last, tellers_last, params_of, params_last, all_told, no_params}
-use Rattle.lk_check_walk.proofs.GoingOn.{grows_further, stands_behind, then_further}
+use Rattle.lk_found.specs.declared.layers.Layer.TheVariants as layer
+use Rattle.lk_checker.proofs.GoingOn.{grows_further, stands_behind, then_further}
+use Rattle.lk_checker.specs.Moves.{Grows, IsFurther}
+use Rattle.lk_checker.specs.Scopes.{IsEntered, IsLeft}
+use Rattle.lk_checker.specs.States.{IsIn, IsSound, kept_in}
+use Rattle.lk_checker.specs.declared.checker.Checker.{Checker}
 use Rattle.lk_check_walk.proofs.Walking.{no_walk, then_walks}
 use Rattle.lk_check_walk.proofs.Truth.{truth_behind, truth_still}
-use Rattle.lk_check_walk.specs.Moves.{Grows}
 use Rattle.lk_check_walk.specs.Parameters.{FindsParameter, FindsParameters, ListsParameters}
-use Rattle.lk_check_walk.specs.Scopes.{IsEntered, IsLeft}
-use Rattle.lk_check_walk.specs.Walking.{IsFurther}
-use Rattle.lk_check_walk.specs.Walks.{IsIn, IsSound, Walks, kept_in}
-use Rattle.lk_check_walk.specs.declared.checker.Checker.{Checker}
+use Rattle.lk_check_walk.specs.Walks.{Walks}
 
 module _ (old new : Checker) (sound : IsSound old) (further : IsFurther old new) where
   params_stay : (ts : Option (List ℕ)) → IfSome ts (All (IsPassed old.types)) → params_in new.types ts ≡ params_in old.types ts

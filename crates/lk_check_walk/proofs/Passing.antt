@@ -35,15 +35,17 @@ use Rattle.lk_found.specs.declared.declarators.Asked.{Asked}
 use Rattle.lk_found.specs.declared.declarators.DeclaratorFound.{DeclaratorFound}
 use Rattle.lk_found.specs.declared.gathered.Specified.{Specified}
 use Rattle.lk_found.specs.declared.parameters.ParameterFound.{ParameterFound}
-use Rattle.lk_check_walk.proofs.GoingOn.{stands_behind, same_further}
+use Rattle.lk_checker.proofs.GoingOn.{stands_behind, same_further}
+use Rattle.lk_checker.specs.Parameters.{IsParameterSettled, SettlesParameter}
+use Rattle.lk_checker.specs.Moves.{IsFurther}
+use Rattle.lk_checker.specs.States.{operand_in, IsIn, StandsIn, kept_in}
+use Rattle.lk_checker.specs.declared.checker.Checker.{Checker}
 use Rattle.lk_check_walk.proofs.Inside.{use_kept}
 use Rattle.lk_check_walk.proofs.Truth.{truth_same, told_of_node, told_still, told_then}
 use Rattle.lk_check_walk.specs.Declarators.{FindsDeclarator, IsDeclared}
-use Rattle.lk_check_walk.specs.Parameters.{FindsParameter, IsParameterFound, IsParameterSettled, SettlesParameter}
+use Rattle.lk_check_walk.specs.Parameters.{FindsParameter, IsParameterFound}
 use Rattle.lk_check_walk.specs.Specifying.{AreSpecified, Specifies}
-use Rattle.lk_check_walk.specs.Walking.{IsFurther, operand_in}
-use Rattle.lk_check_walk.specs.Walks.{IsIn, StandsIn, kept_in, TellsTruth, TellsOwn}
-use Rattle.lk_check_walk.specs.declared.checker.Checker.{Checker}
+use Rattle.lk_check_walk.specs.Walks.{TellsTruth, TellsOwn}
 
 -- codes of one more node
 each_more : (old middle new : Kept) (cs : List Codes) (m : Mark) (bs : List Breach) → KeepsEach old cs middle → KeepsCodes middle m bs new → KeepsEach old (cs ++ codes_at m bs ∷ []) new

@@ -8,7 +8,6 @@ use Rattle.lk_types.specs.Building.{IsLonger, IsTable}
 use Rattle.lk_types.specs.Table.{Table, IsKnown}
 use Rattle.lk_typed.specs.Env.{Additions, Declared, Env}
 use Rattle.lk_typed.specs.Expressions.{expression}
-use Rattle.lk_typed.specs.Faults.{Breach}
 use Rattle.lk_typed.specs.Meaning.{meaning}
 use Rattle.lk_typed.specs.NodeParts.{parts}
 use Rattle.lk_typed.specs.Nodes.{AnExpression, ATypeName, Placed, at}
@@ -18,7 +17,6 @@ use Rattle.lk_found.specs.Recorded.{Recorded, use_of, with_expression, with_name
 use Rattle.lk_found.specs.Truth.{AddsTags, AddsTruth, NoTag}
 use Rattle.lk_found.specs.Uses.{AddsUses, AreNamesIn, IsMeant, IsOfWord, taken_in, word_in}
 use Rattle.lk_found.specs.Findings.{IsFound, IsOfExpression, IsOfInitialiser, IsOfName, IsOfTypeName}
-use Rattle.lk_found.specs.declared.found.At.{At}
 use Rattle.lk_found.specs.declared.found.Found.{Found}
 use Rattle.lk_found.specs.declared.found.Stands.{Stands}
 use Rattle.lk_found.specs.declared.found.TypeFound.{TypeFound}
@@ -27,9 +25,11 @@ use Rattle.lk_found.specs.declared.records.NamesIn.{NamesIn}
 use Rattle.lk_found.proofs.Entries.{adds_among, adds_put, among_node}
 use Rattle.lk_found.proofs.Tags.{tags_among}
 use Rattle.lk_found.proofs.Uses.{uses_silent, uses_spoken}
-use Rattle.lk_check_walk.specs.Walking.{IsFurther, Judges, JudgesForm, NamesType}
-use Rattle.lk_check_walk.specs.Walks.{IsIn, IsSound, Tells, TellsTruth, Walks, WalksAndTells, recorded_in}
-use Rattle.lk_check_walk.specs.declared.checker.Checker.{Checker}
+use Rattle.lk_checker.specs.Moves.{IsFurther}
+use Rattle.lk_checker.specs.States.{IsIn, IsSound}
+use Rattle.lk_checker.specs.declared.checker.Checker.{Checker}
+use Rattle.lk_check_walk.specs.Walking.{Judges, JudgesForm, NamesType}
+use Rattle.lk_check_walk.specs.Walks.{TellsTruth, Walks, WalksAndTells}
 use Rattle.lk_check_walk.proofs.Truth.{meant_longer}
 
 abbrev pub with_records : Checker → Recorded → Checker
@@ -222,9 +222,3 @@ named_recorded old new r in_size n found same known names at_end env is =
           (subst (λ r. TellsTruth at_end old (with_records new r) (at env (ATypeName n) ∷ [])) (sym same) (type_told at_end old new env n found.ty known j.found.type j.walks.records));
       found = j.found;
     }
-
--- ---- codes that are kept behind it
-
-pub tells_recorded : (old new : Checker) (r : Recorded) (place : At) (broken : Option Breach) → recorded_in (with_records old r) ≡ recorded_in old → Tells (with_records old r) new place broken →
-    Tells old new place broken
-tells_recorded old new r place broken same tells = record { kept = tells.kept; types = tells.types; names = tells.names; outside = tells.outside; records = tells.records ∙ same }

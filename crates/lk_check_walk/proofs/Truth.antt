@@ -27,9 +27,10 @@ use Rattle.lk_found.proofs.Entries.{AreNodesOf, adds_among, adds_same, adds_stil
 use Rattle.lk_found.proofs.Lasting.{found_longer, known_longer}
 use Rattle.lk_found.proofs.Tags.{tags_among, tags_as, tags_inside, tags_last, tags_same, tags_then}
 use Rattle.lk_found.proofs.Uses.{uses_behind, uses_of, uses_same, uses_still, uses_then}
-use Rattle.lk_check_walk.specs.Moves.{RecordsTag}
-use Rattle.lk_check_walk.specs.Walks.{TellsOwn, TellsTruth, recorded_in}
-use Rattle.lk_check_walk.specs.declared.checker.Checker.{Checker}
+use Rattle.lk_checker.specs.Moves.{RecordsTag}
+use Rattle.lk_checker.specs.States.{recorded_in}
+use Rattle.lk_checker.specs.declared.checker.Checker.{Checker}
+use Rattle.lk_check_walk.specs.Walks.{TellsOwn, TellsTruth}
 
 -- ---- while the table grows
 

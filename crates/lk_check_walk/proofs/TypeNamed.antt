@@ -37,14 +37,16 @@ use Rattle.lk_found.specs.declared.declarators.DeclaratorFound.{DeclaratorFound}
 use Rattle.lk_found.specs.declared.found.At.{At}
 use Rattle.lk_found.specs.declared.found.TypeFound.{TypeFound}
 use Rattle.lk_found.specs.declared.gathered.Specified.{Specified}
+use Rattle.lk_checker.proofs.KeepsAll.{in_same, sound_same}
+use Rattle.lk_checker.specs.Moves.{IsSame, KeepsAt, IsFurther}
+use Rattle.lk_checker.specs.States.{IsIn, kept_in}
+use Rattle.lk_checker.specs.declared.checker.Checker.{Checker}
 use Rattle.lk_check_walk.proofs.Inside.{use_kept}
-use Rattle.lk_check_walk.proofs.KeepsAll.{in_same, sound_same}
 use Rattle.lk_check_walk.proofs.Truth.{truth_same, told_of_node, told_still, told_then}
 use Rattle.lk_check_walk.specs.Declarators.{IsDeclared}
-use Rattle.lk_check_walk.specs.Specifying.{AreSpecified, IsSame, KeepsAt}
-use Rattle.lk_check_walk.specs.Walking.{IsFurther, IsTypeNamed}
-use Rattle.lk_check_walk.specs.Walks.{IsIn, Walks, kept_in, TellsTruth, TellsOwn}
-use Rattle.lk_check_walk.specs.declared.checker.Checker.{Checker}
+use Rattle.lk_check_walk.specs.Specifying.{AreSpecified}
+use Rattle.lk_check_walk.specs.Walking.{IsTypeNamed}
+use Rattle.lk_check_walk.specs.Walks.{Walks, TellsTruth, TellsOwn}
 
 -- a name that nothing becomes has no codes
 pub unnamed_kept : (kept : Kept) (left : Left) (d : Declarator) (t : Option Ty) → left.use_of_name ≡ Unnamed → KeepsEach kept (use_codes left d t) kept

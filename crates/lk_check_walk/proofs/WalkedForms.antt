@@ -20,7 +20,6 @@ use Rattle.lk_typed.specs.Nodes.{AnExpression, Placed, at as at_env}
 use Rattle.lk_typed.specs.Parts.{added_by, inner_adds, tellers}
 use Rattle.lk_typed.specs.Telling.{in_declarator, size_added, size_holds}
 use Rattle.lk_typed.specs.Typing.{Typing, constant_in}
-use Rattle.lk_typed.specs.declared.role.Role as declared
 use Rattle.lk_typed.specs.declared.role.Role.TheVariants.{Operand}
 use Rattle.lk_typed.specs.declared.typed.Typed.{Typed}
 use Rattle.lk_names.proofs.Environments.{left_scope_stays}
@@ -36,23 +35,27 @@ use Rattle.lk_found.specs.FormsOf.{HasForms, formed, sized, with_parameters, sta
 use Rattle.lk_found.specs.Shaped.{FormAt, form_at, forms_in, IsKnownAt}
 use Rattle.lk_found.specs.Shapes.{APointer, AnArray, AFunction, Form, form_in, params_in}
 use Rattle.lk_found.specs.Walked.{HasFunction, HasInner, HasLayer, none, some, inside, inside_inner, layer_of, parameter_parts, size_part}
-use Rattle.lk_found.specs.Findings.{IsFoundTyping, mark_at}
+use Rattle.lk_found.specs.Findings.{IsFoundTyping}
 use Rattle.lk_found.specs.declared.walked.SizeFound.{SizeFound}
 use Rattle.lk_found.specs.declared.found.At.{At}
 use Rattle.lk_found.specs.declared.found.Found.{Found}
 use Rattle.lk_found.specs.declared.found.Stands.{Stands}
 use Rattle.lk_found.specs.declared.layers.Layer.{Layer}
-use Rattle.lk_found.specs.declared.layers.Layer.TheVariants as layer
 use Rattle.lk_found.specs.declared.parameters.ParametersFound.{ParametersFound}
 use Rattle.lk_found.specs.declared.shapes.LayerAt.{LayerAt}
 use Rattle.lk_found.specs.declared.walked.Walked.{Walked}
-use Rattle.lk_check_walk.proofs.GoingOn.{stands_behind}
+use Rattle.lk_typed.specs.declared.role.Role as declared
+use Rattle.lk_found.specs.declared.layers.Layer.TheVariants as layer
+use Rattle.lk_checker.proofs.GoingOn.{stands_behind}
+use Rattle.lk_checker.specs.Shaped.{IsKnownWalked}
+use Rattle.lk_checker.specs.States.{operand_in, IsIn, IsSound, StandsIn}
+use Rattle.lk_checker.specs.declared.checker.Checker.{Checker}
+use Rattle.lk_checker.proofs.Whole.{place_is}
 use Rattle.lk_check_walk.proofs.Walking.{no_walk, then_walks}
 use Rattle.lk_check_walk.specs.Parameters.{AreKnownParameters, AreParametersFound, FindsParameters}
-use Rattle.lk_check_walk.specs.Walked.{FindsSize, HasWalked, HasWalkedInner, IsKnownWalked, IsSizeFound, IsWalked, WalksForms, WalksInner}
-use Rattle.lk_check_walk.specs.Walking.{Judges, operand_in}
-use Rattle.lk_check_walk.specs.Walks.{IsIn, IsSound, StandsIn, Walks}
-use Rattle.lk_check_walk.specs.declared.checker.Checker.{Checker}
+use Rattle.lk_check_walk.specs.Walked.{FindsSize, HasWalked, HasWalkedInner, IsSizeFound, IsWalked, WalksForms, WalksInner}
+use Rattle.lk_check_walk.specs.Walking.{Judges}
+use Rattle.lk_check_walk.specs.Walks.{Walks}
 
 -- ---- lists of forms
 
@@ -232,11 +235,6 @@ module _ {at_end : Env} {old middle new : Checker} {env : Env} (d : Declarator) 
         });
       }
 
--- ---- the same of the calls
-
-pub place_is : (at : At) (d : Declarator) → at.spot ≡ d.spot → at.ordinal ≡ d.ordinal → mark_at at ≡ mark d.spot d.ordinal
-place_is at d spot ordinal = rw spot (rw ordinal refl)
-
 abbrev at_place : At → Layer → LayerAt
 at_place at l = record { at = at; layer = l }
 
@@ -302,9 +300,6 @@ size_found old new stands e judged found is judges size holds at_end env here =
       size = size ∙ constant_found new.types judged (expression e env).typing h.found.typing ∙ ap (λ e'. Some (constant_in (expression e e').typing)) same;
       holds_sizeof = holds ∙ sym h.found.look.holds_sizeof ∙ ap (λ e'. (expression e e').look.holds_sizeof) same;
     }
-
-pub no_size : (old : Checker) (in_size : Bool) (found : SizeFound) → IsSound old → size_in_code found.size ≡ None → found.holds_sizeof ≡ false → FindsSize old old in_size None found
-no_size old in_size found sound size holds at_end env stands = record { walks = no_walk at_end old env sound stands.is_in; size = size; holds_sizeof = holds }
 
 -- ---- what is known of a function's
 

@@ -1,13 +1,10 @@
 -- Walks one after another, and the walk of an expression behind those of its parts.
 use Rattle.std.proofs.Common.{◌≡◌, ◌∙◌, ◌++◌, Bool, List, [], ◌∷◌, ℕ, map, refl, sym, ap, subst}
 use Rattle.std.specs.Prelude.{slice_get}
-use Rattle.lk_types.specs.Building.{IsLonger}
-use Rattle.lk_types.specs.Table.{Table}
 use Rattle.lk_types.proofs.GrowLemmas.{longer_same, longer_then}
 use Rattle.lk_tree.specs.declared.expression.Expr.{Expr}
 use Rattle.lk_tree.specs.declared.expression.ExprForm.{out-ExprForm}
 use Rattle.lk_typed.specs.Env.{Additions, Env, Role, both, extend, nothing}
-use Rattle.lk_typed.specs.ExprRules as rules
 use Rattle.lk_typed.specs.ExprRules.{additions_of, codes_at, judged, rule}
 use Rattle.lk_typed.specs.Expressions.{at_pair, breach_at, expression, written}
 use Rattle.lk_typed.specs.NodeParts.{parts}
@@ -26,10 +23,12 @@ use Rattle.lk_found.specs.Findings.{IsFound, JudgedForm, judged_of}
 use Rattle.lk_found.specs.declared.found.Found.{Found}
 use Rattle.lk_found.proofs.Environments.{extend_nothing, extend_both}
 use Rattle.lk_found.proofs.Forms.{Layer, form_in}
+use Rattle.lk_typed.specs.ExprRules as rules
+use Rattle.lk_checker.specs.States.{IsIn, IsSound, Settles, kept_in}
+use Rattle.lk_checker.specs.declared.checker.Checker.{Checker}
+use Rattle.lk_checker.proofs.Growing.{in_longer}
 use Rattle.lk_check_walk.specs.Walking.{IsFormJudged}
-use Rattle.lk_check_walk.specs.Walks.{IsIn, IsSound, Settles, TellsTruth, Walks, WalksAndTells, WalksOwn, kept_in}
-use Rattle.lk_check_walk.specs.declared.checker.Checker.{Checker}
-use Rattle.lk_check_walk.proofs.Growing.{in_longer}
+use Rattle.lk_check_walk.specs.Walks.{TellsTruth, Walks, WalksAndTells, WalksOwn}
 use Rattle.lk_check_walk.proofs.Truth.{told_as, told_then, truth_same, truth_still}
 
 -- what a node stands as doesn't matter to the state
@@ -124,9 +123,3 @@ judged_as at_end old middle new e env found layer is walks settles =
       walks = subst (λ (x : Judged). WalksAndTells at_end old new env x.adds (at env (AnExpression e) ∷ []) (parts at_end env (AnExpression e))) (sym same) all;
       found = subst (IsFound new.types env found) (sym same) settles.found;
     }
-
--- a table that grew before an expression was settled grew while it was
-pub text_settles : (old : Checker) (types : Table) (new : Checker) (e : Expr) (env behind : Env) (form : JudgedForm) (found : Found) → IsLonger old.types types →
-    Settles (record old { types = types }) new e env behind form found → Settles old new e env behind form found
-text_settles old types new e env behind form found longer s =
-    record { keeps = s.keeps; types = longer_then old.types types new.types longer s.types; sound = s.sound; names = s.names; outside = s.outside; records = s.records; found = s.found }

@@ -7,8 +7,9 @@ use Rattle.lk_found.specs.Findings.{IsFound}
 use Rattle.lk_found.specs.declared.arguments.Given.{Given}
 use Rattle.lk_found.specs.declared.found.Found.{Found}
 use Rattle.lk_found.specs.Arguments.{IsGiven, arguments_placed, found_of, added_by, nodes_of}
-use Rattle.lk_check_walk.specs.Walks.{IsIn, Walks}
-use Rattle.lk_check_walk.specs.declared.checker.Checker.{Checker}
+use Rattle.lk_checker.specs.States.{IsIn}
+use Rattle.lk_checker.specs.declared.checker.Checker.{Checker}
+use Rattle.lk_check_walk.specs.Walks.{Walks}
 
 pub record AreArgumentsJudged (at_end : Env) (old new : Checker) (env : Env) (f : Judged) (es : List Expr) (result : Given) : Type 0 where
   pub walks : Walks at_end old new env (added_by (found_of (arguments_placed env f es))) (nodes_of (arguments_placed env f es))

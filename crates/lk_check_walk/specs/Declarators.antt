@@ -1,22 +1,20 @@
 -- What the walk over a declarator finds and leaves behind (C99 6.7.5). The codes that the use of the declared name gives are left to what declares it.
-use Rattle.std.specs.Prelude.{ℕ, ◌≡◌, ◌++◌, Option, List, [], ◌∷◌, length, IfSome}
+use Rattle.std.specs.Prelude.{ℕ, ◌≡◌, ◌++◌, Option, List, [], ◌∷◌}
 use Rattle.std.specs.Option.{option_map}
 use Rattle.lk_tree.specs.declared.expression.Declarator.{Declarator}
-use Rattle.lk_types.specs.Table.{IsKnown}
 use Rattle.lk_typed.specs.Env.{Env, extend}
 use Rattle.lk_typed.specs.Expressions.{declarator_found}
 use Rattle.lk_typed.specs.Layers.{type_made}
 use Rattle.lk_typed.specs.Meaning.{meaning}
 use Rattle.lk_typed.specs.Nodes.{ADeclarator, Left, NameUse, Placed, at}
-use Rattle.lk_names.specs.Growing.{IsKnownLeft}
 use Rattle.lk_rules.specs.Keeping.{Kept}
 use Rattle.lk_found.specs.Keepings.{Codes, KeepsAll}
 use Rattle.lk_found.specs.declared.declarators.Asked.{Asked}
 use Rattle.lk_found.specs.declared.declarators.DeclaratorFound.{DeclaratorFound}
 use Rattle.lk_found.specs.Declarators.{codes_of_use, left_of, parameters_told, scope_told}
-use Rattle.lk_check_walk.specs.Walking.{operand_in}
-use Rattle.lk_check_walk.specs.Walks.{IsIn, StandsIn, TellsTruth, kept_in}
-use Rattle.lk_check_walk.specs.declared.checker.Checker.{Checker}
+use Rattle.lk_checker.specs.States.{operand_in, IsIn, StandsIn, kept_in}
+use Rattle.lk_checker.specs.declared.checker.Checker.{Checker}
+use Rattle.lk_check_walk.specs.Walks.{TellsTruth}
 
 -- a declarator is found, and walked but for the use of its name
 pub record IsDeclared (at_end : Env) (old new : Checker) (env : Env) (left : Option ℕ) (d : Declarator) (asked : Asked) (found : DeclaratorFound) : Type 0 where
@@ -32,8 +30,3 @@ pub record IsDeclared (at_end : Env) (old new : Checker) (env : Env) (left : Opt
 
 abbrev pub FindsDeclarator : Checker → Checker → Option ℕ → Declarator → Asked → DeclaratorFound → Type 0
 FindsDeclarator old new left d asked found = (at_end env : Env) → StandsIn old (operand_in asked.in_size) env → IsDeclared at_end old new env left d asked found
-
--- its types are in the table, and the structs of its tags are known
-pub record IsKnownFound (new : Checker) (found : DeclaratorFound) : Type 0 where
-  pub type : IfSome found.ty (IsKnown new.types)
-  pub parameters : IfSome found.parameters (IsKnownLeft new.types (length new.names.structs))

@@ -1,13 +1,8 @@
-pub mod Declarators
-pub mod Parameters
 pub mod Arguments
 pub mod Counting
-pub mod Judging
+pub mod Declarators
 pub mod MembersOf
-pub mod Moves
-pub mod Naming
-pub mod Scopes
-pub mod Shaped
+pub mod Parameters
 pub mod Specifying
 pub mod Walked
 pub mod Walking

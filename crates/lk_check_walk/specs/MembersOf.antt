@@ -1,28 +1,25 @@
 -- What the walk over the members of a struct leaves behind and finds (C99 6.7.2.1).
-use Rattle.std.specs.Prelude.{ℕ, ◌≡◌, Bool, false, Option, Some, List, [], ◌∷◌, map}
+use Rattle.std.specs.Prelude.{ℕ, ◌≡◌, Bool, false, Option, List, [], ◌∷◌, map}
 use Rattle.std.specs.Option.{option_map}
 use Rattle.lk_tree.specs.declared.expression.Declarator.{Declarator}
 use Rattle.lk_tree.specs.declared.expression.Expr.{Expr}
 use Rattle.lk_tree.specs.declared.expression.Member.{Member}
 use Rattle.lk_tree.specs.declared.expression.MemberDeclarator.{MemberDeclarator, out-MemberDeclarator}
 use Rattle.lk_typed.specs.DeclarationRules.{InType, type_in}
-use Rattle.lk_typed.specs.Env.{Additions, Env, Field}
-use Rattle.lk_typed.specs.Expressions.{declarator_found, member_declarator_found, member_found}
-use Rattle.lk_typed.specs.Layers.{declarators_in_turn, faulty_member}
+use Rattle.lk_typed.specs.Env.{Env}
+use Rattle.lk_typed.specs.Expressions.{member_declarator_found, member_found}
+use Rattle.lk_typed.specs.Layers.{declarators_in_turn}
 use Rattle.lk_typed.specs.Meaning.{meaning}
 use Rattle.lk_typed.specs.NodeParts.{member_part, members_in_turn as nodes_in_turn, type_part}
 use Rattle.lk_typed.specs.NodeRules.{are_typed}
 use Rattle.lk_typed.specs.Nodes.{AMember, AnExpression, IsMember, Placed, at}
 use Rattle.lk_typed.specs.Parts.{members_parts}
-use Rattle.lk_typed.specs.Told.{MemberTold, Named, SpecifierTold, members_in_turn, then_member}
-use Rattle.lk_typed.specs.Ty.{Ty}
-use Rattle.lk_found.specs.Declarators.{name_codes}
-use Rattle.lk_found.specs.Keepings.{KeepsEach}
+use Rattle.lk_typed.specs.Told.{MemberTold, SpecifierTold, members_in_turn, then_member}
 use Rattle.lk_found.specs.declared.fields.MembersFound.{MembersFound}
-use Rattle.lk_found.specs.MembersOf.{AreMembers, member_of, found_of, width_told, member_codes}
-use Rattle.lk_check_walk.specs.Walking.{operand_in}
-use Rattle.lk_check_walk.specs.Walks.{StandsIn, Walks, kept_in}
-use Rattle.lk_check_walk.specs.declared.checker.Checker.{Checker}
+use Rattle.lk_found.specs.MembersOf.{AreMembers, found_of, width_told}
+use Rattle.lk_checker.specs.States.{operand_in, StandsIn}
+use Rattle.lk_checker.specs.declared.checker.Checker.{Checker}
+use Rattle.lk_check_walk.specs.Walks.{Walks}
 
 -- ---- members, behind others
 
@@ -83,13 +80,3 @@ abbrev pub DeclaresWidth : Checker → Checker → Bool → Expr → MembersFoun
 DeclaresWidth old new in_size e before after typed =
     (at_end env : Env) (others : MemberTold) → StandsIn old (operand_in in_size) env → AreMembers old.types before others →
     AreDeclared at_end old new env others (width_told e env) (at env (AnExpression e) ∷ []) after typed
-
--- the codes of its name are kept, where it has one
-abbrev pub KeepsName : Checker → Checker → Env → List Field → Option Named → Ty → Type 0
-KeepsName old new behind before name t = KeepsEach (kept_in old) (name_codes behind (Some t) (IsMember before) name) (kept_in new)
-
--- the codes of its name and of the struct with it are kept, and its field is put
-pub record PutsMember (old new : Checker) (behind : Env) (bit_field : Bool) (others : MemberTold) (d : Declarator) (t : Option Ty) (holds : Bool) (after : MembersFound) : Type 0 where
-  pub keeps : KeepsEach (kept_in old) (member_codes behind others.fields d t) (kept_in new)
-  pub members : (added : Additions) →
-      AreMembers new.types after (then_member others (member_of behind bit_field others.fields (declarator_found d).name t (faulty_member added holds)))

@@ -1,33 +1,22 @@
 -- What the walk over parameters finds and leaves behind (C99 6.7.5.3).
-use Rattle.std.specs.Prelude.{ℕ, ◌≡◌, ◌++◌, Bool, Option, List, [], ◌∷◌, All, IfSome, length, option_map}
-use Rattle.lk_tree.specs.declared.expression.Declarator.{Declarator}
-use Rattle.lk_tree.specs.declared.expression.Parameter.{Parameter, out-Parameter}
+use Rattle.std.specs.Prelude.{◌≡◌, Bool, List, [], ◌∷◌, All, IfSome, length, option_map}
+use Rattle.lk_tree.specs.declared.expression.Parameter.{Parameter}
 use Rattle.lk_types.specs.Building.{IsPassed}
-use Rattle.lk_typed.specs.Env.{Env, enter, extend, past_scope}
+use Rattle.lk_typed.specs.Env.{Env, enter, past_scope}
 use Rattle.lk_typed.specs.Expressions.{parameter_found}
-use Rattle.lk_typed.specs.Layers.{each_parameter, has_name, parameter_name, parameter_type, parameters_of}
+use Rattle.lk_typed.specs.Layers.{each_parameter, parameters_of}
 use Rattle.lk_typed.specs.Meaning.{meaning}
-use Rattle.lk_typed.specs.NodeRules.{adjusted_rules, mark, parameter_node_rules}
-use Rattle.lk_typed.specs.Nodes.{AParameter, IsParameter, at}
+use Rattle.lk_typed.specs.Nodes.{AParameter, at}
 use Rattle.lk_typed.specs.Parts.{is_lone, parameters_in_turn, tellers}
-use Rattle.lk_typed.specs.Stands.{Mark}
-use Rattle.lk_typed.specs.Told.{Named}
-use Rattle.lk_typed.specs.Ty.{Ty}
 use Rattle.lk_names.specs.Growing.{IsKnownLeft, scope_added}
-use Rattle.lk_rules.specs.Keeping.{Kept, KeepsCodes}
-use Rattle.lk_found.specs.Declarators.{name_codes}
-use Rattle.lk_found.specs.Keepings.{KeepsEach}
 use Rattle.lk_found.specs.Shapes.{params_in}
-use Rattle.lk_found.specs.Specified.{breaches_in}
-use Rattle.lk_found.specs.declared.gathered.Breach.{Breach}
 use Rattle.lk_found.specs.declared.parameters.Listed.{Listed}
 use Rattle.lk_found.specs.declared.parameters.ParameterFound.{ParameterFound}
 use Rattle.lk_found.specs.declared.parameters.ParametersFound.{ParametersFound}
-use Rattle.lk_found.specs.Parameters.{types_listed, has_void, name_of}
-use Rattle.lk_check_walk.specs.Moves.{GoesOn, Grows}
-use Rattle.lk_check_walk.specs.Walking.{operand_in}
-use Rattle.lk_check_walk.specs.Walks.{IsIn, StandsIn, Walks, kept_in, recorded_in}
-use Rattle.lk_check_walk.specs.declared.checker.Checker.{Checker}
+use Rattle.lk_found.specs.Parameters.{types_listed, has_void}
+use Rattle.lk_checker.specs.States.{operand_in, StandsIn}
+use Rattle.lk_checker.specs.declared.checker.Checker.{Checker}
+use Rattle.lk_check_walk.specs.Walks.{Walks}
 
 -- ---- a list of parameters, in a scope of its own
 
@@ -64,33 +53,3 @@ pub record IsParameterFound (at_end : Env) (old new : Checker) (env : Env) (lone
 
 abbrev pub FindsParameter : Checker → Checker → Bool → Bool → Parameter → ParameterFound → Type 0
 FindsParameter old new in_size lone p found = (at_end env : Env) → StandsIn old (operand_in in_size) env → IsParameterFound at_end old new env lone p found
-
--- ---- behind its specifiers and its declarator
-
--- the codes at its name are kept
-abbrev pub KeepsName : Checker → Checker → Env → Option Ty → Option Named → Type 0
-KeepsName old new env t name = KeepsEach (kept_in old) (name_codes env t IsParameter name) (kept_in new)
-
--- its type is adjusted, and the codes of that are kept
-pub record IsAdjusted (old new : Checker) (env : Env) (m : Mark) (is_named is_bare_void : Bool) (t : Option Ty) (ty : Option ℕ) : Type 0 where
-  pub type : (name : Option Named) → is_named ≡ has_name name → option_map (meaning new.types) ty ≡ parameter_type env name t
-  pub keeps : KeepsCodes (kept_in old) m (parameter_node_rules is_named is_bare_void t ++ adjusted_rules env t) (kept_in new)
-
--- it is declared, where it has a name
-pub record IsParameterDeclared (old new : Checker) (t : Option Ty) (name : Option Named) : Type 0 where
-  pub grows : Grows old new
-  pub goes_on : GoesOn old new (λ env. parameter_name name t)
-
--- all of it, behind the codes of this declarator, where there is one
-pub record IsParameterSettled (old new : Checker) (env : Env) (m : Mark) (d : Option Declarator) (breaches : List Breach) (is_bare_void : Bool) (t : Option Ty) (ty : Option ℕ) : Type 0 where
-  pub middle : Kept
-  pub name : KeepsEach (kept_in old) (name_codes env t IsParameter (name_of d)) middle
-  pub rules : KeepsCodes middle m (breaches_in breaches ++ (parameter_node_rules (has_name (name_of d)) is_bare_void t ++ adjusted_rules env t)) (kept_in new)
-  pub type : option_map (meaning new.types) ty ≡ parameter_type env (name_of d) t
-  pub records : recorded_in new ≡ recorded_in old
-  pub behind : IsIn new (extend env (parameter_name (name_of d) (parameter_type env (name_of d) t)))
-
--- of the parameter of this declarator
-abbrev pub SettlesParameter : Checker → Checker → Parameter → List Breach → Bool → Option Ty → Option ℕ → Type 0
-SettlesParameter old new p breaches is_bare_void t ty =
-    (env : Env) → IsIn old env → IsParameterSettled old new env (mark (out-Parameter p).spot (out-Parameter p).ordinal) (out-Parameter p).declarator breaches is_bare_void t ty

@@ -1,5 +1,5 @@
--- What the walk over specifiers, enumerators, members and type names leaves behind and finds (C99 6.7.2, 6.7.6).
-use Rattle.std.specs.Prelude.{ℕ, ◌≡◌, ◌++◌, Bool, Option, List, [], map}
+-- What the walk over specifiers leaves behind and finds (C99 6.7.2).
+use Rattle.std.specs.Prelude.{ℕ, ◌++◌, Bool, Option, List, [], map}
 use Rattle.lk_tree.specs.declared.expression.Item.{Item}
 use Rattle.lk_tree.specs.declared.expression.Member.{Member}
 use Rattle.lk_tree.specs.declared.expression.Specifier.{Specifier, out-Specifier}
@@ -10,34 +10,18 @@ use Rattle.lk_typed.specs.Faults.{Breach}
 use Rattle.lk_typed.specs.HolderRules.{all_specifier_rules, one_tag_rules, optional_tag_rules}
 use Rattle.lk_typed.specs.Nodes.{Placed}
 use Rattle.lk_typed.specs.Parts.{items_parts, members_parts, specifier_parts, specifiers_parts}
-use Rattle.lk_typed.specs.Redeclared as spec
 use Rattle.lk_typed.specs.Structs.{struct_begun}
-use Rattle.lk_typed.specs.Told.{SpecifierTold, before_first, enum_defined, struct_begins, struct_defined, struct_meant_by, then_specifier}
+use Rattle.lk_typed.specs.Told.{SpecifierTold, before_first, enum_defined, struct_begins, struct_defined, then_specifier}
 use Rattle.lk_typed.specs.declared.unit.StructTag.{StructTag}
-use Rattle.lk_rules.specs.Keeping.{KeepsCodes}
 use Rattle.lk_found.specs.Begun.{definition_begun}
 use Rattle.lk_found.specs.Specified.{IsGathered, IsSpecified}
 use Rattle.lk_found.specs.Truth.{IsBegunAmong, IsBegunBy, NoTag}
-use Rattle.lk_found.specs.Findings.{mark_at}
-use Rattle.lk_found.specs.declared.found.At.{At}
 use Rattle.lk_found.specs.declared.gathered.Gathered.{Gathered}
 use Rattle.lk_found.specs.declared.gathered.Specified.{Specified}
-use Rattle.lk_found.specs.Specifying.{IsTagUse}
-use Rattle.lk_check_walk.specs.Walking.{operand_in}
-use Rattle.lk_check_walk.specs.Walks.{IsIn, StandsIn, WalksOwn, kept_in, recorded_in}
-use Rattle.lk_check_walk.specs.declared.checker.Checker.{Checker}
-use Rattle.lk_check_walk.specs.declared.defining.BegunStruct.{BegunStruct}
-
--- codes that hold at a node are kept
-abbrev pub KeepsAt : Checker → Checker → At → List Breach → Type 0
-KeepsAt old new at broken = KeepsCodes (kept_in old) (mark_at at) broken (kept_in new)
-
--- all but what is kept is as it was
-pub record IsSame (old new : Checker) : Type 0 where
-  pub types : new.types ≡ old.types
-  pub names : new.names ≡ old.names
-  pub outside : new.outside ≡ old.outside
-  pub records : recorded_in new ≡ recorded_in old
+use Rattle.lk_typed.specs.Redeclared as spec
+use Rattle.lk_checker.specs.States.{operand_in, StandsIn}
+use Rattle.lk_checker.specs.declared.checker.Checker.{Checker}
+use Rattle.lk_check_walk.specs.Walks.{WalksOwn}
 
 -- ---- specifiers
 
@@ -52,12 +36,6 @@ abbrev pub Gathers : Checker → Checker → Bool → Bool → Specifier → Gat
 Gathers old new alone in_size s before after =
     (at_end env : Env) → StandsIn old (operand_in in_size) env →
     AreGathered (IsBegunBy (struct_begun env alone (out-Specifier s)) env) at_end old new env (specifier_found s env alone) (one_tag_rules env alone (out-Specifier s)) (specifier_parts env (out-Specifier s)) before after
-
--- `struct tag {`, with its code
-pub record BeginsStruct (new : Checker) (env : Env) (tag : Option Name) (before after : Gathered) (begun : BegunStruct) : Type 0 where
-  pub number : begun.number ≡ (struct_meant_by env tag).number
-  pub admitted : IsTagUse env spec.DefinesStruct tag before after begun.is_admitted
-  pub behind : IsIn new (extend env (struct_begins env tag))
 
 -- `struct tag { members }`
 abbrev pub GathersStruct : Checker → Checker → Bool → Option Name → List Member → Gathered → Gathered → Type 0

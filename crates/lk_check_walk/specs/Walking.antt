@@ -3,29 +3,20 @@ use Rattle.std.specs.Prelude.{◌≡◌, Bool, [], ◌∷◌}
 use Rattle.lk_tree.specs.declared.expression.Expr.{Expr}
 use Rattle.lk_tree.specs.declared.expression.TypeName.{TypeName}
 use Rattle.lk_tree.specs.declared.operators.AssignOperator.{AssignOperator}
-use Rattle.lk_types.specs.Building.{IsLonger}
 use Rattle.lk_typed.specs.Assignments.{operator_of}
 use Rattle.lk_typed.specs.Env.{Env, as_operand, both, extend, nothing}
 use Rattle.lk_typed.specs.Expressions.{expression}
 use Rattle.lk_typed.specs.Forms.{as_right}
 use Rattle.lk_typed.specs.NodeParts.{parts}
 use Rattle.lk_typed.specs.Nodes.{AnExpression, ATypeName, at}
-use Rattle.lk_typed.specs.declared.role.Role.TheVariants.{Operand}
 use Rattle.lk_rules.specs.Laws.{name_found}
-use Rattle.lk_found.specs.Begun.{KeepsBegun}
 use Rattle.lk_found.specs.Findings.{IsFound, IsFoundType}
 use Rattle.lk_found.specs.declared.found.Found.{Found}
 use Rattle.lk_found.specs.declared.found.Stands.{Stands}
 use Rattle.lk_found.specs.declared.found.TypeFound.{TypeFound}
-use Rattle.lk_check_walk.specs.Walks.{IsIn, IsSound, StandsIn, Walks, WalksAndTells}
-use Rattle.lk_check_walk.specs.declared.checker.Checker.{Checker}
-
--- a state behind another: the table only grew, and a struct whose definition has begun is begun still
-pub record IsFurther (old new : Checker) : Type 0 where
-  pub longer : IsLonger old.types new.types
-  pub sound : IsSound new
-  pub outside : new.outside ≡ old.outside
-  pub begun : KeepsBegun old.names.structs new.names.structs
+use Rattle.lk_checker.specs.States.{IsIn, StandsIn, operand_in}
+use Rattle.lk_checker.specs.declared.checker.Checker.{Checker}
+use Rattle.lk_check_walk.specs.Walks.{Walks, WalksAndTells}
 
 -- ---- expressions
 
@@ -70,10 +61,6 @@ behind_left op left env = as_right (operator_of op) (expression left (as_operand
 abbrev pub JudgesSides : Checker → Checker → AssignOperator → Bool → Expr → Expr → Found → Found → Type 0
 JudgesSides old new op in_size left right a b =
     (at_end env : Env) → IsIn old env → in_size ≡ env.in_size → AreJudged at_end old new env (behind_left op left env) left right a b
-
--- an operand, or a value that nothing converts
-abbrev pub operand_in : Bool → Stands
-operand_in in_size = record { role = Operand; in_size = in_size }
 
 -- ---- type names
 

@@ -1,6 +1,6 @@
 -- The state before the typed tree of a source is made.
 use Rattle.std.specs.Prelude.{◌≡◌, []}
-use Rattle.lk_check_walk.specs.declared.checker.Checked.{Checked}
+use Rattle.lk_checker.specs.declared.checker.Checked.{Checked}
 use Rattle.lk_elab_expr.specs.Gathering.{IsGathered}
 use Rattle.lk_elab_expr.specs.Rising.{IsRising}
 use Rattle.lk_elab_expr.specs.declared.elaborator.Elaborator.{Elaborator}

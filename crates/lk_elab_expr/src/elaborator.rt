@@ -6,7 +6,7 @@ ghost use Rattle.lk_elab_expr.specs.Beginning.{Begins};
 use crate::entities::Entities;
 use crate::locals::Locals;
 use crate::source_types::SourceTypes;
-use lk_check_walk::{Checked, Outside};
+use lk_checker::{Checked, Outside};
 use lk_found::Records;
 use lk_names::Names;
 use lk_typed::{Body, StaticObject};

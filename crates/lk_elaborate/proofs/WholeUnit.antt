@@ -25,7 +25,7 @@ use Rattle.lk_typed.specs.declared.members.Members.{Members}
 use Rattle.lk_typed.specs.declared.members.Members.TheVariants as members
 use Rattle.lk_typed.specs.declared.unit.TypedUnit.{TypedUnit}
 use Rattle.lk_found.specs.Structs.{listed, member_of}
-use Rattle.lk_check_walk.specs.declared.checker.Checked.{Checked}
+use Rattle.lk_checker.specs.declared.checker.Checked.{Checked}
 use Rattle.lk_elab_expr.proofs.Gathered as entities
 use Rattle.lk_elab_expr.proofs.Gathering.{at_contained, contains_at}
 use Rattle.lk_elab_expr.proofs.Numbers.{means_on}

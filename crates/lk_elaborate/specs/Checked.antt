@@ -4,7 +4,7 @@ use Rattle.lk_tree.specs.Numbers.{numbered}
 use Rattle.lk_tree.specs.declared.statement.Unit.{Unit}
 use Rattle.lk_typed.specs.Env.{Name}
 use Rattle.lk_check_unit.specs.Sources.{IsBehind, RecordsOf, TellsFirst}
-use Rattle.lk_check_walk.specs.declared.checker.Checked.{Checked}
+use Rattle.lk_checker.specs.declared.checker.Checked.{Checked}
 
 -- it is true of the source, whose nodes have their numbers, where --externs lists these names
 pub record IsCheckedOf (externs : List Name) (unit : Unit) (checked : Checked) : Type 0 where

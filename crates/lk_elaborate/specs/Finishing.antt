@@ -9,7 +9,7 @@ use Rattle.lk_typed.specs.declared.initialiser.StaticObject.{StaticObject}
 use Rattle.lk_typed.specs.declared.unit.Body.{Body}
 use Rattle.lk_typed.specs.declared.unit.TypedUnit.{TypedUnit}
 use Rattle.lk_found.specs.Recorded.{Recorded}
-use Rattle.lk_check_walk.specs.declared.checker.Checked.{Checked}
+use Rattle.lk_checker.specs.declared.checker.Checked.{Checked}
 use Rattle.lk_elab_expr.specs.Gathering.{AreFinished}
 use Rattle.lk_elab_expr.specs.declared.elaborator.Elaborator.{Elaborator}
 use Rattle.lk_elab_expr.specs.declared.entities.Entities.{Entities}

@@ -8,9 +8,9 @@ use Rattle.lk_typed.specs.Names.{declared_in}
 use Rattle.lk_typed.specs.Units.{around}
 use Rattle.lk_names.specs.InScope.{InScope, env_in, nothing_in_scope}
 use Rattle.lk_found.specs.Structs.{HasMembers, listed}
-use Rattle.lk_check_walk.specs.Walks.{IsIn, IsSound}
-use Rattle.lk_check_walk.specs.declared.checker.Checker.{Checker}
-use Rattle.lk_check_walk.specs.declared.checker.Outside.{Outside}
+use Rattle.lk_checker.specs.States.{IsIn, IsSound}
+use Rattle.lk_checker.specs.declared.checker.Checker.{Checker}
+use Rattle.lk_checker.specs.declared.checker.Outside.{Outside}
 use Rattle.lk_predeclared.specs.Beginning.{IsOutsideOf}
 use Rattle.lk_predeclared.specs.Plain.{Grows}
 use Rattle.lk_predeclared.specs.Scope.{AddsNames, HasScope, all_declared}

@@ -6,7 +6,7 @@ use Rattle.lk_typed.specs.Env.{Name, is_name, is_one_of}
 use Rattle.lk_typed.specs.Units.{defined_in}
 use Rattle.lk_types.specs.Table.{Table}
 use Rattle.lk_names.specs.InScope.{InScope}
-use Rattle.lk_check_walk.specs.declared.checker.Outside.{Outside}
+use Rattle.lk_checker.specs.declared.checker.Outside.{Outside}
 use Rattle.lk_predeclared.specs.Plain.{Grows}
 use Rattle.lk_predeclared.specs.Scope.{AddsNames, all_declared}
 

@@ -6,13 +6,13 @@ ghost use Rattle.lk_typed.specs.Meaning.{IsReady};
 ghost use Rattle.lk_typed.specs.Units.{around};
 ghost use Rattle.lk_rules.specs.Keeping.{none_kept};
 ghost use Rattle.lk_found.specs.Recorded.{nothing_recorded};
-ghost use Rattle.lk_check_walk.specs.Walks.{IsIn, IsSound, kept_in};
+ghost use Rattle.lk_checker.specs.States.{IsIn, IsSound, kept_in};
 ghost use Rattle.lk_predeclared.specs.Beginning.{IsOutsideOf, Predeclares};
 
 use crate::functions::declare_functions;
 use crate::words::declare_words;
 use lk_base::NoMemory;
-use lk_check_walk::{Checker, Outside};
+use lk_checker::{Checker, Outside};
 use lk_names::Names;
 use lk_types::TypeTable;
 use std::alloc::Global;

@@ -4,7 +4,7 @@ use Rattle.std.proofs.lemmas.Result.{on_ok_weaker}
 use Rattle.lk_typed.specs.Declarations.{elements_given}
 use Rattle.lk_typed.specs.InitialiserRules.{given_rules}
 use Rattle.lk_typed.specs.Meaning.{meaning}
-use Rattle.lk_check_walk.specs.Specifying.{KeepsAt}
+use Rattle.lk_checker.specs.Moves.{KeepsAt}
 use Rattle.lk_check_unit.proofs.Naming.{size_kept}
 use Rattle.lk_check_unit.proofs.declared.keep_size.Goals as goal
 

@@ -1,5 +1,5 @@
 use Rattle.std.proofs.Common.{refl}
-use Rattle.lk_check_walk.proofs.States.{grown_sound}
+use Rattle.lk_checker.proofs.States.{grown_sound}
 use Rattle.lk_check_unit.proofs.declared.sized_by.Goals as goal
 
 pub returns-clause-puts : goal.returns-clause-puts

@@ -3,7 +3,7 @@ use Rattle.std.specs.Option.{option_map}
 use Rattle.lk_typed.specs.Declarations.{type_with_old}
 use Rattle.lk_typed.specs.Env.{Env}
 use Rattle.lk_typed.specs.Meaning.{meaning}
-use Rattle.lk_check_walk.proofs.States.{grown_sound}
+use Rattle.lk_checker.proofs.States.{grown_sound}
 use Rattle.lk_check_unit.proofs.entities.type_with_old.Goals as goal
 
 pub returns-in_ok-made-in-Some-clause-puts : goal.returns-in_ok-made-in-Some-clause-puts

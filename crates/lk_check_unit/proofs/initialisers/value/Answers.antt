@@ -15,17 +15,17 @@ judge-requires-clause-role c =
     c.stands_for.ensures.known c.args.checker.now.types (c.listed-ty.ensures.known c.args.checker.now.types (c.target_type-target_ty.ensures.known c.args.checker.now.types c.requires.target))
 
 pub found_code-code-requires-clause-target : goal.found_code-code-requires-clause-target
-found_code-code-requires-clause-target c = target_known c.args.checker.now c.judge.new.self c.requires.sound c.in_ok-found.ensures.further.longer c.args.target.now c.requires.target
+found_code-code-requires-clause-target c = target_known c.args.checker.now c.judge.new.checker c.requires.sound c.in_ok-found.ensures.further.longer c.args.target.now c.requires.target
 
 pub returns-clause-grows : goal.returns-clause-grows
 returns-clause-grows c =
-    grows_then c.args.checker.now c.judge.new.self c.keep.new.self (grows_further c.args.checker.now c.judge.new.self c.in_ok-found.ensures.further)
-    (grows_told c.judge.new.self c.keep.new.self c.at_expression.result _ c.in_ok-found.ensures.further.sound c.in_ok-keep.ensures)
+    grows_then c.args.checker.now c.judge.new.checker c.keep.new.self (grows_further c.args.checker.now c.judge.new.checker c.in_ok-found.ensures.further)
+    (grows_told c.judge.new.checker c.keep.new.self c.at_expression.result _ c.in_ok-found.ensures.further.sound c.in_ok-keep.ensures)
 
 pub returns-clause-walks : goal.returns-clause-walks
 returns-clause-walks c =
     let old = c.args.checker.now in
-    let mid = c.judge.new.self in
+    let mid = c.judge.new.checker in
     let e = c.args.e.now in
     let t = c.target_type-target_ty.result in
     let found = c.in_ok-found.found in

@@ -8,15 +8,15 @@ use Rattle.lk_check_unit.proofs.returning.return_value.Goals as goal
 
 pub code_if_typed-requires-clause-known : goal.code_if_typed-requires-clause-known
 code_if_typed-requires-clause-known c =
-    known_there c.args.checker.now c.judge.new.self c.args.returned c.requires.sound c.in_ok-found.ensures.further.longer c.requires.known
+    known_there c.args.checker.now c.judge.new.checker c.args.returned c.requires.sound c.in_ok-found.ensures.further.longer c.requires.known
 
 pub returns-clause-grows : goal.returns-clause-grows
-returns-clause-grows c = grows_further c.args.checker.now c.judge.new.self c.in_ok-found.ensures.further
+returns-clause-grows c = grows_further c.args.checker.now c.judge.new.checker c.in_ok-found.ensures.further
 
 pub returns-clause-walks : goal.returns-clause-walks
 returns-clause-walks c =
     let old = c.args.checker.now in
-    let new = c.judge.new.self in
+    let new = c.judge.new.checker in
     let e = c.args.e.now in
     let result = c.args.returned in
     let found = c.in_ok-found.found in

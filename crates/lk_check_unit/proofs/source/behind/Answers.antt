@@ -7,10 +7,10 @@ use Rattle.lk_typed.specs.Units.{at_end}
 use Rattle.lk_names.specs.InScope.{IsKnownScope}
 use Rattle.lk_found.specs.Findings.{refusal_of}
 use Rattle.lk_found.specs.Structs.{AreListed}
-use Rattle.lk_check_walk.specs.Walks.{IsIn, kept_in}
-use Rattle.lk_check_walk.specs.declared.checker.Checker.{Checker}
-use Rattle.lk_check_walk.specs.declared.checker.Outside.{Outside}
-use Rattle.lk_check_walk.proofs.LetThrough.{let_through}
+use Rattle.lk_checker.specs.States.{IsIn, kept_in}
+use Rattle.lk_checker.specs.declared.checker.Checker.{Checker}
+use Rattle.lk_checker.specs.declared.checker.Outside.{Outside}
+use Rattle.lk_checker.proofs.LetThrough.{let_through}
 use Rattle.lk_predeclared.specs.Beginning.{IsOutsideOf}
 use Rattle.lk_check_unit.specs.Sources.{RecordsOf, TellsFirst, WalksOver}
 use Rattle.lk_check_unit.proofs.Checking.{behind_all, few_behind, first_told, known_behind, outside_stays, ready_behind, records_told, structs_behind}

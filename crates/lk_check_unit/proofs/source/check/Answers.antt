@@ -5,7 +5,7 @@ use Rattle.lk_typed.specs.Elements.{HasFewElements}
 use Rattle.lk_typed.specs.Meaning.{IsReady}
 use Rattle.lk_typed.specs.Units.{at_end}
 use Rattle.lk_found.specs.Structs.{AreListed}
-use Rattle.lk_check_walk.specs.declared.checker.Outside.{Outside}
+use Rattle.lk_checker.specs.declared.checker.Outside.{Outside}
 use Rattle.lk_predeclared.specs.Beginning.{IsOutsideOf}
 use Rattle.lk_check_unit.specs.Sources.{RecordsOf, TellsFirst}
 use Rattle.lk_check_unit.proofs.source.check.Goals as goal

@@ -4,7 +4,7 @@ use Rattle.std.proofs.lemmas.Result.{IfOk-weaker, on_ok_weaker}
 use Rattle.lk_tree.specs.declared.statement.StmtForm.{out-StmtForm}
 use Rattle.lk_tree.specs.declared.statement.StmtForm.TheVariants as form
 use Rattle.lk_tree.specs.declared.statement.BlockItem.TheOpen.{StmtForm-F}
-use Rattle.lk_check_walk.specs.Walks.{IsSound}
+use Rattle.lk_checker.specs.States.{IsSound}
 use Rattle.lk_check_unit.specs.Bodies.{IsKnownResult, WalksForm, WalksItem, WalksScoped}
 use Rattle.lk_check_unit.proofs.Forming as forming
 use Rattle.lk_check_unit.proofs.Items.{all_left, item_declared, none_left, one_less}

@@ -1,4 +1,4 @@
-use Rattle.lk_check_walk.proofs.LetThrough.{let_through}
+use Rattle.lk_checker.proofs.LetThrough.{let_through}
 use Rattle.lk_elaborate.specs.Externals.{MakesExternals}
 use Rattle.lk_elaborate.specs.Outside.{GoesOutside}
 use Rattle.lk_elaborate.proofs.unit.all_externals.Goals as goal

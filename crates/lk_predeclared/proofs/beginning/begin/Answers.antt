@@ -5,9 +5,9 @@ use Rattle.lk_typed.specs.Env.{Name}
 use Rattle.lk_typed.specs.Units.{around}
 use Rattle.lk_rules.specs.Keeping.{none_kept}
 use Rattle.lk_found.specs.Recorded.{nothing_recorded}
-use Rattle.lk_check_walk.specs.Walks.{IsIn, IsSound, kept_in}
-use Rattle.lk_check_walk.specs.declared.checker.Checker.{Checker}
-use Rattle.lk_check_walk.proofs.LetThrough.{let_through}
+use Rattle.lk_checker.specs.States.{IsIn, IsSound, kept_in}
+use Rattle.lk_checker.specs.declared.checker.Checker.{Checker}
+use Rattle.lk_checker.proofs.LetThrough.{let_through}
 use Rattle.lk_predeclared.specs.Beginning.{IsOutsideOf}
 use Rattle.lk_predeclared.proofs.Begun.{begins_in, begins_sound}
 use Rattle.lk_predeclared.proofs.beginning.begin.Goals as goal

@@ -1,4 +1,0 @@
-use Rattle.lk_check_walk.proofs.checker.Checker.declare_item.Goals as goal
-
-pub declare_plain-requires-clause-meaning : goal.declare_plain-requires-clause-meaning
-declare_plain-requires-clause-meaning c = c.declared-meaning.ensures.known c.args.self.now.types

@@ -1,7 +1,0 @@
-use Rattle.std.proofs.Common.{take}
-use Rattle.lk_found.specs.Specified.{breaches_in}
-use Rattle.lk_check_walk.specs.Specifying.{IsSame, KeepsAt}
-use Rattle.lk_check_walk.proofs.checker.Checker.keep_all.Given as goal
-
-abbrev pub invariant-loop-breach : goal.invariant-loop-breach
-invariant-loop-breach l = IsSame l.fn.self l.self × KeepsAt l.fn.self l.self l.at (breaches_in (take l.breach-index l.breaches))

@@ -1,0 +1,17 @@
+pub mod Completing
+pub mod Counts
+pub mod GoingOn
+pub mod Growing
+pub mod KeepsAll
+pub mod LetThrough
+pub mod MemberCodes
+pub mod NamedTypes
+pub mod PartsOfObjects
+pub mod Settled
+pub mod Settling
+pub mod Shaping
+pub mod Somewhere
+pub mod States
+pub mod Tags
+pub mod Telling
+pub mod Whole

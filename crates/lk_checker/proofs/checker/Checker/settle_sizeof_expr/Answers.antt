@@ -1,0 +1,16 @@
+use Rattle.std.proofs.Common.{subst}
+use Rattle.lk_tree.specs.declared.expression.DeclaratorForm.TheOpen.{ExprForm-F}
+use Rattle.lk_typed.specs.Places.{sizeof_rule}
+use Rattle.lk_typed.specs.Typing.{with_one}
+use Rattle.lk_found.specs.Judging.{IsRuled}
+use Rattle.lk_checker.proofs.Settling.{structs_are}
+use Rattle.lk_checker.proofs.checker.Checker.settle_sizeof_expr.Goals as goal
+
+pub returns : goal.returns
+returns c = λ env behind x is_in plain size operand.
+    let table = c.args.self.now.types in
+    let structs = structs_are c.args.self.now behind c.structs.result.now is_in c.structs.ensures in
+    c.in_ok-found.ensures env behind (ExprForm-F.SizeofExpr x) plain
+    (subst (λ in_size. IsRuled table c.sizeof_expr_ruled-ruled.result (with_one x.typing (λ e. sizeof_rule behind.structs in_size e.type))) size
+    (subst (λ structs. IsRuled table c.sizeof_expr_ruled-ruled.result (with_one x.typing (λ e. sizeof_rule structs c.args.in_size e.type))) structs (c.sizeof_expr_ruled-ruled.ensures x.typing operand.typing)))
+    (c.sizeof-look.ensures env)

@@ -1,0 +1,9 @@
+pub mod Counting
+pub mod Judging
+pub mod MembersOf
+pub mod Moves
+pub mod Naming
+pub mod Parameters
+pub mod Scopes
+pub mod Shaped
+pub mod States
