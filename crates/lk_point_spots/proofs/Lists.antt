@@ -1,10 +1,11 @@
 -- A property of each element of a list, of what is found in it, and of a part that may be missing.
-use Rattle.std.proofs.Common.{◌≡◌, ◌∙◌, inl, inr, ℕ, zero, suc, Bool, true, false, cond, List, [], ◌∷◌, ◌++◌, Option, Some, None, refl, sym, ap, subst}
+use Rattle.std.proofs.Common.{◌≡◌, ◌∙◌, inl, inr, ℕ, suc, Bool, true, false, cond, List, [], ◌∷◌, ◌++◌, Option, Some, None, refl, sym, ap}
 use Rattle.std.proofs.lemmas.List.Elements.{All-nil, All-cons, All-contains}
-use Rattle.std.proofs.lemmas.Option.{none-some, same_Some}
+use Rattle.std.proofs.lemmas.Option.{same_Some}
 use Rattle.std.specs.List.{All, AllByRecursion, Contains, find, slice_get}
 use Rattle.std.specs.Option.{option_or}
 use Rattle.lk_spots.specs.Places.{Each, IfThere}
+use Rattle.lk_spots.proofs.Lists.{if_missing, if_there}
 
 -- what stands in a list at one number
 pub same_there : {A : Type 0} (xs : List A) (m n : ℕ) (a b : A) → m ≡ n → slice_get xs m ≡ Some a → slice_get xs n ≡ Some b → a ≡ b
@@ -12,11 +13,6 @@ same_there xs m n a b same first second = same_Some a b (sym first ∙ ap (λ k.
 
 module _ {A : Type 0} (Q : A → Type 0) where
   -- ---- of each element
-
-  pub at_each : (xs : List A) → Each Q xs → (l : ℕ) (a : A) → slice_get xs l ≡ Some a → Q a
-  at_each [] all l a is = absurd (none-some a is)
-  at_each (x ∷ xs) all zero a is = subst Q (same_Some x a is) (all x (inl refl))
-  at_each (x ∷ xs) all (suc l) a is = at_each xs (λ a is. all a (inr is)) l a is
 
   all_of_each : (xs : List A) → Each Q xs → All Q xs
   all_of_each [] all = All-nil Q
@@ -35,12 +31,6 @@ module _ {A : Type 0} (Q : A → Type 0) where
 
   -- ---- of a part that may be missing
 
-  if_missing : IfThere Q None
-  if_missing a is = absurd (none-some a is)
-
-  if_there : (x : A) → Q x → IfThere Q (Some x)
-  if_there x holds a is = subst Q (same_Some x a is) holds
-
   if_either : (test : Bool) (a b : Option A) → IfThere Q a → IfThere Q b → IfThere Q (cond test a b)
   if_either true a b x y = x
   if_either false a b x y = y
@@ -50,5 +40,5 @@ module _ {A : Type 0} (Q : A → Type 0) where
   if_or (Some a) b x y = x
 
   pub if_found : (test : A → Bool) (xs : List A) → Each Q xs → IfThere Q (find test xs)
-  if_found test [] all = if_missing
-  if_found test (x ∷ xs) all = if_either (test x) (Some x) (find test xs) (if_there x (all x (inl refl))) (if_found test xs (λ a is. all a (inr is)))
+  if_found test [] all = if_missing Q
+  if_found test (x ∷ xs) all = if_either (test x) (Some x) (find test xs) (if_there Q x (all x (inl refl))) (if_found test xs (λ a is. all a (inr is)))

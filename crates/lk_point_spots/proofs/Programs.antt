@@ -27,7 +27,8 @@ use Rattle.lk_typed.specs.declared.whole.WholeEntity.{WholeEntity}
 use Rattle.lk_types.specs.Table.{type_at}
 use Rattle.lk_point_spots.specs.Laws as laws
 use Rattle.lk_point_spots.proofs.Declared.{static_spots}
-use Rattle.lk_point_spots.proofs.Lists.{same_there, at_each, contained, all_by_number, if_or, if_found}
+use Rattle.lk_spots.proofs.Lists.{at_each}
+use Rattle.lk_point_spots.proofs.Lists.{same_there, contained, all_by_number, if_or, if_found}
 use Rattle.lk_point_spots.proofs.Owners.{OwnedSpot, static_owned}
 use Rattle.lk_point_spots.proofs.StatementOwners.{stmt_owned}
 use Rattle.lk_point_spots.proofs.Statements.{body_spots}

@@ -1,30 +1,22 @@
 -- Where a clash of sources stands: at a place of one of them.
-use Rattle.std.proofs.Common.{◌≡◌, inl, inr, ℕ, zero, suc, All, List, [], ◌∷◌, Some, subst, sym}
-use Rattle.std.proofs.lemmas.Option.{none-some, same_Some}
-use Rattle.std.specs.List.{slice_get}
+use Rattle.std.proofs.Common.{ℕ, All, List, subst, sym}
 use Rattle.lk_base.specs.declared.spot.Spot.{Spot}
 use Rattle.lk_link.specs.Clashes.{IsClash, defined_twice, types_differ, library_differs, missing, missing_inside}
 use Rattle.lk_link.specs.Sources.{Declares, IsEntity, Units}
 use Rattle.lk_link.specs.declared.clash.Clash.{Clash}
+use Rattle.lk_spots.proofs.Lists.{at_each}
 use Rattle.lk_spots.specs.TypedPlaces.{EntitySpots, TypedUnitSpots}
-use Rattle.lk_typed.specs.Stands.{IsIn}
 use Rattle.lk_typed.specs.declared.entity.Declaration.{Declaration}
 use Rattle.lk_typed.specs.declared.entity.Entity.{Entity}
 use Rattle.lk_types.proofs.KeptLemmas.{read_got}
 use Rattle.lk_types.proofs.SizeLemmas.{all_read}
 
--- what is read of a list is in it
-pub read_in : {X : Type 0} (xs : List X) (i : ℕ) (x : X) → slice_get xs i ≡ Some x → IsIn x xs
-read_in [] i x at = absurd (none-some x at)
-read_in (y ∷ xs) zero x at = inl (sym (same_Some y x at))
-read_in (y ∷ xs) (suc i) x at = inr (read_in xs i x at)
-
 module _ (P : Spot → Type 0) (units : Units) (spots : All (TypedUnitSpots P) units) where
   pub entity_spots : (s e : ℕ) (entity : Entity) → IsEntity units s e entity → EntitySpots P entity
-  entity_spots s e entity is = (all_read (TypedUnitSpots P) units s is.unit spots is.at).entities entity (read_in is.unit.entities e entity is.stands)
+  entity_spots s e entity is = at_each (EntitySpots P) is.unit.entities (all_read (TypedUnitSpots P) units s is.unit spots is.at).entities e entity is.stands
 
   declared_spot : (s : ℕ) (name : List ℕ) (is : Declaration) → Declares units s name is → P is.spot
-  declared_spot s name is of = (entity_spots s of.number of.entity of.of).declarations is (read_in of.entity.declarations of.place is of.at)
+  declared_spot s name is of = at_each (λ (declaration : Declaration). P declaration.spot) of.entity.declarations (entity_spots s of.number of.entity of.of).declarations of.place is of.at
 
   clash_spot : (externs : List (List ℕ)) (clash : Clash) → IsClash units externs clash → P clash.spot
   clash_spot externs clash (defined_twice is) = subst P (sym is.spot) (declared_spot clash.source clash.name is.again is.here.stands.0)

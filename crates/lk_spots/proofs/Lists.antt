@@ -1,5 +1,6 @@
 -- A property of each element of a list, of a part that may be missing, and of those that a walk numbers.
-use Rattle.std.proofs.Common.{◌≡◌, inl, inr, ℕ, List, [], ◌∷◌, ◌++◌, Option, Some, None, map, refl, sym, subst}
+use Rattle.std.proofs.Common.{◌≡◌, inl, inr, ℕ, zero, suc, List, [], ◌∷◌, ◌++◌, Option, Some, None, map, refl, sym, subst}
+use Rattle.std.specs.List.{slice_get}
 use Rattle.std.specs.Option.{option_map}
 use Rattle.std.proofs.lemmas.Option.{none-some, same_Some}
 use Rattle.lk_tree.specs.Numbers.{Numbered, list, list_of, optional, optional_of}
@@ -20,6 +21,12 @@ module _ {A : Type 0} (Q : A → Type 0) where
   pub each_both : (xs ys : List A) → Each Q xs → Each Q ys → Each Q (xs ++ ys)
   each_both [] ys first others = others
   each_both (x ∷ xs) ys first others = each_more x (xs ++ ys) (first x (inl refl)) (each_both xs ys (λ a is. first a (inr is)) others)
+
+  -- what stands at a number
+  pub at_each : (xs : List A) → Each Q xs → (l : ℕ) (a : A) → slice_get xs l ≡ Some a → Q a
+  at_each [] all l a is = absurd (none-some a is)
+  at_each (x ∷ xs) all zero a is = subst Q (same_Some x a is) (all x (inl refl))
+  at_each (x ∷ xs) all (suc l) a is = at_each xs (λ a is. all a (inr is)) l a is
 
   pub if_missing : IfThere Q None
   if_missing a is = absurd (none-some a is)

@@ -53,7 +53,7 @@ use Rattle.lk_spots.specs.StatementPlaces as p
 use Rattle.lk_spots.specs.StatementPlaces.{InitDeclaratorSpots, FunctionSpots, UnitSpots}
 use Rattle.lk_spots.specs.TypedPlaces as t
 use Rattle.lk_spots.specs.TypedPlaces.{TypedExprSpots, EntitySpots, ObjectSpots, BodySpots, TypedUnitSpots}
-use Rattle.lk_spots.proofs.Lists.{each_none, each_more, each_both, if_missing, if_there}
+use Rattle.lk_spots.proofs.Lists.{each_none, each_more, each_both, at_each, if_missing, if_there}
 use Rattle.lk_spots.proofs.Parts.{PartsSpots, block_item_list, in_body_form, in_initialiser, stmt_form}
 use Rattle.lk_spots.proofs.Standing.{in_turn, node_spots, standing, stmt_place}
 use Rattle.lk_spots.proofs.TypedExpressions.{PlaceSpots, place_of, converted}
@@ -71,11 +71,6 @@ module _ {A : Type 0} (Q : A → Type 0) where
   each_from [] count front others = each_none Q
   each_from (x ∷ xs) zero front others = each_at (x ∷ xs) (λ l a is. others l a (omega arith) is)
   each_from (x ∷ xs) (suc n) front others = each_more Q x xs (front x (inl refl)) (each_from xs n (λ a is. front a (inr is)) (λ l a le is. others (suc l) a (omega (arith, le)) is))
-
-  at_each : (xs : List A) → Each Q xs → (l : ℕ) (a : A) → slice_get xs l ≡ Some a → Q a
-  at_each [] all l a is = absurd (none-some a is)
-  at_each (x ∷ xs) all zero a is = subst Q (same_Some x a is) (all x (inl refl))
-  at_each (x ∷ xs) all (suc l) a is = at_each xs (λ a is. all a (inr is)) l a is
 
 module _ (P : Spot → Type 0) where
   -- ---- the place of a declared name
