@@ -7,6 +7,7 @@ use Rattle.lk_base.specs.declared.refusal.Refusal.{Refusal}
 use Rattle.lk_base.specs.declared.spot.Spot.{Spot}
 use Rattle.lk_join.specs.Program.{IsRefusal, without_main, clashing}
 use Rattle.lk_sources.specs.Accepting.{AreChecked, IsInFile, IsPlaced, units_of}
+use Rattle.lk_sources.specs.Readable.{AreFew}
 use Rattle.lk_sources.specs.declared.accepting.Accepted.{Accepted}
 use Rattle.lk_sources.specs.declared.checking.AcceptedSource.{AcceptedSource}
 use Rattle.lk_sources.specs.declared.fault.SourcesFault.{SourcesFault}
@@ -50,9 +51,9 @@ module _ (law : TypedTreesStandInFiles) where
   some_file files [] some placed = absurd (omega (arith, some))
   some_file files (source ∷ sources) some placed = (All-head (IsPlaced files) source.parsed.unit (units_of sources) placed).filed.some
 
-  module _ (sources : Accepted) (checked : AreChecked sources) where
+  module _ (sources : Accepted) (checked : AreChecked sources) (few : AreFew (length sources.sources.items)) where
     some : 0 < length sources.files
-    some = some_file (length sources.files) sources.sources.items checked.few.some checked.placed
+    some = some_file (length sources.files) sources.sources.items few.some checked.placed
 
     stand : (units : List TypedUnit) → AreTyped sources.externs.items (units_of sources.sources.items) units → StandIn (length sources.files) units
     stand units typed = all_stand (length sources.files) sources.externs.items (units_of sources.sources.items) units checked.placed typed

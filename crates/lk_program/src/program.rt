@@ -3,6 +3,7 @@ ghost use Rattle.std.specs.Prelude.{◌<◌, ◌^◌, All, IfErr, IfOk, length};
 ghost use Rattle.lk_program.specs.Program.{IsFault, IsProgram, IsUnlinkedFault, Makes};
 ghost use Rattle.lk_program.specs.Trees.{IsNumbered};
 ghost use Rattle.lk_sources.specs.Accepting.{AreChecked, IsCheckedSource, units_of};
+ghost use Rattle.lk_sources.specs.Readable.{AreFew};
 
 use crate::trees::typed_units;
 use lk_base::{Fault, Files, Name};
@@ -38,7 +39,8 @@ fn whole_of(alloc: Global, externs: &[Name], sources: Vec<AcceptedSource>) -> Re
 /// The program that accepted sources make: their typed trees, put together. They are refused by 60 to 63 where these speak
 /// against one another. Each place in it, and that of a refusal, stands in one of the files.
 pub fn program_of(alloc: Global, accepted: Accepted) -> Result<Program, SourcesFault>
-    requires { AreChecked accepted }
+    requires checked { AreChecked accepted }
+    requires few { AreFew (length accepted.sources.items) }
     ensures ok { IfOk result (Makes accepted) }
     ensures err { IfErr result (IsFault accepted) }
 {

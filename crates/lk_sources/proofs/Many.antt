@@ -17,15 +17,12 @@ as_many nothing = refl
 as_many (next tree rest) = ap suc (as_many rest)
 
 -- as many are accepted as there are
-pub accepted_few : {names last : List (List ℕ)} {externs : List Name} (sources : List Source) (accepted : List AcceptedSource) → AreAccepted names externs sources last (units_of accepted) → AreFew sources →
-    AreFew accepted
-accepted_few sources accepted are few =
-    let same = length-map accepted (λ (s : AcceptedSource). s.parsed.unit) in
-    let many = as_many are.trees in
-    record { some = omega (arith, same, many, few.some); few = omega (arith, same, many, few.few) }
+pub accepted_all : {names last : List (List ℕ)} {externs : List Name} (sources : List Source) (accepted : List AcceptedSource) → AreAccepted names externs sources last (units_of accepted) →
+    length accepted ≡ length sources
+accepted_all sources accepted are = sym (length-map accepted (λ (s : AcceptedSource). s.parsed.unit)) ∙ as_many are.trees
 
 -- a command has 1 to 64
-pub read_few : (check : Check) (sources : List Source) → is_in_bounds check ≡ true → map (λ s. s.name) sources ≡ check.files → AreFew sources
+pub read_few : (check : Check) (sources : List Source) → is_in_bounds check ≡ true → map (λ s. s.name) sources ≡ check.files → AreFew (length sources)
 read_few check sources bounds names =
     let counted = (and_parts (is_count (length check.files)) _ bounds).0 in
     let parts = and_parts (nat_le 1 (length check.files)) (nat_le (length check.files) 64) counted in

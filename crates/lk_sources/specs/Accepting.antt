@@ -14,7 +14,6 @@ use Rattle.lk_check_unit.specs.Sources.{IsBehind, RecordsOf, TellsFirst}
 use Rattle.lk_sources.specs.Externs.{externs_text, listed, Names, BadLine}
 use Rattle.lk_sources.specs.Faults.{AreFaultless, AreFaulty}
 use Rattle.lk_sources.specs.Numbers.{numbered, refusal_at}
-use Rattle.lk_sources.specs.Readable.{AreFew}
 use Rattle.lk_sources.specs.Reading.{IsRead, IsTooLong}
 use Rattle.lk_sources.specs.Splitting.{AreFiled, AreSplit, StopsIn, first_word}
 use Rattle.lk_sources.specs.Trees.{AreTrees, HasNoTree}
@@ -70,11 +69,10 @@ pub record IsPlaced (files : ℕ) (unit : Unit) : Type 0 where
 abbrev pub ArePlaced : Accepted → Type 0
 ArePlaced accepted = All (IsPlaced (length accepted.files)) (units_of accepted.sources.items)
 
--- each accepted source is checked; they stand in the files; and their numbers have 32 bits
+-- each accepted source is checked, and they stand in the files
 pub record AreChecked (accepted : Accepted) : Type 0 where
   pub each : All (IsCheckedSource accepted.externs.items) accepted.sources.items
   pub placed : ArePlaced accepted
-  pub few : AreFew accepted.sources.items
 
 -- the lines of the externs file are names, and the sources are accepted
 pub record IsAccepted (names : List (List ℕ)) (externs sources : List Source) (accepted : Accepted) : Type 0 where

@@ -22,14 +22,13 @@ AreShort most sources = All (λ s. length s.bytes ≤ most) sources
 abbrev pub AreNamed : List (List ℕ) → List Source → Type 0
 AreNamed names sources = All (λ s. has_name names s.name ≡ true) sources
 
--- there is one at least, and their numbers have 32 bits
-pub record AreFew {A : Type 0} (list : List A) : Type 0 where
-  pub some : 0 < length list
-  pub few : length list < 2 ^ 32
+-- so many: one at least, and their numbers have 32 bits
+pub record AreFew (count : ℕ) : Type 0 where
+  pub some : 0 < count
+  pub few : count < 2 ^ 32
 
 -- what is read is no longer than it may be, and the sources' names have numbers
 pub record IsReadable (texts : Texts) : Type 0 where
-  pub few : AreFew texts.sources
   pub short_externs : AreShort longest_externs texts.externs
   pub short : AreShort longest_sources texts.sources
   pub named : AreNamed texts.files texts.sources
@@ -40,6 +39,7 @@ pub record Reads (check : Check) (shelf : Shelved) (texts : Texts) : Type 0 wher
   pub files : texts.files ≡ numbered check
   pub externs_names : map (λ s. s.name) texts.externs ≡ names_of check.externs
   pub names : map (λ s. s.name) texts.sources ≡ check.files
+  pub few : AreFew (length texts.sources)
   pub readable : IsReadable texts
   pub read : ForSome shelf.files (λ held. IsRead check held texts.externs texts.sources)
 

@@ -1,9 +1,9 @@
 //! The sources of a command: split, parsed and checked.
-ghost use Rattle.std.specs.Prelude.{◌<◌, All, length, IfOk, IfErr};
+ghost use Rattle.std.specs.Prelude.{◌≡◌, ◌<◌, All, length, IfOk, IfErr};
 ghost use Rattle.lk_sources.specs.Accepting.{AreAccepted, AreChecked, IsAccepted, IsCheckedSource, IsPlaced, Refuses, units_of};
 ghost use Rattle.lk_sources.specs.Calls.{IsBadExterns, IsFaultIn};
 ghost use Rattle.lk_sources.specs.Judging.{AcceptsSources, IsJudged, RefusesSources};
-ghost use Rattle.lk_sources.specs.Readable.{AreFew, AreNamed, AreShort, IsReadable};
+ghost use Rattle.lk_sources.specs.Readable.{AreNamed, AreShort, IsReadable};
 
 use crate::checking::{AcceptedSource, check_all};
 use crate::externs::{Listed, externs_text, names_in};
@@ -56,10 +56,10 @@ fn accept_sources(
     sources: &[Source],
     mut files: Files,
 ) -> Result<Accepted, SourcesFault>
-    requires some { AreFew sources.now }
     requires few { AreShort 1048576 sources.now }
     requires named { AreNamed files sources.now }
     ensures checked { IfOk result AreChecked }
+    ensures many { IfOk result (λ accepted. length accepted.sources.items ≡ length sources.now) }
     ensures ok { IfOk result (AcceptsSources files externs.items sources.now) }
     ensures err { IfErr result (RefusesSources files externs.items sources.now) }
 {
@@ -97,10 +97,11 @@ fn bad_externs(
 ///
 /// They are accepted exactly where no refusal holds and memory is found. A refusal is the first that applies: a line of
 /// the externs file is neither empty nor a name; the split of a source stops; a word is not supported; a source has no
-/// tree; a tree has a fault. Of the sources to which it applies the first is told.
+/// tree; a tree has a fault. Of the sources to which it applies the first is told. As many are accepted as there are.
 pub fn accept(alloc: Global, texts: Texts) -> Result<Accepted, SourcesFault>
     requires { IsReadable texts }
     ensures checked { IfOk result AreChecked }
+    ensures many { IfOk result (λ accepted. length accepted.sources.items ≡ length texts.sources) }
     ensures ok { IfOk result (IsAccepted texts.files texts.externs texts.sources) }
     ensures err { IfErr result (Refuses texts) }
 {

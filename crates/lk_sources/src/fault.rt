@@ -1,4 +1,4 @@
-//! Why the sources of a command are not accepted.
+//! Why the sources of a command make no program.
 ghost use Rattle.std.specs.Prelude.{◌<◌, length};
 ghost use Rattle.lk_sources.specs.Accepting.{IsInFile};
 ghost use Rattle.lk_sources.specs.Calls.{IsRefusedAt};
@@ -8,7 +8,7 @@ use crate::numbers::refusal_at;
 use lk_base::{Code, Files, Name, NoMemory, Refusal};
 use std::alloc::Global;
 
-/// Why the sources of a command are not accepted.
+/// Why the sources of a command make no program: they can't be read, or aren't accepted, or speak against one another.
 #[derive(Drop)]
 pub enum SourcesFault {
     /// They are refused, at a place in this file.

@@ -1,16 +1,17 @@
 //! What accepted sources come to: the program that they make, its points, and what is reported of these.
-ghost use Rattle.std.specs.Prelude.{◌≡◌, ◌<◌, [], All, IfOk, length, map};
+ghost use Rattle.std.specs.Prelude.{◌<◌, All, IfOk, length, map};
 ghost use Rattle.lk_facts.specs.Lowered.{IsLowered};
 ghost use Rattle.lk_graph.specs.Single.{ArePlaceNodes};
 ghost use Rattle.lk_program.specs.Program.{StandIn};
 ghost use Rattle.lk_report.specs.Names.{CanBeNamed};
 ghost use Rattle.lk_report.specs.Report.{IsVerdictThere};
 ghost use Rattle.lk_sources.specs.Accepting.{AreChecked};
+ghost use Rattle.lk_sources.specs.Readable.{AreFew};
 ghost use Rattle.lk_top.specs.Answer.{Analyses, HasMainIn, JudgesPoints, JudgesWhole, ShowsVerdicts, TellsAtMain};
 
 use crate::answer::{Answer, refuse};
 use crate::status::status_of;
-use lk_base::{Code, Files, Name, NameFault, NoMemory, Refusal};
+use lk_base::{Code, Files, Name, NoMemory, Refusal};
 use lk_facts::{Points, Verdict};
 use lk_lower_parts::{LowerFault, main_spot};
 use lk_lower_unit::lower;
@@ -23,16 +24,6 @@ use lk_sources::{Accepted, refused_in};
 use lk_typed::Whole;
 use std::alloc::Global;
 
-/// The name of a refusal that tells none.
-fn no_name(alloc: Global) -> Result<Name, NoMemory>
-    ensures { IfOk result (λ name. name ≡ []) }
-{
-    match Name::from_bytes(alloc, &[]) {
-        Ok(name) => Ok(name),
-        Err(NameFault::TooLong | NameFault::NoMemory) => Err(NoMemory),
-    }
-}
-
 /// The line of a refusal with this code, without a name, at the name of `main`.
 fn refuse_at_main(
     alloc: Global,
@@ -44,7 +35,7 @@ fn refuse_at_main(
     ensures { IfOk result (TellsAtMain files.now whole.now code) }
 {
     let spot = main_spot(whole).unwrap();
-    let name = no_name(alloc)?;
+    let name = Name::empty(alloc);
     let answer = refuse(alloc, refused_in(files, Refusal { code, spot, name }))?;
     Ok(answer)
 }
@@ -122,7 +113,8 @@ fn judge_whole(alloc: Global, files: &Files, whole: &Whole) -> Result<Answer, No
 
 /// What accepted sources come to.
 pub(crate) fn analyse(alloc: Global, accepted: Accepted) -> Result<Answer, NoMemory>
-    requires { AreChecked accepted }
+    requires checked { AreChecked accepted }
+    requires few { AreFew (length accepted.sources.items) }
     ensures { IfOk result (Analyses accepted) }
 {
     match program_of(alloc, accepted) {

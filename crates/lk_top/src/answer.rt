@@ -1,8 +1,8 @@
 //! What a command comes to, before anything is written.
-ghost use Rattle.std.specs.Prelude.{◌≡◌, ◌≤◌, true, IfOk};
+ghost use Rattle.std.specs.Prelude.{◌≡◌, ◌≤◌, true, IfOk, length};
 ghost use Rattle.lk_words.specs.Seen.{seen};
 ghost use Rattle.lk_words.specs.Words.{is_in_bounds};
-ghost use Rattle.lk_sources.specs.Readable.{IsReadable};
+ghost use Rattle.lk_sources.specs.Readable.{AreFew, IsReadable};
 ghost use Rattle.lk_sources.specs.Shelves.{shelved};
 ghost use Rattle.lk_top.specs.Answer.{Answers, Judges, ShowsFault};
 
@@ -25,7 +25,7 @@ pub(crate) enum Answer {
     Unread { line: Vec<u8> },
 }
 
-/// The line of why files are not accepted.
+/// The line of why files make no program.
 pub(crate) fn refuse(alloc: Global, fault: SourcesFault) -> Result<Answer, NoMemory>
     ensures { IfOk result (ShowsFault fault) }
 {
@@ -42,7 +42,8 @@ pub(crate) fn refuse(alloc: Global, fault: SourcesFault) -> Result<Answer, NoMem
 
 /// What files come to that are read.
 fn judge(alloc: Global, texts: Texts) -> Result<Answer, NoMemory>
-    requires { IsReadable texts }
+    requires readable { IsReadable texts }
+    requires few { AreFew (length texts.sources) }
     ensures { IfOk result (Judges texts.files texts.externs texts.sources) }
 {
     match accept(alloc, texts) {

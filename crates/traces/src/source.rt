@@ -1,6 +1,7 @@
 //! The points of a source.
+ghost use Rattle.std.specs.Prelude.{length};
 ghost use Rattle.lk_sources.specs.Accepting.{AreChecked};
-ghost use Rattle.lk_sources.specs.Readable.{IsReadable};
+ghost use Rattle.lk_sources.specs.Readable.{AreFew, IsReadable};
 
 use lk_base::NoMemory;
 use lk_facts::Points;
@@ -23,7 +24,8 @@ fn check_words(alloc: Global, file: &str) -> Result<Vec<String>, NoMemory> {
 
 /// The program of accepted sources, or none.
 fn whole_of(alloc: Global, accepted: Accepted) -> Option<Whole>
-    requires { AreChecked accepted }
+    requires checked { AreChecked accepted }
+    requires few { AreFew (length accepted.sources.items) }
 {
     match program_of(alloc, accepted) {
         Ok(Program { files: _, whole }) => Some(whole),
@@ -33,7 +35,8 @@ fn whole_of(alloc: Global, accepted: Accepted) -> Option<Whole>
 
 /// The program that a text makes, or none.
 fn program_in(alloc: Global, text: Texts) -> Option<Whole>
-    requires { IsReadable text }
+    requires readable { IsReadable text }
+    requires few { AreFew (length text.sources) }
 {
     match accept(alloc, text) {
         Ok(accepted) => whole_of(alloc, accepted),

@@ -1,6 +1,6 @@
 use Rattle.std.proofs.Common.{All, subst}
 use Rattle.lk_sources.specs.Accepting.{AreRefused, IsCheckedSource}
-use Rattle.lk_sources.proofs.Many.{accepted_few}
+use Rattle.lk_sources.proofs.Many.{accepted_all}
 use Rattle.lk_sources.proofs.Told.{told_in_file}
 use Rattle.lk_sources.proofs.accepting.accept_sources.Goals as goal
 
@@ -17,5 +17,7 @@ returns-in-Ok-clause-checked c =
     record {
       each = subst (λ externs. All (IsCheckedSource externs) c.in-Ok.sources.items) c.deref.ensures.value c.in-Ok.ensures.checked;
       placed = c.in-Ok.ensures.placed;
-      few = accepted_few c.args.sources.now c.in-Ok.sources.items c.in-Ok.ensures.ok c.requires.some;
     }
+
+pub returns-in-Ok-clause-many : goal.returns-in-Ok-clause-many
+returns-in-Ok-clause-many c = accepted_all c.args.sources.now c.in-Ok.sources.items c.in-Ok.ensures.ok

@@ -12,8 +12,8 @@ refused_in-requires c =
 
 pub returns : goal.returns
 returns c =
-    let refusal : Refusal = record { code = c.args.code; spot = c.unwrap-spot.result; name = c.in_ok-name.name } in (
+    let refusal : Refusal = record { code = c.args.code; spot = c.unwrap-spot.result; name = c.empty-name.result } in (
       refusal,
-      record { is_code = refl; place = sym c.main_spot.ensures ∙ c.unwrap-spot.ensures; no_name = c.in_ok-name.ensures },
+      record { is_code = refl; place = sym c.main_spot.ensures ∙ c.unwrap-spot.ensures; no_name = c.empty-name.ensures },
       told_in c.args.files.now refusal c.refused_in.result c.in_ok-answer.answer c.refused_in.ensures c.in_ok-answer.ensures,
     )

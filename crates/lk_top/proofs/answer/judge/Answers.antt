@@ -1,5 +1,10 @@
+use Rattle.std.proofs.Common.{sym, subst}
+use Rattle.lk_sources.specs.Readable.{AreFew}
 use Rattle.lk_top.proofs.AnswerLemmas.{judged_accepted, judged_refused}
 use Rattle.lk_top.proofs.answer.judge.Goals as goal
+
+pub analyse-requires-clause-few : goal.analyse-requires-clause-few
+analyse-requires-clause-few c = subst AreFew (sym c.in-Ok.ensures.many) c.requires.few
 
 pub returns-in_ok-answer-in-Ok : goal.returns-in_ok-answer-in-Ok
 returns-in_ok-answer-in-Ok c =
