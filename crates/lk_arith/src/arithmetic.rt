@@ -1,5 +1,5 @@
 //! What the operators of C give at an integer kind.
-ghost use Rattle.std.specs.Prelude.{◌≡◌, ◌*ℤ◌, ◌||◌, int_div, int_rem, IsTrue, IsFalse, IfSome, IfOk};
+ghost use Rattle.std.specs.Prelude.{◌≡◌, ◌*ℤ◌, int_div, int_rem, IsTrue, IsFalse, IfSome, IfOk};
 ghost use Rattle.std.specs.Result.{result_ok};
 ghost use Rattle.lk_arith.specs.Kinds as kinds;
 ghost use Rattle.lk_arith.specs.Kinds.{IsValue};

@@ -7,7 +7,7 @@ use Rattle.lk_base.specs.declared.kind.Kind.TheVariants as kind
 use Rattle.lk_facts.specs.declared.initial.Initial.{Initial as Named}
 use Rattle.lk_facts.specs.declared.initial.InitialValue.{InitialValue}
 use Rattle.lk_facts.specs.declared.initial.InitialValue.TheVariants as begins
-use Rattle.lk_facts.specs.Program.{entry_of}
+use Rattle.lk_facts.specs.Program.{entry_of, is_args, is_argv}
 use Rattle.lk_facts.specs.declared.program.Program.{Program}
 use Rattle.lk_facts.specs.declared.root.Root.{Root}
 use Rattle.lk_facts.specs.declared.root.RootKind.{RootKind}
@@ -42,27 +42,6 @@ with_pointer object i = with_value object (Index i ∷ []) (Pointer (pointer_to 
 abbrev pub with_pointers : Object → ℕ → Object
 with_pointers object zero = object
 with_pointers object (suc n) = with_pointer (with_pointers object n) n
-
--- whether a root is that of the strings of main's arguments, or of the pointers to them
-abbrev pub is_args : RootKind → Bool
-is_args sort.Global = false
-is_args sort.Static = false
-is_args sort.Local = false
-is_args (sort.Heap one) = false
-is_args sort.Text = false
-is_args sort.Argv = false
-is_args sort.Args = true
-is_args sort.Function = false
-
-abbrev pub is_argv : RootKind → Bool
-is_argv sort.Global = false
-is_argv sort.Static = false
-is_argv sort.Local = false
-is_argv (sort.Heap one) = false
-is_argv sort.Text = false
-is_argv sort.Argv = true
-is_argv sort.Args = false
-is_argv sort.Function = false
 
 -- the number of the first root whose kind passes the test
 abbrev pub root_of : (RootKind → Bool) → Program → Option ℕ

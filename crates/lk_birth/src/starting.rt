@@ -3,6 +3,7 @@ ghost use Rattle.std.specs.Prelude.{◌≡◌, ◌<◌, ◌^◌, ◌∷◌, ◌+
 ghost use Rattle.lk_cells.specs.Cells.{object_of_root};
 ghost use Rattle.lk_birth.specs.Births.{listed};
 ghost use Rattle.lk_birth.specs.Starts as spec;
+ghost use Rattle.lk_facts.specs.Program as facts;
 ghost use Rattle.lk_base.specs.declared.cell.CellStep.TheVariants.{Index};
 
 use crate::births::{Made, locals_of, made_for, new_thread};
@@ -58,45 +59,13 @@ fn string_object(alloc: Global, root: u32, ty: TypeId, text: &[u8]) -> Result<Ob
     Ok(object)
 }
 
-/// Whether a root is that of the strings of main's arguments.
-fn is_args(kind: RootKind) -> bool
-    ensures { result ≡ spec.is_args kind }
-{
-    match kind {
-        RootKind::Args => true,
-        RootKind::Global
-        | RootKind::Static
-        | RootKind::Local
-        | RootKind::Heap { .. }
-        | RootKind::Text
-        | RootKind::Argv
-        | RootKind::Function => false,
-    }
-}
-
-/// Whether a root is that of the pointers to these strings.
-fn is_argv(kind: RootKind) -> bool
-    ensures { result ≡ spec.is_argv kind }
-{
-    match kind {
-        RootKind::Argv => true,
-        RootKind::Global
-        | RootKind::Static
-        | RootKind::Local
-        | RootKind::Heap { .. }
-        | RootKind::Text
-        | RootKind::Args
-        | RootKind::Function => false,
-    }
-}
-
 /// The number of the root of the strings.
 #[tactic(auto, using(crate::proofs::Loops::drop_at))]
 fn args_root(points: &Points) -> Option<u32>
-    ensures { result ≡ spec.root_of spec.is_args points.now }
+    ensures { result ≡ spec.root_of facts.is_args points.now }
 {
     for root in 0..points.roots() {
-        if is_args(points.root(root).kind) {
+        if points.root(root).kind.is_args() {
             return Some(root);
         }
     }
@@ -106,10 +75,10 @@ fn args_root(points: &Points) -> Option<u32>
 /// The number of the root of the pointers to them.
 #[tactic(auto, using(crate::proofs::Loops::drop_at))]
 fn argv_root(points: &Points) -> Option<u32>
-    ensures { result ≡ spec.root_of spec.is_argv points.now }
+    ensures { result ≡ spec.root_of facts.is_argv points.now }
 {
     for root in 0..points.roots() {
-        if is_argv(points.root(root).kind) {
+        if points.root(root).kind.is_argv() {
             return Some(root);
         }
     }

@@ -15,7 +15,7 @@ mod state;
 pub use computing::{Computed, binary, unary_of};
 pub use converting::converted_to;
 pub use kind::CellKind;
-pub use moves::{is_same_place, moved};
+pub use moves::{is_same_place, moved, newer};
 pub use object::{Initial, Object, int_kind, kind_of, number_of_type, zero_of};
 pub use operands::{
     all_given, all_used, condition_in, current, function_in, given, id_in, number_in, operand,

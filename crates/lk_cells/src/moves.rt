@@ -117,7 +117,7 @@ fn next_at(types: &TypeTable, own: u64, ty: TypeId, step: CellStep) -> Option<Ce
 }
 
 /// The next step at a place, where there is one, else the one that was found before.
-fn newer(
+pub fn newer(
     place: usize,
     next: Option<CellStep>,
     found: Option<(usize, CellStep)>,

@@ -1,6 +1,6 @@
 //! How an initialiser fills the cells that it doesn't name.
 ghost use Rattle.std.specs.Prelude.{◌≡◌, ◌<◌, ◌+◌, ◌++◌, ◌∷◌, IfOk, IfSome, length, map, take, drop};
-ghost use Rattle.std.specs.Option.{option_copied, option_map, option_or};
+ghost use Rattle.std.specs.Option.{option_copied};
 ghost use Rattle.lk_cells.specs.Operands as of_operand;
 ghost use Rattle.lk_change.specs.Fills as spec;
 
@@ -10,7 +10,7 @@ use crate::going::{changes, stays_on};
 use lk_base::{CellStep, NoMemory, Seq};
 use lk_cells::{
     CellKind, Object, State, Thread, current, elements_of, form_of, form_through, kind_through,
-    object_at, part_at, part_of, zero_of,
+    newer, object_at, part_at, part_of, zero_of,
 };
 use lk_facts::Points;
 use lk_types::{TypeId, TypeTable};
@@ -41,20 +41,6 @@ fn index_after(types: &TypeTable, own: u64, ty: TypeId, step: CellStep) -> Optio
                 None
             }
         }
-    }
-}
-
-/// The next step at a place, where there is one, else the one that was found before.
-fn newer(
-    place: usize,
-    next: Option<CellStep>,
-    found: Option<(usize, CellStep)>,
-) -> Option<(usize, CellStep)>
-    ensures { result ≡ option_or (option_map (λ step. (place, step)) next) found }
-{
-    match next {
-        Some(step) => Some((place, step)),
-        None => found,
     }
 }
 

@@ -1,5 +1,5 @@
 //! The composite type of two declarations of one name (C99 6.2.7, 3).
-ghost use Rattle.std.specs.Prelude.{◌≡◌, ◌∷◌, ◌<◌, map, true, None, All, IfOk, IfSome, OnOk, MatchOption};
+ghost use Rattle.std.specs.Prelude.{◌≡◌, ◌<◌, map, true, None, All, IfOk, IfSome, OnOk, MatchOption};
 ghost use Rattle.std.specs.Option.{option_map};
 ghost use Rattle.lk_types.specs.Building.{IsLonger};
 ghost use Rattle.lk_types.specs.Table.{IsKnown};

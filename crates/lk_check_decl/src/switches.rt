@@ -1,5 +1,5 @@
 //! The rules of `break`, `continue` and cases: code 26, and 24 of a case (C99 6.8.1, 6.8.4.2, 6.8.6).
-ghost use Rattle.std.specs.Prelude.{◌≡◌, ◌&&◌, ◌||◌, Some, is_some, option_copied};
+ghost use Rattle.std.specs.Prelude.{◌≡◌, ◌||◌, Some, option_copied};
 ghost use Rattle.std.specs.List.{list_any};
 ghost use Rattle.std.specs.Option.{option_map};
 ghost use Rattle.lk_typed.specs.StatementRules as spec;

@@ -1,6 +1,6 @@
 //! What the operators make of integer constant expressions (C99 6.6).
 ghost use Rattle.std.specs.Prelude.{◌≡◌, IsTrue};
-ghost use Rattle.lk_arith.specs.Operators.{is_shift, Outcome};
+ghost use Rattle.lk_arith.specs.Operators.{is_shift};
 ghost use Rattle.lk_typed.specs.Constants as spec;
 
 use lk_arith::{Op, UnaryOp, Undefined, convert, outcome, unary_outcome};

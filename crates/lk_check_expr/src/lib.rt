@@ -29,6 +29,6 @@ pub use literals::{character, number};
 pub use looks::Look;
 pub use operators::{binary, is_scalar, row_of};
 pub use places::{index, prefix, step};
-pub use sizes::size_of;
+pub use sizes::{is_broken, size_of};
 pub use texts::text;
 pub use words::{NameUse, is_extern, word};

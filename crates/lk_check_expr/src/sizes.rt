@@ -32,8 +32,9 @@ fn is_faulty(structs: &[Members], s: u32) -> bool
     }
 }
 
-/// Whether it is a struct with a faulty definition, or an array of such.
-fn is_broken(types: &TypeTable, structs: &[Members], t: TypeId) -> bool
+/// Whether a type is a struct with a faulty definition, or an array of such: what needs its members or size has neither a
+/// type nor a fault.
+pub fn is_broken(types: &TypeTable, structs: &[Members], t: TypeId) -> bool
     requires { IsKnown types.now t }
     ensures { result ≡ spec.is_broken (structs_in types.now structs.now) (meaning types.now t) }
 {

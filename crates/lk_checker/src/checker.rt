@@ -1,5 +1,5 @@
 //! The state of the checker of a source.
-ghost use Rattle.std.specs.Prelude.{◌≡◌, ◌<◌, ◌||◌, ℕ, List, true, false, Option, Some, None, Ok, Err, [], IfErr, IfOk, OnOk, MatchOption, option_map};
+ghost use Rattle.std.specs.Prelude.{◌≡◌, ◌<◌, ◌||◌, ℕ, List, true, false, Option, Some, None, Ok, Err, IfErr, IfOk, OnOk, MatchOption, option_map};
 ghost use Rattle.std.specs.HashSet.{contains_by};
 ghost use Rattle.lk_base.specs.declared.refusal.Refusal.{Refusal};
 ghost use Rattle.lk_typed.specs.Env.{is_name};
@@ -61,16 +61,6 @@ impl FaultFound {
         let by_col = less_or(at.spot.col, spot.col, by_code);
         let by_line = less_or(at.spot.line, spot.line, by_col);
         less_or(at.spot.file, spot.file, by_line)
-    }
-}
-
-/// No name.
-fn no_name(alloc: Global) -> Result<Name, NoMemory>
-    ensures { IfOk result (λ name. name ≡ []) }
-{
-    match Name::from_bytes(alloc, &[]) {
-        Ok(name) => Ok(name),
-        Err(_) => Err(NoMemory),
     }
 }
 
@@ -191,10 +181,7 @@ impl Checker {
         ensures { OnOk result (Tells self.old self.new at (option_map breach code)) }
     {
         match code {
-            Some(code) => {
-                let empty = no_name(self.alloc)?;
-                self.keep_code(at, code, &empty)
-            }
+            Some(code) => self.keep_code(at, code, &Name::empty(self.alloc)),
             None => Ok(()),
         }
     }
@@ -217,7 +204,7 @@ impl Checker {
         seen
     }
 
-    /// The refusal by the least fault, which is taken out.
+    /// The refusal by the least fault. It is taken out, so `checked` would find none afterwards.
     pub fn first_fault(&mut self) -> Option<Refusal>
         ensures told { result ≡ option_map refusal_of (kept_in self.old).least }
         ensures rest { self.new ≡ record self.old { least = None } }

@@ -8,7 +8,8 @@ ghost use Rattle.lk_found.specs.Shapes.{IsElement, IsElementIn};
 ghost use Rattle.lk_checker.specs.States.{IsIn, IsSound};
 
 use crate::checker::Checker;
-use lk_found::{Element, is_broken};
+use lk_check_expr::is_broken;
+use lk_found::Element;
 use lk_typed::is_complete;
 use lk_types::TypeId;
 

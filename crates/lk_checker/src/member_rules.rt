@@ -23,9 +23,8 @@ ghost use Rattle.lk_checker.specs.States.{IsIn, IsSound, Tells, kept_in};
 use crate::checker::Checker;
 use lk_base::{Code, Name, NoMemory};
 use lk_check_decl::{member_code, with_member};
-use lk_found::{
-    At, DeclaratorFound, MembersFound, Specified, at_declarator, declared_name, is_broken,
-};
+use lk_check_expr::is_broken;
+use lk_found::{At, DeclaratorFound, MembersFound, Specified, at_declarator, declared_name};
 use lk_tree::Declarator;
 use lk_typed::Field;
 use lk_types::{TypeId, TypeSize};

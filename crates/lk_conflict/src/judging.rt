@@ -1,5 +1,5 @@
 //! What racing accesses say of each location.
-ghost use Rattle.std.specs.Prelude.{◌≡◌, ◌<◌, ◌&&◌, [], IfOk};
+ghost use Rattle.std.specs.Prelude.{◌≡◌, ◌<◌, ◌&&◌, IfOk};
 ghost use Rattle.lk_conflict.specs.Listing.{IsCommon, in_all, state_of};
 ghost use Rattle.lk_facts.specs.Facts.{basis_of};
 ghost use Rattle.lk_facts.specs.Verdicts.{AreRacing, AreVerdicts, IsVerdictOf};

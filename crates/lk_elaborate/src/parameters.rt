@@ -73,21 +73,11 @@ fn parameters_inside(inner: &Option<Boxed<Declarator>>) -> Option<&[Parameter]>
     }
 }
 
-/// No name.
-fn no_name(walk: &Elaborator) -> Result<Name, NoMemory>
-    ensures { IfOk result (λ name. name ≡ []) }
-{
-    match Name::from_bytes(walk.alloc, &[]) {
-        Ok(name) => Ok(name),
-        Err(_) => Err(NoMemory),
-    }
-}
-
 /// Puts a parameter without a name, at its own place.
 fn put_unnamed(walk: &mut Elaborator, ty: TypeId, spot: Spot, ordinal: u32) -> Result<(), NoMemory>
     ensures { OnOk result (PutsLocalOf walk.old walk.new [] ty spot ordinal) }
 {
-    let name = no_name(walk)?;
+    let name = Name::empty(walk.alloc);
     put_local(walk, name, ty, spot, ordinal)?;
     Ok(())
 }

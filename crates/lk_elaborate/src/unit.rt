@@ -79,7 +79,7 @@ fn externals(walk: &mut Elaborator, list: &[Decl]) -> Result<(), NoMemory>
     Ok(())
 }
 
-/// The state behind them.
+/// The state behind the external declarations of a source.
 fn all_externals(mut walk: Elaborator, list: &[Decl]) -> Result<Elaborator, NoMemory>
     ensures makes { IfOk result (λ behind. MakesExternals walk behind list.now) }
     ensures goes { IfOk result (λ behind. GoesOutside walk behind) }
@@ -153,7 +153,7 @@ fn are_whole(structs: &[Members]) -> bool
 }
 
 /// That each struct of a source has its tag, and is complete or was never defined. So it is where there is no fault.
-fn has_whole_structs(checked: &Checked) -> Result<(), NoMemory>
+fn ensure_whole_structs(checked: &Checked) -> Result<(), NoMemory>
     ensures { OnOk result (HasWholeStructs checked.now) }
 {
     let structs = checked.names.structs();
@@ -171,7 +171,7 @@ fn begin(alloc: Global, checked: Checked) -> Result<Elaborator, NoMemory>
     ensures whole { OnOk result (HasWholeStructs checked) }
     ensures begins { IfOk result (Begins checked) }
 {
-    let whole = has_whole_structs(&checked);
+    let whole = ensure_whole_structs(&checked);
     whole.and(Ok(Elaborator::new(alloc, checked)))
 }
 

@@ -1,5 +1,5 @@
 -- What the readers of `Points` read from the parts of a program.
-use Rattle.std.specs.Prelude.{◌≤◌, ◌<◌, ℕ, [], zero, suc, Bool, false, List, Option, None, length, slice_get, is_some}
+use Rattle.std.specs.Prelude.{◌≤◌, ◌<◌, ℕ, [], zero, suc, Bool, true, false, List, Option, None, length, slice_get, is_some}
 use Rattle.std.specs.Option.{option_map, option_map_or, option_and_then}
 use Rattle.lk_base.specs.declared.spot.Spot.{Spot}
 use Rattle.lk_facts.specs.Effects.{effect_of, entered, writes}
@@ -80,6 +80,27 @@ parameters_of program f = option_map (λ function. function.parameters) (slice_g
 
 abbrev pub root_at : Program → ℕ → Option Root
 root_at program r = slice_get program.roots r
+
+-- a root is that of the strings of main's arguments, or of the pointers to them (C99 5.1.2.2.1, 2)
+abbrev pub is_args : RootKind → Bool
+is_args kind.Global = false
+is_args kind.Static = false
+is_args kind.Local = false
+is_args (kind.Heap one) = false
+is_args kind.Text = false
+is_args kind.Argv = false
+is_args kind.Args = true
+is_args kind.Function = false
+
+abbrev pub is_argv : RootKind → Bool
+is_argv kind.Global = false
+is_argv kind.Static = false
+is_argv kind.Local = false
+is_argv (kind.Heap one) = false
+is_argv kind.Text = false
+is_argv kind.Argv = true
+is_argv kind.Args = false
+is_argv kind.Function = false
 
 -- the function that a root of this kind stands for
 abbrev pub function_of_kind : RootKind → Option ℕ → Option ℕ

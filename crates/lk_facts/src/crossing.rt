@@ -1,6 +1,5 @@
 //! What crosses one site.
-ghost use Rattle.std.specs.Prelude.{◌≡◌, ◌↔◌, ℕ, All, IsTrue};
-ghost use Rattle.std.specs.List.Sorted.{IsStrictlyIncreasing};
+ghost use Rattle.std.specs.Prelude.{◌≡◌, ◌↔◌, ℕ, IsTrue};
 
 use crate::edge::Label;
 use crate::id_lists::{are_sets_below, is_set_below, place_of};

@@ -1,5 +1,5 @@
 //! The locks that are held.
-ghost use Rattle.std.specs.Prelude.{◌≡◌, ◌↔◌, IsTrue, ◌<◌, ◌^◌, length};
+ghost use Rattle.std.specs.Prelude.{◌≡◌, ◌↔◌, IsTrue, ◌<◌, length};
 ghost use Rattle.lk_facts.specs.LockSets.{sets_of, at_of, keep_of, out_of, released_of, AreLockSetsInRange};
 ghost use Rattle.lk_facts.specs.Origins.{IsSetBelow};
 

@@ -1,5 +1,5 @@
 //! The labels of a program.
-ghost use Rattle.std.specs.Prelude.{◌≡◌, ◌↔◌, IsTrue, ◌<◌, ◌≤◌, length, All, Some, IfSome};
+ghost use Rattle.std.specs.Prelude.{◌≡◌, ◌↔◌, IsTrue, ◌<◌, length, All, Some, IfSome};
 ghost use Rattle.lk_facts.specs.Labels.{labels_of, root_of, holder_of, node_of, is_origin_at, is_lock_at, is_global_at, target_at, subject_of, name_with, AreLabelsInRange};
 ghost use Rattle.lk_facts.specs.Places.{IsNumberOf};
 

@@ -1,5 +1,5 @@
 //! Places: what cells of one root have in common when indices are forgotten.
-ghost use Rattle.std.specs.Prelude.{◌≡◌, ◌<◌, ◌≤◌, ◌↔◌, [], All, IsTrue, length, slice_get, Some, IfOk, OnErr, IfSome};
+ghost use Rattle.std.specs.Prelude.{◌≡◌, ◌<◌, ◌≤◌, [], length, Some, IfOk, OnErr};
 ghost use Rattle.lk_facts.specs.Places.{IsNumberOf, IsPut, AreDifferent};
 ghost use Rattle.lk_facts.specs.Program.{place_of};
 

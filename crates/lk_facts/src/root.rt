@@ -1,4 +1,6 @@
 //! Roots: what holds the objects of a program.
+ghost use Rattle.std.specs.Prelude.{◌≡◌};
+ghost use Rattle.lk_facts.specs.Program as spec;
 
 use lk_base::{Name, Seq, Spot};
 use lk_types::TypeId;
@@ -25,6 +27,40 @@ pub enum RootKind {
     Args,
     /// A function.
     Function,
+}
+
+impl RootKind {
+    /// Whether it is the strings of main's arguments.
+    pub fn is_args(self) -> bool
+        ensures { result ≡ spec.is_args self }
+    {
+        match self {
+            RootKind::Args => true,
+            RootKind::Global
+            | RootKind::Static
+            | RootKind::Local
+            | RootKind::Heap { .. }
+            | RootKind::Text
+            | RootKind::Argv
+            | RootKind::Function => false,
+        }
+    }
+
+    /// Whether it is the array of the pointers to main's arguments.
+    pub fn is_argv(self) -> bool
+        ensures { result ≡ spec.is_argv self }
+    {
+        match self {
+            RootKind::Argv => true,
+            RootKind::Global
+            | RootKind::Static
+            | RootKind::Local
+            | RootKind::Heap { .. }
+            | RootKind::Text
+            | RootKind::Args
+            | RootKind::Function => false,
+        }
+    }
 }
 
 /// A root: what is declared or allocated at one place of the program.

@@ -1,5 +1,5 @@
 //! Whether the numbers in the parts of a program are in range.
-ghost use Rattle.std.specs.Prelude.{◌≡◌, ◌<◌, ◌≤◌, ◌^◌, ◌↔◌, IsTrue, All, IfSome, length};
+ghost use Rattle.std.specs.Prelude.{◌≡◌, ◌<◌, ◌^◌, ◌↔◌, IsTrue, All, length};
 ghost use Rattle.lk_facts.specs.InRange as range;
 ghost use Rattle.lk_facts.specs.InRange.{sizes_of};
 

@@ -6,7 +6,7 @@ use Rattle.std.proofs.lemmas.Bool.{false≢true}
 use Rattle.std.proofs.lemmas.Option.{none-some, same_Some, slice_get_within}
 use Rattle.lk_facts.specs.EdgeRules.{In, IsRootOf, Loc, Of, Row, allocated, parameter, place, result, slot, target}
 use Rattle.lk_facts.specs.LabelRules.{IsWhole}
-use Rattle.lk_facts.specs.Program.{action_at, function_at, parameter_of, root_at, root_of_function, slots_of}
+use Rattle.lk_facts.specs.Program.{action_at, function_at, parameter_of, root_at, root_of_function, slots_of, is_args, is_argv}
 use Rattle.lk_facts.specs.declared.action.Action.{Action}
 use Rattle.lk_facts.specs.declared.action.Action.TheVariants as action
 use Rattle.lk_facts.specs.declared.edge.Edge.{Edge}
@@ -25,7 +25,6 @@ use Rattle.lk_flow.specs.Actions.{is_local, is_passing}
 use Rattle.lk_flow.specs.Counting.{AnyOf, ArgsAt, MainAt, RowAt, ValueAt}
 use Rattle.lk_flow.specs.Finding.{Finds}
 use Rattle.lk_flow.specs.Growing.{Adds, Joins}
-use Rattle.lk_flow.specs.Mains.{is_argv, is_args}
 use Rattle.lk_flow.specs.Rows.{object_of}
 use Rattle.lk_flow.proofs.Finders.{finds_as, joins_as, joins_none}
 

@@ -4,5 +4,4 @@ pub mod Conversions
 pub mod Counting
 pub mod Finding
 pub mod Growing
-pub mod Mains
 pub mod Rows

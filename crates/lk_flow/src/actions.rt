@@ -1,6 +1,6 @@
 //! The edges of the action of a point.
 ghost use Rattle.std.specs.Prelude.{◌≡◌, ◌<◌, ℕ, true, length, IfSome, OnOk};
-ghost use Rattle.lk_facts.specs.EdgeRules.{Of, Returns, Row, Sub, slot, target, value};
+ghost use Rattle.lk_facts.specs.EdgeRules.{Of, Returns, Row, Sub, slot, value};
 ghost use Rattle.lk_facts.specs.InRange.{IsActionInRange, sizes_of};
 ghost use Rattle.lk_facts.specs.LabelRules.{AreLabels, IsWhole};
 ghost use Rattle.lk_facts.specs.declared.action.Action.TheVariants.{Index};

@@ -1,5 +1,5 @@
 //! The edges of main's parameters.
-ghost use Rattle.std.specs.Prelude.{◌≡◌, ◌<◌, length, IfSome, OnOk};
+ghost use Rattle.std.specs.Prelude.{◌<◌, length, OnOk};
 ghost use Rattle.lk_facts.specs.EdgeRules.{In, Loc, Of, parameter, place};
 ghost use Rattle.lk_facts.specs.LabelRules.{AreLabels};
 ghost use Rattle.lk_facts.specs.declared.edge.Mark.TheVariants.{Plain};
@@ -7,45 +7,12 @@ ghost use Rattle.lk_types.specs.declared.node.Sel.TheVariants.{Element, Target};
 ghost use Rattle.lk_flow.specs.Counting.{AnyOf, ArgsAt, MainAt};
 ghost use Rattle.lk_flow.specs.Finding.{Finds};
 ghost use Rattle.lk_flow.specs.Growing.{Adds, Joins};
-ghost use Rattle.lk_flow.specs.Mains.{is_args, is_argv};
 
 use crate::found::Found;
 use crate::names::{inside, place, pointee, target};
 use lk_base::NoMemory;
-use lk_facts::{Label, Labels, Mark, Points, RootKind};
+use lk_facts::{Label, Labels, Mark, Points};
 use lk_types::Sel;
-
-/// Whether a root is that of the pointers to main's strings.
-fn is_argv(kind: RootKind) -> bool
-    ensures { result ≡ is_argv kind }
-{
-    match kind {
-        RootKind::Argv => true,
-        RootKind::Global
-        | RootKind::Static
-        | RootKind::Local
-        | RootKind::Heap { .. }
-        | RootKind::Text
-        | RootKind::Args
-        | RootKind::Function => false,
-    }
-}
-
-/// Whether a root is that of main's strings.
-fn is_args(kind: RootKind) -> bool
-    ensures { result ≡ is_args kind }
-{
-    match kind {
-        RootKind::Args => true,
-        RootKind::Global
-        | RootKind::Static
-        | RootKind::Local
-        | RootKind::Heap { .. }
-        | RootKind::Text
-        | RootKind::Argv
-        | RootKind::Function => false,
-    }
-}
 
 /// What the parameter `k` of a function points to.
 fn parameter_pointee(points: &Points, labels: &Labels, f: u32, k: u32) -> Option<Label>
@@ -84,7 +51,7 @@ fn put_strings(
     requires labels { AreLabels points.now labels.now }
     ensures { OnOk result (Adds (Joins labels.now.names (ArgsAt points.now r q)) found.old found.new) }
 {
-    if !is_argv(points.root(q).kind) {
+    if !points.root(q).kind.is_argv() {
         return Ok(());
     }
     let strings = place(points, labels, r);
@@ -114,10 +81,10 @@ pub fn put_main(points: &Points, labels: &Labels, r: u32, found: &mut Found) -> 
     ensures { OnOk result (Adds (Joins labels.now.names (MainAt points.now r)) found.old found.new) }
 {
     let kind = points.root(r).kind;
-    if is_argv(kind) {
+    if kind.is_argv() {
         return put_argv(points, labels, r, found);
     }
-    if is_args(kind) {
+    if kind.is_args() {
         return put_args(points, labels, r, found);
     }
     Ok(())

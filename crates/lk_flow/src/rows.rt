@@ -1,7 +1,7 @@
 //! The edges of each action.
 ghost use Rattle.std.specs.Prelude.{◌<◌, ◌⊎◌, ◌∷◌, [], ℕ, Bool, length, All, IfSome, OnOk};
 ghost use Rattle.lk_facts.specs.EdgeRules.{GivesBack, In, Loc, Passes, Sub, place, target};
-ghost use Rattle.lk_facts.specs.InRange.{IsActionInRange, IsHolderInRange, sizes_of};
+ghost use Rattle.lk_facts.specs.InRange.{IsHolderInRange, sizes_of};
 ghost use Rattle.lk_facts.specs.LabelRules.{AreLabels, IsWhole};
 ghost use Rattle.lk_facts.specs.declared.edge.Mark.TheVariants.{Plain};
 ghost use Rattle.lk_facts.specs.declared.root.Holder.TheVariants.{Point};

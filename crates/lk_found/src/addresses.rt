@@ -1,5 +1,5 @@
 //! Address constants, as far as a fault depends on them: whether an address stays in its array (C99 6.5.6, 7 and 8; 6.6, 9).
-ghost use Rattle.std.specs.Prelude.{◌≡◌, ℕ, ◌<◌, ◌^◌};
+ghost use Rattle.std.specs.Prelude.{◌≡◌, ℕ, ◌<◌};
 ghost use Rattle.std.specs.Option.{option_map};
 ghost use Rattle.lk_types.specs.Table.{Table, IsKnown};
 ghost use Rattle.lk_typed.specs.Addresses as spec;

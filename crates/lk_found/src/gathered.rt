@@ -1,5 +1,5 @@
 //! What specifiers tell together: their storage classes, the type that they name, and their codes (C99 6.7.1, 6.7.2).
-ghost use Rattle.std.specs.Prelude.{◌≡◌, ◌++◌, ◌∷◌, ◌||◌, [], List, Option, None, unwrap_or, if◌then◌else◌, OnOk, OnErr, IfOk, IfSome};
+ghost use Rattle.std.specs.Prelude.{◌≡◌, ◌++◌, ◌∷◌, ◌||◌, [], List, Option, None, unwrap_or, if◌then◌else◌, OnOk, IfOk, IfSome};
 ghost use Rattle.std.specs.Option.{option_map};
 ghost use Rattle.lk_types.specs.Table.{Table, IsKnown};
 ghost use Rattle.lk_typed.specs.DeclarationRules.{specifier_rules};

@@ -21,7 +21,6 @@ mod records;
 mod roles;
 mod ruled;
 mod shapes;
-mod structs;
 mod tagged;
 mod walked;
 
@@ -47,6 +46,5 @@ pub use ruled::{
     step_ruled,
 };
 pub use shapes::{LayerAt, Left, both, either};
-pub use structs::is_broken;
 pub use tagged::{admits, enum_breach, known_struct, tag_breach};
 pub use walked::{SizeFound, Walked};

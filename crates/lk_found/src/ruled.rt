@@ -10,7 +10,7 @@ ghost use Rattle.lk_typed.specs.Places.{arrow_rule, dot_rule, index_rule, prefix
 ghost use Rattle.lk_typed.specs.Ty.{Ty};
 ghost use Rattle.lk_typed.specs.Typing as spec;
 ghost use Rattle.lk_typed.specs.Typing.{Typing, with_one, with_two, with_type};
-ghost use Rattle.lk_typed.specs.Typings.{HasKnownFields, IsOperand, IsTyping, IsVerdict, structs_in};
+ghost use Rattle.lk_typed.specs.Typings.{HasKnownFields, IsOperand, IsTyping, structs_in};
 ghost use Rattle.lk_found.specs.declared.addresses.Address.TheVariants.{NotAddress};
 ghost use Rattle.lk_found.specs.Judging.{HasKnownType, HasOperand, IsPart, IsRuled};
 ghost use Rattle.lk_found.specs.Findings.{IsFoundTyping};

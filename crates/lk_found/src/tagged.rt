@@ -1,8 +1,8 @@
 //! What specifiers do with the tags and structs of a source (C99 6.7.2.1 to 6.7.2.3).
-ghost use Rattle.std.specs.Prelude.{◌≡◌, ◌<◌, [], ◌∷◌, length, IfOk, IfSome, OnOk};
+ghost use Rattle.std.specs.Prelude.{◌≡◌, ◌<◌, length, IfOk, IfSome};
 ghost use Rattle.std.specs.Option.{option_copied};
 ghost use Rattle.lk_types.specs.Table.{Table};
-ghost use Rattle.lk_typed.specs.Env.{Env, AStructTag, AnEnumTag, Begins, Completes, Begun};
+ghost use Rattle.lk_typed.specs.Env.{Env};
 ghost use Rattle.lk_typed.specs.HolderRules.{enum_rules, optional_tag_rules};
 ghost use Rattle.lk_typed.specs.Env.{look_up_tag};
 ghost use Rattle.lk_typed.specs.Redeclared.{may_use};

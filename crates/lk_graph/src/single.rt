@@ -1,7 +1,7 @@
 //! Which mutexes have one object.
-ghost use Rattle.std.specs.Prelude.{◌≡◌, ◌<◌, ◌≤◌, ◌↔◌, ℕ, Bool, true, Some, IfOk, IfSome, IsTrue, OnOk, length};
+ghost use Rattle.std.specs.Prelude.{◌≡◌, ◌<◌, ◌↔◌, ℕ, true, Some, IfOk, IfSome, IsTrue, OnOk, length};
 ghost use Rattle.lk_facts.specs.Lists.{Lists};
-ghost use Rattle.lk_facts.specs.Many.{IsEnteredOnce, IsLinear, Many};
+ghost use Rattle.lk_facts.specs.Many.{IsLinear, Many};
 ghost use Rattle.lk_facts.specs.Program.{IsLockPlace};
 ghost use Rattle.lk_graph.specs.Single.{ArePlaceNodes, IsLinearAt, IsOneAllocated, IsOneLocal, IsOneRoot};
 ghost use Rattle.lk_sets.specs.Adding.{Adds};

@@ -1,5 +1,5 @@
 //! Which locks are held once a point has run.
-ghost use Rattle.std.specs.Prelude.{◌≡◌, ◌<◌, ◌&&◌, ℕ, true, false, length, All, IfOk, OnOk};
+ghost use Rattle.std.specs.Prelude.{◌≡◌, ◌<◌, ◌&&◌, ℕ, true, false, length, IfOk, OnOk};
 ghost use Rattle.lk_facts.specs.Labels.{is_lock_at};
 ghost use Rattle.lk_held.specs.Acts.{basis_in};
 ghost use Rattle.lk_held.specs.Holding.{AreStates, AreAdded, AreAfter, AreBrought, Meets, is_in};

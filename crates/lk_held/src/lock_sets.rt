@@ -1,14 +1,14 @@
 //! The lock sets of a program.
-ghost use Rattle.std.specs.Prelude.{◌≡◌, ◌<◌, [], length, map, IfOk};
+ghost use Rattle.std.specs.Prelude.{◌≡◌, ◌<◌, length, map, IfOk};
 ghost use Rattle.std.specs.List.{range_with_len};
 ghost use Rattle.std.specs.List.Sorted.{IsStrictlyIncreasing};
 ghost use Rattle.lk_facts.specs.Facts.{basis_of};
 ghost use Rattle.lk_facts.specs.Held.{AreLockSets};
 ghost use Rattle.lk_facts.specs.Origins.{IsSetBelow, AreSetsBelow};
 ghost use Rattle.lk_held.specs.Acts.{basis_in};
-ghost use Rattle.lk_held.specs.Holding.{AreStates, AreHeld};
+ghost use Rattle.lk_held.specs.Holding.{AreStates};
 ghost use Rattle.lk_held.specs.LockSets.{out_set, AreKept};
-ghost use Rattle.lk_held.specs.Releasing.{AreReleased, AreDropped};
+ghost use Rattle.lk_held.specs.Releasing.{AreDropped};
 ghost use Rattle.lk_held.specs.States.{set_of};
 ghost use Rattle.lk_links.specs.Links.{AreLinks};
 

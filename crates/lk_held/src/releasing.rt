@@ -1,6 +1,6 @@
 //! Which locks each function may release.
 ghost use Rattle.std.specs.Prelude.{◌≡◌, ◌<◌, ℕ, true, ◌↔◌, [], length, replicate, ◌⊎◌, false, All, IfOk, OnOk};
-ghost use Rattle.lk_facts.specs.Held.{Drops, Released};
+ghost use Rattle.lk_facts.specs.Held.{Drops};
 ghost use Rattle.lk_graph.specs.Graph.{AreAllBelow};
 ghost use Rattle.lk_held.specs.Acts.{basis_in, OneRuns};
 ghost use Rattle.lk_held.specs.Progress.{Progress};

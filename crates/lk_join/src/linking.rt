@@ -1,5 +1,5 @@
 //! The program that sources make together.
-ghost use Rattle.std.specs.Prelude.{◌≡◌, ◌<◌, ◌^◌, [], IfErr, IfOk, Some, length};
+ghost use Rattle.std.specs.Prelude.{◌≡◌, ◌<◌, ◌^◌, IfErr, IfOk, Some, length};
 ghost use Rattle.lk_join.specs.Agreeing.{AreAgreed};
 ghost use Rattle.lk_join.specs.Entities.{AreEntityRows};
 ghost use Rattle.lk_join.specs.Program.{HasMainAt, IsFault, IsLinked, no_main, refusal_of};
@@ -11,37 +11,25 @@ ghost use Rattle.lk_link.specs.Sources.{AreSources};
 use crate::entities::{Joined, join_entities};
 use crate::numbers::number_structs;
 use crate::types::{Types, join_types};
-use lk_base::{Code, Fault, Name, NameFault, NoMemory, Refusal, Seq, Spot};
+use lk_base::{Code, Fault, Name, NoMemory, Refusal, Seq, Spot};
 use lk_link::{Clash, first_clash, has_main, resolve};
 use lk_typed::{Linked, TypedUnit, Whole};
 use lk_types::TypeId;
 use std::alloc::Global;
 
-/// A name without bytes.
-fn empty_name(alloc: Global) -> Result<Name, NoMemory>
-    ensures { IfOk result (λ name. name ≡ []) }
-{
-    match Name::from_bytes(alloc, b"") {
-        Ok(name) => Ok(name),
-        Err(NameFault::NoMemory) => Err(NoMemory),
-        Err(NameFault::TooLong) => unreachable!(),
-    }
-}
-
 /// That no source defines `main`: it is told at the beginning of the first source.
-fn no_main(alloc: Global) -> Result<Refusal, NoMemory>
-    ensures { IfOk result (λ refusal. refusal ≡ no_main) }
+fn no_main(alloc: Global) -> Refusal
+    ensures { result ≡ no_main }
 {
-    let name = empty_name(alloc)?;
-    Ok(Refusal {
+    Refusal {
         code: Code::NoMain,
         spot: Spot {
             file: 0,
             line: 1,
             col: 1,
         },
-        name,
-    })
+        name: Name::empty(alloc),
+    }
 }
 
 /// What speaks against the sources as a program, as it is told.
@@ -147,8 +135,7 @@ pub fn link(alloc: Global, units: Vec<TypedUnit>, externs: &[Name]) -> Result<Wh
     ensures err { IfErr result (IsFault units.items externs.now) }
 {
     if !has_main(units.as_slice()) {
-        let refusal = no_main(alloc)?;
-        return Err(Fault::Refused(refusal));
+        return Err(Fault::Refused(no_main(alloc)));
     }
     match first_clash(alloc, units.as_slice(), externs)? {
         Some(clash) => Err(Fault::Refused(refusal_of(clash))),

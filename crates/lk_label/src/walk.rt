@@ -1,5 +1,5 @@
 //! The walk through the nodes of a type.
-ghost use Rattle.std.specs.Prelude.{◌≡◌, ◌++◌, List, reverse, OnOk, IfOk, All};
+ghost use Rattle.std.specs.Prelude.{◌≡◌, ◌++◌, reverse, OnOk, IfOk};
 ghost use Rattle.lk_types.specs.Nodes.{IsNode};
 ghost use Rattle.lk_types.specs.Table.{IsKnown};
 ghost use Rattle.lk_facts.specs.Places.{IsMissing};

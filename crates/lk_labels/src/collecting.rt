@@ -2,7 +2,7 @@
 ghost use Rattle.std.specs.Prelude.{◌≡◌, IfOk, OnOk};
 ghost use Rattle.lk_typed.specs.Labels.{labels};
 ghost use Rattle.lk_labels.specs.Leasts.{AreLabels, put_labels};
-ghost use Rattle.lk_labels.specs.Parts.{labels_of_items, labels_of_optional};
+ghost use Rattle.lk_labels.specs.Parts.{labels_of_items};
 
 use crate::labels::Labels;
 use lk_base::{Boxed, NoMemory};

@@ -2,7 +2,7 @@
 ghost use Rattle.std.specs.Prelude.{◌≡◌, ◌<◌, ◌↔◌, ℕ, true, Some, length, All, IfOk, IfSome};
 ghost use Rattle.std.specs.List.{filter_map};
 ghost use Rattle.lk_facts.specs.Facts.{basis_of};
-ghost use Rattle.lk_facts.specs.Program.{live_at, function_at, effect_at};
+ghost use Rattle.lk_facts.specs.Program.{live_at, effect_at};
 ghost use Rattle.lk_facts.specs.declared.effect.Effect.TheVariants.{RunsThrough};
 ghost use Rattle.lk_links.specs.Links.{AreLinks, AreLinksAt, links_at};
 ghost use Rattle.lk_links.specs.Making.{MayPointTo, entering, function_named, value_link};

@@ -1,6 +1,6 @@
 //! What a label inside a function is to whoever goes into it, and what a lock set holds for a lock. Labels are given by
 //! their numbers.
-ghost use Rattle.std.specs.Prelude.{◌≡◌, ◌<◌, ◌++◌, ◌⊎◌, ℕ, true, ◌↔◌, IsTrue, IfSome, IfOk, OnOk, All, length};
+ghost use Rattle.std.specs.Prelude.{◌≡◌, ◌<◌, ◌++◌, ℕ, true, ◌↔◌, IsTrue, IfSome, IfOk, OnOk, All, length};
 ghost use Rattle.std.specs.List.{flat_map};
 ghost use Rattle.lk_facts.specs.Flow.{IsOnly, Over, IsHeldAs, RisesAs, Clash};
 ghost use Rattle.lk_facts.specs.Lists.{Lists};

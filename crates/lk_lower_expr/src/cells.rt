@@ -1,5 +1,5 @@
 //! The nodes of the cells of objects.
-ghost use Rattle.std.specs.Prelude.{◌≡◌, ◌+◌, ◌<◌, length};
+ghost use Rattle.std.specs.Prelude.{◌≡◌, ◌<◌};
 ghost use Rattle.lk_lower_expr.specs.Cells as spec;
 ghost use Rattle.lk_types.specs.Table.{type_at};
 

@@ -1,5 +1,5 @@
 //! The steps of an expression and of what is inside it, with their names.
-ghost use Rattle.std.specs.Prelude.{◌≡◌, ◌++◌, ◌∷◌, [], map, OnOk};
+ghost use Rattle.std.specs.Prelude.{◌≡◌, ◌∷◌, [], map, OnOk};
 ghost use Rattle.lk_lower_expr.specs.Expressions.{library_part};
 ghost use Rattle.lk_lower_expr.specs.Laid.{laid};
 ghost use Rattle.lk_lower_expr.specs.Naming.{at_of, node_of};

@@ -3,9 +3,9 @@ ghost use Rattle.std.specs.Prelude.{◌≡◌, ◌<◌, ◌++◌, ◌∷◌, [],
 ghost use Rattle.lk_lower_parts.specs.Gathers.{IsBegun, argument, node_of, root_of, slot_nodes, types_of};
 
 use crate::counts::count_of;
-use crate::roots::{NodeRoot, NodeSlot, SourceParts, no_name};
+use crate::roots::{NodeRoot, NodeSlot, SourceParts};
 use crate::types::ArgumentTypes;
-use lk_base::{NoMemory, Seq, Spot};
+use lk_base::{Name, NoMemory, Seq, Spot};
 use lk_facts::{Root, RootKind};
 use lk_types::TypeId;
 use std::alloc::Global;
@@ -62,18 +62,18 @@ fn put(list: &mut Vec<u32>, place: u32, number: usize) -> Result<(), NoMemory> {
 }
 
 /// A root of main's arguments.
-fn argument(alloc: Global, kind: RootKind, ty: TypeId, spot: Spot) -> Result<Root, NoMemory>
-    ensures { IfOk result (λ root. root ≡ argument kind ty spot) }
+fn argument(alloc: Global, kind: RootKind, ty: TypeId, spot: Spot) -> Root
+    ensures { result ≡ argument kind ty spot }
 {
-    Ok(Root {
+    Root {
         kind,
         ty,
         spot,
-        name: no_name(alloc)?,
+        name: Name::empty(alloc),
         function: None,
         point: None,
         bytes: Seq::new(Vec::new(alloc)),
-    })
+    }
 }
 
 /// Puts a root of a source behind others, and its number at its node.
@@ -177,9 +177,9 @@ impl Gathering {
     {
         let mut roots = Vec::new(alloc);
         if let Some(types) = arguments {
-            let argv = argument(alloc, RootKind::Argv, types.strings, spot)?;
+            let argv = argument(alloc, RootKind::Argv, types.strings, spot);
             roots.push(argv)?;
-            let args = argument(alloc, RootKind::Args, types.chars, spot)?;
+            let args = argument(alloc, RootKind::Args, types.chars, spot);
             roots.push(args)?;
         }
         Ok(Gathering {

@@ -1,5 +1,5 @@
 //! The Parts of `void`.
-ghost use Rattle.std.specs.Prelude.{◌≡◌, IfOk, IfSome, OnOk, length};
+ghost use Rattle.std.specs.Prelude.{◌≡◌, IfOk, OnOk};
 ghost use Rattle.lk_lower_parts.specs.Parts as spec;
 ghost use Rattle.lk_lower_parts.specs.Parts.{AreMarkedParts, AreVoidPartsOf, IsWith, by_conversion, given_of, is_void_type, target_of};
 ghost use Rattle.lk_types.specs.Table.{least_of};

@@ -14,7 +14,7 @@ use crate::names::number_at;
 use crate::owned::{Finding, Owned, OwnedNode};
 use crate::start::{first_of, source_of};
 use crate::types::unsized_array;
-use lk_base::{Name, NameFault, NoMemory, Seq, Spot};
+use lk_base::{Name, NoMemory, Seq, Spot};
 use lk_facts::{Root, RootKind};
 use lk_typed::{Body, Declaration, Entity, EntityKind, Linkage, Linked, Local, Whole, WholeEntity};
 use lk_types::{TypeId, TypeTable};
@@ -88,16 +88,6 @@ pub fn source_at<'a>(
         first,
         points,
     })
-}
-
-/// The empty name.
-pub(crate) fn no_name(alloc: Global) -> Result<Name, NoMemory>
-    ensures { IfOk result (λ name. name ≡ []) }
-{
-    match Name::from_bytes(alloc, b"") {
-        Ok(name) => Ok(name),
-        Err(NameFault::TooLong | NameFault::NoMemory) => Err(NoMemory),
-    }
 }
 
 /// An object of external linkage is a global, each other one of static storage is static.
@@ -309,7 +299,7 @@ impl<'a> SourceAt<'a> {
                 kind: RootKind::Text,
                 ty: self.type_here(node.ty)?,
                 spot: node.spot,
-                name: no_name(self.alloc)?,
+                name: Name::empty(self.alloc),
                 function: None,
                 point: None,
                 bytes: closed(self.alloc, bytes)?,
@@ -333,7 +323,7 @@ impl<'a> SourceAt<'a> {
                 kind: RootKind::Heap { one },
                 ty,
                 spot: node.spot,
-                name: no_name(self.alloc)?,
+                name: Name::empty(self.alloc),
                 function,
                 point: Some(number_at(self.points, node.ordinal)),
                 bytes: Seq::new(Vec::new(self.alloc)),

@@ -3,7 +3,7 @@ ghost use Rattle.std.specs.Prelude.{◌≡◌, ◌++◌, ◌+◌, [], map, IfOk,
 ghost use Rattle.lk_lower_expr.specs.Laid.{laid};
 ghost use Rattle.lk_lower_expr.specs.Naming.{AreFew, names_of};
 ghost use Rattle.lk_lower_expr.specs.Statements.{body_walk};
-ghost use Rattle.lk_lower_unit.specs.Bodies.{IsSameSource, all_standing, cell_place, named_local, names_by_locals, places_by_locals, standing, steps_of_bodies, steps_of_static, steps_of_statics, walk_of_body};
+ghost use Rattle.lk_lower_unit.specs.Bodies.{IsSameSource, all_standing, named_local, names_by_locals, places_by_locals, standing, steps_of_bodies, steps_of_static, steps_of_statics, walk_of_body};
 ghost use Rattle.lk_lower_unit.specs.Stands.{AreSteps};
 ghost use Rattle.lk_lower_unit.specs.Tables.{StandInPrograms};
 

@@ -3,7 +3,6 @@ ghost use Rattle.std.specs.Prelude.{◌≡◌, ℕ, ◌==◌, ◌<◌, ◌≤◌
 ghost use Rattle.lk_sets.specs.Adding.{Adds, IsGiven};
 ghost use Rattle.lk_sets.specs.Closing.{Going, Grows};
 ghost use Rattle.lk_sets.specs.Rows.{has};
-ghost use Rattle.lk_sets.specs.Spread.{IsWithin};
 ghost use Rattle.lk_facts.specs.Labels.{is_global_at};
 ghost use Rattle.lk_facts.specs.PathTables.{AreEdgesWithin, AreLevels};
 ghost use Rattle.lk_match.specs.Levels.{IsPassedOn, AreSound, AreClosed};

@@ -1,5 +1,5 @@
 //! An order of arrows in which few rounds pass all rows on.
-ghost use Rattle.std.specs.Prelude.{◌≡◌, ◌↔◌, Contains, IfOk};
+ghost use Rattle.std.specs.Prelude.{◌↔◌, Contains, IfOk};
 ghost use Rattle.lk_sets.specs.declared.spread.Arrow.{Arrow};
 
 use lk_base::NoMemory;

@@ -1,5 +1,5 @@
 //! What a step changes in the state.
-ghost use Rattle.std.specs.Prelude.{◌≡◌, ◌<◌, ◌+◌, ◌^◌, length, OnOk, OnErr, Some, slice_get, slice_set};
+ghost use Rattle.std.specs.Prelude.{◌≡◌, ◌<◌, ◌+◌, ◌^◌, length, OnOk, OnErr, Some, slice_set};
 ghost use Rattle.lk_birth.specs.Births as births;
 ghost use Rattle.lk_meaning.specs.After as spec;
 ghost use Rattle.lk_meaning.specs.Full.{objects_by, objects_made};

@@ -1,9 +1,6 @@
 //! The arrows along which origins flow.
-ghost use Rattle.std.specs.Prelude.{◌≡◌, ℕ, ◌↔◌, ◌⊎◌, All, Contains, IfOk, OnOk};
-ghost use Rattle.lk_facts.specs.PathTables.{IsEdgeWithin};
-ghost use Rattle.lk_match.specs.Summaries.{IsSummaryWithin};
+ghost use Rattle.std.specs.Prelude.{◌≡◌, ◌↔◌, Contains, IfOk, OnOk};
 ghost use Rattle.lk_sets.specs.Adding.{Adds, IsGiven};
-ghost use Rattle.lk_sets.specs.Spread.{IsWithin};
 ghost use Rattle.lk_origin.specs.Arrows.{passes, IsAlong, Flows, IsArrow};
 ghost use Rattle.lk_sets.specs.declared.spread.Arrow.{Arrow};
 

@@ -1,5 +1,5 @@
 //! What crosses each site.
-ghost use Rattle.std.specs.Prelude.{◌≡◌, ℕ, ◌+◌, ◌++◌, ◌<◌, ◌≤◌, ◌^◌, ◌↔◌, ◌⊎◌, true, List, All, Contains, IfOk, OnOk, length};
+ghost use Rattle.std.specs.Prelude.{◌≡◌, ℕ, ◌+◌, ◌++◌, ◌<◌, ◌≤◌, ◌^◌, ◌↔◌, true, All, IfOk, OnOk};
 ghost use Rattle.std.specs.List.Sorted.{IsStrictlyIncreasing};
 ghost use Rattle.lk_facts.specs.Origins.{outside_of, IsSetBelow, IsCrossingInRange};
 ghost use Rattle.lk_facts.specs.PathTables.{IsEdgeWithin};
@@ -8,7 +8,7 @@ ghost use Rattle.lk_facts.specs.declared.edge.Mark.TheVariants.{Enter};
 ghost use Rattle.lk_match.specs.declared.passage.Passage.{Passage};
 ghost use Rattle.lk_sets.specs.Ids.{has_id};
 ghost use Rattle.lk_sets.specs.Rows.{has, row_of};
-ghost use Rattle.lk_sets.specs.Adding.{Adds, IsGiven};
+ghost use Rattle.lk_sets.specs.Adding.{IsGiven};
 ghost use Rattle.lk_origin.specs.Crossings.{IsPassageWithin, LeadsTo, LeadsInto, crossed_of};
 
 use crate::inflow::{inflows, outside_at};

@@ -1,6 +1,6 @@
 //! All and Inner, as the least relations that origins flow into.
-ghost use Rattle.std.specs.Prelude.{◌≡◌, ℕ, ◌==◌, ◌&&◌, ◌||◌, ◌<◌, ◌≤◌, ◌↔◌, true, List, All, Contains, IfOk, OnOk, length};
-ghost use Rattle.lk_facts.specs.Labels.{is_global_at, is_origin_at};
+ghost use Rattle.std.specs.Prelude.{◌≡◌, ℕ, ◌==◌, ◌&&◌, ◌||◌, ◌<◌, true, List, All, IfOk, OnOk, length};
+ghost use Rattle.lk_facts.specs.Labels.{is_origin_at};
 ghost use Rattle.lk_facts.specs.Origins.{flow_of};
 ghost use Rattle.lk_facts.specs.PathTables.{AreEdgesWithin, AreLevels, IsFlowOf};
 ghost use Rattle.lk_sets.specs.Rows.{has};

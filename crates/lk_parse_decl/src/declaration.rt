@@ -1,5 +1,5 @@
 //! Declarations.
-ghost use Rattle.std.specs.Prelude.{◌≡◌, false};
+ghost use Rattle.std.specs.Prelude.{false};
 ghost use Rattle.lk_parse_decl.specs.Reading as spec;
 ghost use Rattle.lk_parse_expr.specs.Parts.{behind};
 ghost use Rattle.lk_parse_expr.specs.Readers.{Gives, separated_from};

@@ -1,5 +1,5 @@
 //! The tokens that are left to be read, with the names in scope.
-ghost use Rattle.std.specs.Prelude.{if◌then◌else◌, ◌≤◌, Ok, ◌≡◌, ◌≢◌, ◌∷◌, ◌++◌, [], length, take, drop, IfOk, IfErr, OnOk};
+ghost use Rattle.std.specs.Prelude.{if◌then◌else◌, ◌≤◌, Ok, ◌≡◌, ◌≢◌, ◌++◌, [], length, take, drop, IfOk, IfErr, OnOk};
 ghost use Rattle.lk_lex.specs.Texts.{text_value};
 ghost use Rattle.lk_parse_expr.specs.Input as spec;
 ghost use Rattle.lk_parse_expr.specs.Input.{AreInside};

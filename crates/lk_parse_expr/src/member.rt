@@ -1,5 +1,4 @@
 //! Type names, parameters, and the members and items of structs and enumerations.
-ghost use Rattle.std.specs.Prelude.{◌≡◌};
 ghost use Rattle.lk_parse_expr.specs.Input as input;
 ghost use Rattle.lk_parse_expr.specs.Nests.{NestsExpr};
 ghost use Rattle.lk_parse_expr.specs.NestsTypes.{NestsDeclarator, NestsMember, NestsItem};

@@ -4,7 +4,6 @@
 //! with 13 where no tree
 //! goes on with the next token, and with 14 where only trees that are too deep do. After a refusal the cursor
 //! is at no place of use.
-ghost use Rattle.std.specs.Prelude.{◌≡◌};
 ghost use Rattle.lk_parse_expr.specs.Reading as spec;
 ghost use Rattle.lk_parse_expr.specs.Readers.{Gives};
 

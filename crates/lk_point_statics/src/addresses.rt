@@ -1,6 +1,5 @@
 //! What the points of static initialisers point to (C99 6.6, 9), read back from a point to the object.
 ghost use Rattle.std.specs.Prelude.{◌≡◌, ◌↔◌, ◌<◌, ℕ, ℤ, IfSome, IsTrue, MatchOption, Some, length};
-ghost use Rattle.lk_facts.specs.InRange.{IsInRange};
 ghost use Rattle.lk_facts.specs.Initials.{GivesFunction, IsNumber};
 ghost use Rattle.lk_facts.specs.declared.action.Action.TheVariants.{Binary, Index};
 ghost use Rattle.lk_point_statics.specs.Asking.{IsAskedFor};

@@ -1,5 +1,5 @@
 //! What points access.
-ghost use Rattle.std.specs.Prelude.{◌≡◌, ◌<◌, ℕ, length, IfSome};
+ghost use Rattle.std.specs.Prelude.{◌<◌, ℕ, length, IfSome};
 ghost use Rattle.lk_facts.specs.Doing.{Accesses};
 ghost use Rattle.lk_facts.specs.Facts.{basis_of};
 ghost use Rattle.lk_links.specs.Only.{IsTheOne};

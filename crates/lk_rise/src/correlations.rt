@@ -3,7 +3,7 @@ ghost use Rattle.std.specs.Prelude.{◌≡◌, ◌<◌, ◌^◌, [], Some, lengt
 ghost use Rattle.std.specs.List.Sorted.{IsStrictlyIncreasing};
 ghost use Rattle.std.specs.Option.{option_copied, option_map};
 ghost use Rattle.lk_rise.specs.Correlations.{AreCorrelations, set_of};
-ghost use Rattle.lk_rise.specs.Tables.{IsLeft, IsWithin, Offered, item_at};
+ghost use Rattle.lk_rise.specs.Tables.{IsLeft, IsWithin, Offered};
 
 use indexmap::IndexMap;
 use lk_base::NoMemory;

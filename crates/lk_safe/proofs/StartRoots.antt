@@ -6,11 +6,11 @@ use Rattle.std.proofs.lemmas.Option.{none-some, same_Some, slice_get-map}
 use Rattle.std.specs.Option.{option_map, option_map_or}
 use Rattle.std.specs.Prelude.{slice_get}
 use Rattle.lk_birth.specs.Births.{argument, bare_local, is_root, listed, local_object, local_objects, locals_of}
-use Rattle.lk_birth.specs.Starts.{is_args, root_of, string_object, strings_of, string_objects, static_object, with_pointers, object_of_kind, object_at_start, objects_below, bare_objects, first_objects}
+use Rattle.lk_birth.specs.Starts.{root_of, string_object, strings_of, string_objects, static_object, with_pointers, object_of_kind, object_at_start, objects_below, bare_objects, first_objects}
 use Rattle.lk_cells.specs.Cells.{with_value}
 use Rattle.lk_cells.specs.declared.object.Object.{Object}
 use Rattle.lk_facts.specs.Many.{IsOneOfKind}
-use Rattle.lk_facts.specs.Program.{root_at}
+use Rattle.lk_facts.specs.Program.{is_args, root_at}
 use Rattle.lk_facts.specs.declared.program.Program.{Program}
 use Rattle.lk_facts.specs.declared.root.Root.{Root}
 use Rattle.lk_facts.specs.declared.root.RootKind.{RootKind}

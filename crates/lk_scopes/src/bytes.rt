@@ -1,5 +1,5 @@
 //! Bytes of a source, as the name that they would make.
-ghost use Rattle.std.specs.Prelude.{nat_eq, ◌≡◌};
+ghost use Rattle.std.specs.Prelude.{nat_eq};
 ghost use Rattle.std.specs.Cmp.Lexicographic.{pointwise, bytes_decides, nat_list_eq_equiv};
 ghost use Rattle.std.specs.Hash as fed;
 ghost use Rattle.std.proofs.Common.{ap};

@@ -1,5 +1,5 @@
 //! Bits in slices of words, the low bit of a word first.
-ghost use Rattle.std.specs.Prelude.{◌≡◌, ℕ, Bool, true, false, ◌+◌, ◌*◌, ◌/◌, ◌^◌, ◌<◌, ◌≤◌, ◌==◌, ◌||◌, ◌⊎◌, length, not, MatchOption, IfSome};
+ghost use Rattle.std.specs.Prelude.{◌≡◌, ℕ, true, false, ◌+◌, ◌*◌, ◌/◌, ◌^◌, ◌<◌, ◌≤◌, ◌==◌, ◌||◌, ◌⊎◌, length, not, MatchOption};
 ghost use Rattle.lk_sets.specs.Words.{bit_in, IsJoined, AddsBit, AreClear, IsFirstBit};
 
 /// Whether a bit is 1.

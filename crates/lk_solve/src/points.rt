@@ -1,11 +1,8 @@
 //! The whole analysis of the points of a program.
-ghost use Rattle.std.specs.Prelude.{◌≡◌, ◌↔◌, Err, IfOk, OnOk};
+ghost use Rattle.std.specs.Prelude.{◌≡◌, Err, IfOk, OnOk};
 ghost use Rattle.lk_facts.specs.Analysis.{AreVerdictsOf};
-ghost use Rattle.lk_facts.specs.EdgeRules.{AreEdges};
 ghost use Rattle.lk_facts.specs.Facts.{basis_of, facts_of};
 ghost use Rattle.lk_facts.specs.LabelRules.{AreLabels, HasMoreLabels};
-ghost use Rattle.lk_facts.specs.Origins.{flow_of};
-ghost use Rattle.lk_facts.specs.PathTables.{AreEdgesWithin, AreLevels, IsFlowOf};
 ghost use Rattle.lk_graph.specs.Single.{ArePlaceNodes};
 ghost use Rattle.lk_solve.specs.Verdicts.{HasFlow, HasVerdicts};
 ghost use Rattle.lk_solve.specs.declared.fault.SolveFault.TheVariants.{TooManyLabels};

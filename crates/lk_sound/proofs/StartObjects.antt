@@ -11,14 +11,14 @@ use Rattle.lk_base.specs.declared.cell.CellStep.TheVariants.{Index}
 use Rattle.lk_base.specs.declared.kind.Kind.{Kind}
 use Rattle.lk_birth.specs.Begins.{StartsRight}
 use Rattle.lk_birth.specs.Births.{changed_at, listed}
-use Rattle.lk_birth.specs.Starts.{static_object, is_args, root_of, string_object, strings_of, string_objects, object_of_kind, object_at_start, objects_below, bare_objects, first_value_of, first_in, with_first, initialised, first_objects}
+use Rattle.lk_birth.specs.Starts.{static_object, root_of, string_object, strings_of, string_objects, object_of_kind, object_at_start, objects_below, bare_objects, first_value_of, first_in, with_first, initialised, first_objects}
 use Rattle.lk_cells.specs.Cells.{form_at, int_kind, object_of_root, with_value}
 use Rattle.lk_cells.specs.declared.object.Object.{Object}
 use Rattle.lk_facts.specs.EdgeRules.{IsRootOf}
 use Rattle.lk_facts.specs.Initials.{IsWritten}
 use Rattle.lk_facts.specs.Labels.{LabelTable}
 use Rattle.lk_facts.specs.Lowered.{HasPart, MayBegin}
-use Rattle.lk_facts.specs.Program.{root_at}
+use Rattle.lk_facts.specs.Program.{root_at, is_args}
 use Rattle.lk_facts.specs.Typed.{IsForm}
 use Rattle.lk_facts.specs.declared.edge.Edge.{Edge}
 use Rattle.lk_facts.specs.declared.initial.Initial.{Initial}

@@ -8,7 +8,7 @@ use Rattle.std.specs.Prelude.{slice_get}
 use Rattle.lk_base.specs.declared.cell.CellStep.TheVariants.{Index}
 use Rattle.lk_birth.specs.Begins.{StartsRight}
 use Rattle.lk_birth.specs.Births.{argument, is_root, local_object, local_objects, bare_local, locals_of, made_for, new_thread}
-use Rattle.lk_birth.specs.Starts.{is_args, is_argv, root_of, string_object, strings_of, string_objects, bare_objects, first_objects, main_args, with_main, without_threads, started}
+use Rattle.lk_birth.specs.Starts.{root_of, string_object, strings_of, string_objects, bare_objects, first_objects, main_args, with_main, without_threads, started}
 use Rattle.lk_cells.specs.Cells.{object_of_root, with_value}
 use Rattle.lk_cells.specs.declared.object.Object.{Object}
 use Rattle.lk_cells.specs.declared.state.Frame.{Frame}
@@ -20,7 +20,7 @@ use Rattle.lk_facts.specs.LabelRules.{IsPart, IsWhole}
 use Rattle.lk_facts.specs.LabelRules.IsWithin.{start as within_start, part as within_part}
 use Rattle.lk_facts.specs.Labels.{LabelTable}
 use Rattle.lk_facts.specs.Lowered.{IsArgument}
-use Rattle.lk_facts.specs.Program.{entry_of, parameter_of}
+use Rattle.lk_facts.specs.Program.{entry_of, parameter_of, is_args, is_argv}
 use Rattle.lk_facts.specs.Walks.Walk.{start}
 use Rattle.lk_facts.specs.declared.edge.Edge.{Edge}
 use Rattle.lk_facts.specs.declared.edge.Mark.TheVariants.{Plain}

@@ -1,5 +1,5 @@
 //! What the rules ask of a type.
-ghost use Rattle.std.specs.Prelude.{◌≡◌, ℕ, IfSome};
+ghost use Rattle.std.specs.Prelude.{◌≡◌, IfSome};
 ghost use Rattle.std.specs.Option.{option_map};
 ghost use Rattle.lk_types.specs.Building.{IsMadeOf};
 ghost use Rattle.lk_types.specs.Table.{IsKnown};

@@ -1,5 +1,4 @@
 //! What is known of an expression that has a type.
-ghost use Rattle.std.specs.Prelude.{◌≡◌};
 ghost use Rattle.lk_types.specs.Table.{Table};
 ghost use Rattle.lk_typed.specs.Typing as spec;
 ghost use Rattle.lk_typed.specs.Meaning.{meaning_of, IsKnownType, IsReady};

@@ -1,5 +1,5 @@
 //! When two types count as one although an array in them has another size.
-ghost use Rattle.std.specs.Prelude.{◌≡◌, ◌↔◌, IsTrue, All};
+ghost use Rattle.std.specs.Prelude.{◌↔◌, IsTrue, All};
 ghost use Rattle.lk_types.specs.Table.{IsKnown, HasKnown};
 ghost use Rattle.lk_types.specs.Equal.{IsAlike, IsRedeclarable, AreMadeAlike, AreEqualBut, SizesOrNone};
 

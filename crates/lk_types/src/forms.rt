@@ -1,5 +1,5 @@
 //! Forms of types in the order in which they came, each with something that is kept of it.
-ghost use Rattle.std.specs.Prelude.{◌≡◌, ◌<◌, ◌++◌, ◌∷◌, [], length, slice_get, take, Some, IfOk, IfSome, OnOk, OnErr, MatchOption, ⊤};
+ghost use Rattle.std.specs.Prelude.{◌≡◌, ◌<◌, ◌++◌, ◌∷◌, [], length, slice_get, take, Some, IfOk, OnOk, OnErr, MatchOption};
 ghost use Rattle.lk_types.specs.Forms.{IsAbsent, AreApart, IsAt};
 
 use crate::c_type::CType;

@@ -1,5 +1,5 @@
 //! How large the walk of a type is.
-ghost use Rattle.std.specs.Prelude.{◌≡◌, ◌↔◌, IsTrue, false};
+ghost use Rattle.std.specs.Prelude.{◌≡◌, false};
 ghost use Rattle.lk_types.specs.Sizes.{is_too_large, with_part, Fits};
 
 use lk_base::{MOST_TYPE_NODES, MOST_TYPE_STEPS};

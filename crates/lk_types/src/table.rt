@@ -1,5 +1,5 @@
 //! The table of types.
-ghost use Rattle.std.specs.Prelude.{IsTrue, ℕ, ◌≡◌, ◌↔◌, ◌<◌, ◌≤◌, length, slice_get, Some, false};
+ghost use Rattle.std.specs.Prelude.{IsTrue, ℕ, ◌≡◌, ◌↔◌, ◌<◌, length, slice_get, Some, false};
 ghost use Rattle.lk_types.specs.Table.{IsKnown, members_of, least_of};
 ghost use Rattle.lk_types.specs.Walks.{holds_struct};
 ghost use Rattle.lk_types.specs.Sizes.{size_at, is_too_large, HasLowerParts};

@@ -1,11 +1,10 @@
 //! The numbers of nodes in the walk of a type.
 ghost use Rattle.std.specs.Prelude.{◌≡◌, ◌↔◌, IsTrue, ◌<◌, ◌≤◌, ◌+◌, length, slice_get, Some, None, IfSome, IfOk, MatchOption};
 ghost use Rattle.std.specs.Option.{option_map};
-ghost use Rattle.lk_types.specs.Table.{IsKnown, type_at, fields_of, least_of};
+ghost use Rattle.lk_types.specs.Table.{IsKnown, type_at, fields_of};
 ghost use Rattle.lk_types.specs.Walks.{has_tag, branches, fields};
 ghost use Rattle.lk_types.specs.Building.{IsTable};
-ghost use Rattle.lk_types.specs.Sizes.{nodes_of};
-ghost use Rattle.lk_types.specs.Nodes.{IsNode, Node, node_of, first, step, base_type, is_void_tag, has_part, part_of_void, IsBase, IsSel, HasNoElement};
+ghost use Rattle.lk_types.specs.Nodes.{IsNode, node_of, first, step, is_void_tag, part_of_void, IsBase, IsSel, HasNoElement};
 ghost use Rattle.lk_types.specs.Places.{entry_at, is_node, branch_of, step_inside, IsInPart, IsWay, IsPlaceOfField};
 ghost use Rattle.lk_types.specs.declared.node.Base.TheVariants.{Start, Tag};
 ghost use Rattle.lk_types.specs.declared.node.Sel.TheVariants.{Target, Element, Field};

@@ -1,10 +1,10 @@
 //! How a table of types is built.
-ghost use Rattle.std.specs.Prelude.{◌≡◌, ◌↔◌, IsTrue, ℕ, ⊤, All, map, ◌<◌, ◌++◌, ◌∷◌, [], length, slice_get, true, false, Some, IfOk, OnOk, OnErr, MatchOption};
+ghost use Rattle.std.specs.Prelude.{◌≡◌, ◌↔◌, IsTrue, ℕ, All, map, ◌<◌, ◌++◌, ◌∷◌, [], length, slice_get, true, false, Some, IfOk, OnOk, OnErr};
 ghost use Rattle.lk_types.specs.Table.{IsKnown, is_complete, least_of};
 ghost use Rattle.lk_types.specs.Walks.{holds, holds_struct};
 ghost use Rattle.lk_types.specs.Kept.{key_form};
 ghost use Rattle.lk_types.specs.Predeclared.{first_table};
-ghost use Rattle.lk_types.specs.Sizes.{size_at, form_size, fields_size, with_part, with_types, start_size, is_too_large, Fits};
+ghost use Rattle.lk_types.specs.Sizes.{size_at, form_size, fields_size, with_part, with_types, is_too_large, Fits};
 ghost use Rattle.lk_types.specs.Building.{IsForm, IsPassed, IsPartOfObjects, IsPut, IsAdded, types_of, IsLonger, CanComplete, with_members};
 
 use super::TypeTable;

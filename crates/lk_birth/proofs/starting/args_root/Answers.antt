@@ -1,5 +1,5 @@
 use Rattle.std.proofs.Common.{sym, ◌∙◌}
-use Rattle.lk_birth.specs.Starts.{is_args}
+use Rattle.lk_facts.specs.Program.{is_args}
 use Rattle.lk_birth.proofs.Loops.{position_after}
 use Rattle.lk_birth.proofs.starting.args_root.Goals as goal
 

@@ -1,5 +1,5 @@
 use Rattle.std.proofs.Common.{sym, ◌∙◌}
-use Rattle.lk_birth.specs.Starts.{is_argv}
+use Rattle.lk_facts.specs.Program.{is_argv}
 use Rattle.lk_birth.proofs.Loops.{position_after}
 use Rattle.lk_birth.proofs.starting.argv_root.Goals as goal
 

@@ -1,6 +1,7 @@
 use Rattle.std.proofs.Common.{◌≡◌, drop}
 use Rattle.std.specs.List.{position_from}
-use Rattle.lk_birth.specs.Starts.{is_argv, root_of}
+use Rattle.lk_birth.specs.Starts.{root_of}
+use Rattle.lk_facts.specs.Program.{is_argv}
 use Rattle.lk_birth.proofs.starting.argv_root.Given as goal
 
 abbrev pub invariant-loop-root : goal.invariant-loop-root

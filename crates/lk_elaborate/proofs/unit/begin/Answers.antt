@@ -6,9 +6,9 @@ use Rattle.lk_elaborate.proofs.unit.begin.Goals as goal
 
 pub returns-clause-whole : goal.returns-clause-whole
 returns-clause-whole c =
-    still_there c.has_whole_structs-whole.result c.new.result c.and.result c.and.ensures (HasWholeStructs c.args.checked) c.has_whole_structs-whole.ensures
+    still_there c.ensure_whole_structs-whole.result c.new.result c.and.result c.and.ensures (HasWholeStructs c.args.checked) c.ensure_whole_structs-whole.ensures
 
 pub returns-clause-begins : goal.returns-clause-begins
 returns-clause-begins c =
-    let_through c.has_whole_structs-whole.result c.new.result c.and.result c.and.ensures (Begins c.args.checked)
-    (on_ok_weaker c.has_whole_structs-whole.result (λ whole. c.new.ensures) c.has_whole_structs-whole.ensures)
+    let_through c.ensure_whole_structs-whole.result c.new.result c.and.result c.and.ensures (Begins c.args.checked)
+    (on_ok_weaker c.ensure_whole_structs-whole.result (λ whole. c.new.ensures) c.ensure_whole_structs-whole.ensures)

@@ -3,7 +3,7 @@ use Rattle.lk_join.proofs.linking.link.Goals as goal
 
 pub returns-then-not-has_main-clause-err : goal.returns-then-not-has_main-clause-err
 returns-then-not-has_main-clause-err c =
-    refused_without c.args.units.items c.as_slice.result.now c.as_slice.ensures.value c.args.externs.now c.has_main.result c.in_ok-refusal.refusal c.has_main.ensures c.if-not-has_main.true c.in_ok-refusal.ensures
+    refused_without c.args.units.items c.as_slice.result.now c.as_slice.ensures.value c.args.externs.now c.has_main.result c.no_main.result c.has_main.ensures c.if-not-has_main.true c.no_main.ensures
 
 pub returns-in-Some-clause-err : goal.returns-in-Some-clause-err
 returns-in-Some-clause-err c =

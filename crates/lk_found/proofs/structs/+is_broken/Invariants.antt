@@ -1,4 +1,0 @@
-use Rattle.lk_found.proofs.structs.+is_broken.Given as goal
-
-abbrev pub decreases-is_broken : goal.decreases-is_broken
-decreases-is_broken l = l.t
