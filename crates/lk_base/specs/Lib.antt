@@ -1,5 +1,6 @@
 pub mod Code
 pub mod Files
+pub mod Lending
 pub mod Status
 pub mod Steps
 pub mod formers

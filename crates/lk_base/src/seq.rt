@@ -27,6 +27,10 @@ impl<T> Model for Seq<T> {
 }
 
 impl<T> Seq<T> {
+    ghost use Rattle.std.specs.Borrow.{Array, Lends, sem};
+    ghost use Rattle.lk_base.specs.Lending.{written};
+    ghost use Rattle.lk_base.specs.contracts.seq.Seq.{the_row};
+
     /// The elements of the `Vec`. It takes no memory.
     pub fn new(inner: Vec<T>) -> Seq<T>
         ensures { result ≡ inner.items }
@@ -39,6 +43,14 @@ impl<T> Seq<T> {
         ensures { result.now ≡ self.now }
     {
         self.inner.as_slice()
+    }
+
+    /// The elements, as a slice for writing.
+    pub fn list_mut(&mut self) -> &mut [T]
+        ensures* writes_back { sem 𝓛 (Lends (the_row T.row) (Array T.row 0) self.entry result (written self.old)) }
+        ensures value { result.now ≡ self.old }
+    {
+        self.inner.as_mut_slice()
     }
 
     /// The elements, as a `Vec`. It takes no memory.

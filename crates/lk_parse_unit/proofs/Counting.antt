@@ -29,7 +29,7 @@ use Rattle.lk_tree.specs.declared.statement.BlockItem.{BlockItem}
 use Rattle.lk_tree.specs.declared.statement.ForFirst.{ForFirst}
 use Rattle.lk_tree.specs.declared.statement.Decl.{Decl}
 use Rattle.lk_tree.specs.Numbers.{Numbered, list, list_of, optional, optional_of, expr, declarator, specifier, initialiser, statement, declare, of_designator, of_init_declarator, of_first, of_decl}
-use Rattle.lk_parse_unit.specs.Parts.{item, member, member_declarator, parameter, type_name, entry, block_item}
+use Rattle.lk_ordinals.specs.Parts.{item, member, member_declarator, parameter, type_name, entry, block_item}
 use Rattle.lk_parse_unit.proofs.Forms as form
 use Rattle.lk_parse_expr.specs.declared.naming.Naming.{Naming}
 use Rattle.lk_parse_expr.specs.declared.naming.Head.{Head}

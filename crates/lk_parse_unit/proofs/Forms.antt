@@ -43,7 +43,7 @@ use Rattle.lk_tree.specs.declared.statement.StmtForm.TheVariants as stmt
 use Rattle.lk_tree.specs.declared.statement.Stmt.{Stmt}
 use Rattle.lk_tree.specs.declared.statement.ForFirst.{ForFirst}
 use Rattle.lk_tree.specs.Numbers.{Numbered, list, list_of, of_designator, optional, optional_of, expr, declarator, specifier, initialiser, statement, declare, of_first, in_declarator, in_expr, of_member_declarator, of_specifier, of_declarator, of_expr, of_item, of_member, of_parameter, of_type_name, of_init, of_entry, of_list, of_block_item, in_stmt, of_stmt}
-use Rattle.lk_parse_unit.specs.Parts.{declarator_form, expr_form, member_declarator, item, member, parameter, type_name, entry, init_list, block_item, stmt_form}
+use Rattle.lk_ordinals.specs.Parts.{declarator_form, expr_form, member_declarator, item, member, parameter, type_name, entry, init_list, block_item, stmt_form}
 
 pub expr-Comma : (a : Expr) (b : Expr) (n : ℕ) → (expr_form (e.Comma a b) n).1 ≡ (expr b (expr a n).1).1
 unfolding expr declarator specifier

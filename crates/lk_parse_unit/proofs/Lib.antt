@@ -6,5 +6,4 @@ pub mod Counting
 pub mod Few
 pub mod Placing
 pub mod Exact
-mod Rows
 pub mod Forms

@@ -4,4 +4,3 @@ pub mod Tree
 pub mod Parsing
 pub mod Reading
 pub mod Nests
-pub mod Parts

@@ -1,10 +1,9 @@
-//! Statements and units from tokens, and the ordinals of their nodes.
+//! Statements and units from tokens.
 #![tactic(auto)]
 
 mod begin;
 mod laws;
 mod lead;
-mod ordinals;
 mod parse;
 mod statement;
 mod unit;

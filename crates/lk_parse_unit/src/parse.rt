@@ -5,10 +5,10 @@ ghost use Rattle.lk_parse_unit.specs.Parsing.{IsRefused, HasFewOrdinals};
 ghost use Rattle.lk_parse_unit.specs.Tree.{IsTree};
 
 use crate::begin::begin;
-use crate::ordinals::number_unit;
 use crate::unit::read_unit;
 use lk_base::{Fault, MOST_DEPTH};
 use lk_lex::Token;
+use lk_ordinals::number_unit;
 use lk_tree::Unit;
 use std::alloc::Global;
 
@@ -39,11 +39,9 @@ pub fn parse_unit(alloc: Global, source: &[u8], tokens: &[Token]) -> Result<Pars
 {
     let mut cursor = begin(alloc, source, tokens)?;
     let found = read_unit(alloc, &mut cursor, MOST_DEPTH as usize)?;
-    let unit = number_unit(
-        alloc,
-        Unit {
-            externals: found.tree,
-        },
-    )?;
+    let mut unit = Unit {
+        externals: found.tree,
+    };
+    number_unit(&mut unit)?;
     Ok(Parsed { unit })
 }

@@ -21,7 +21,7 @@ use Rattle.lk_tree.specs.declared.expression.TypeName.{TypeName, out-TypeName, r
 use Rattle.lk_tree.specs.declared.specifiers.Qualifier.{Qualifier}
 use Rattle.lk_tree.specs.Numbers.{Numbered, list, optional, expr, declarator, specifier, in_declarator, in_expr, of_member_declarator, of_specifier, of_declarator, of_expr, of_item, of_member, of_parameter, of_type_name, DeclaratorFormLayer, ExprFormLayer, MemberDeclaratorLayer}
 use Rattle.lk_tree.specs.Numbers as numbers
-use Rattle.lk_parse_unit.specs.Parts as f
+use Rattle.lk_ordinals.specs.Parts as f
 use Rattle.lk_spots.specs.Places as s
 use Rattle.lk_spots.specs.Places.{ExprLayer, DeclaratorLayer, SpecifierLayer, FieldLayer, ExprSpots, ExprFormSpots, TypeNameSpots, SpecifierSpots, SpecifierFormSpots, MemberSpots, FieldSpots, FieldFormSpots, ItemSpots, DeclaratorSpots, DeclaratorFormSpots, ParameterSpots}
 use Rattle.lk_spots.proofs.Lists.{each_numbered, optional_numbered}

@@ -23,7 +23,7 @@ use Rattle.lk_tree.specs.declared.statement.StmtForm.{StmtForm, out-StmtForm}
 use Rattle.lk_tree.specs.declared.statement.StmtForm.TheVariants as stmt
 use Rattle.lk_tree.specs.declared.statement.Unit as unit
 use Rattle.lk_tree.specs.Numbers.{Numbered, list, list_of, expr, declarator, specifier, initialiser, statement, declare, of_designator, of_init, of_entry, of_list, of_init_declarator, of_first, of_block_item, in_stmt, of_stmt, of_decl, numbered}
-use Rattle.lk_parse_unit.specs.Parts as f
+use Rattle.lk_ordinals.specs.Parts as f
 use Rattle.lk_spots.specs.Places.{ExprSpots, SpecifierSpots}
 use Rattle.lk_spots.specs.StatementPlaces as t
 use Rattle.lk_spots.specs.StatementPlaces.{DesignatorSpots, InitSpots, InitFormSpots, EntrySpots, InitDeclaratorSpots, DeclareSpots, FirstSpots, StmtSpots, StmtFormSpots, BlockItemSpots, BlockItemFormSpots, DeclSpots, UnitSpots}

@@ -1,0 +1,7 @@
+use Rattle.std.proofs.Common.{arith}
+use Rattle.lk_tree.specs.Numbers as spec
+use Rattle.lk_ordinals.proofs.Rows.{ended}
+use Rattle.lk_ordinals.proofs.unit.decls_in.Goals as goal
+
+pub returns : goal.returns
+returns c = ended spec.of_decl c.args.tree.now c.args.first c.loop-i.tree c.loop-i.i c.loop-i.next c.loop-i.invariant (omega arith)
