@@ -41,7 +41,8 @@ use Rattle.lk_checker.specs.States.{IsIn, kept_in}
 use Rattle.lk_checker.specs.declared.checker.Checker.{Checker}
 use Rattle.lk_check_walk.proofs.Truth.{truth_behind, truth_still}
 use Rattle.lk_check_walk.specs.Walks.{Walks}
-use Rattle.lk_check_unit.specs.Bodies.{IsAround, IsRound, Passes, WalksItems, items_told}
+use Rattle.lk_check_unit.specs.Bodies.{IsAround, IsRound, Passes, WalksItems}
+use Rattle.lk_rules.specs.Statements.{items_told}
 use Rattle.lk_check_unit.specs.Definitions.{DeclaresParameters, EntersBody, Heads, IsFunctionName, IsHeaded, WalksBody, WalksDefinition, behind_specifiers, in_body_of, specifiers_of, type_defined}
 use Rattle.lk_check_unit.specs.Later.{TellsNamingOf}
 use Rattle.lk_check_unit.specs.Scoping.{Enters, IsBeside, Leaves}

@@ -37,9 +37,9 @@ use Rattle.lk_checker.specs.declared.checker.Outside.{Outside}
 use Rattle.lk_checker.proofs.KeepsAll.{in_same}
 use Rattle.lk_check_walk.specs.Walks.{TellsTruth}
 use Rattle.lk_check_walk.proofs.Truth.{truth_still}
-use Rattle.lk_predeclared.specs.Beginning.{IsOutsideOf}
+use Rattle.lk_checker.specs.Sources.{AreTrue, AreUses, IsOutsideOf, RecordsOf, TellsFirst}
 use Rattle.lk_check_unit.specs.Later.{WalksBut, pending_codes}
-use Rattle.lk_check_unit.specs.Sources.{AreTrue, AreUses, RecordsOf, TellsFirst, WalksOver, externals_add}
+use Rattle.lk_check_unit.specs.Sources.{WalksOver, externals_add}
 use Rattle.lk_check_unit.proofs.Sources.{behind_is}
 use Rattle.lk_check_unit.proofs.Later.{nodes_alone}
 

@@ -38,7 +38,8 @@ use Rattle.lk_check_walk.proofs.Gathers.{both_assoc}
 use Rattle.lk_check_walk.proofs.Walking.{no_walk}
 use Rattle.lk_check_walk.specs.Walks.{Walks}
 use Rattle.lk_check_unit.specs.Asking.{WalksOperand, value_in}
-use Rattle.lk_check_unit.specs.Bodies.{Asks, IsAround, IsKnownResult, IsPlain, IsRound, Passes, WalksForm, WalksHead, WalksItems, WalksReturn, WalksScoped, WalksStatement, WalksTurning, at_stmt, form_breaches, head_adds, head_parts, items_told, name_told, told_of}
+use Rattle.lk_check_unit.specs.Bodies.{Asks, IsAround, IsKnownResult, IsPlain, IsRound, Passes, WalksForm, WalksHead, WalksItems, WalksReturn, WalksScoped, WalksStatement, WalksTurning, at_stmt, form_breaches, head_adds, head_parts, name_told}
+use Rattle.lk_rules.specs.Statements.{items_told, told_of}
 use Rattle.lk_check_unit.specs.Scoping.{Enters, Leaves}
 use Rattle.lk_check_unit.specs.declared.body.Asked.{Asked}
 use Rattle.lk_check_unit.specs.declared.body.Body.{Body}
@@ -48,7 +49,7 @@ use Rattle.lk_check_unit.proofs.Nameless.{breaches_tell}
 use Rattle.lk_check_unit.proofs.Passing.{passes_behind, passes_only, passes_scoped, passes_then}
 use Rattle.lk_check_unit.proofs.Walkers.{Walker, adds_only, adds_then, ends, scopes, walks_then as walkers_then}
 use Rattle.lk_check_unit.proofs.Standing.{as_plain, plain_behind, plain_entered, round_behind, round_entered}
-use Rattle.lk_check_unit.proofs.Stating.{statements_follow_their_forms}
+use Rattle.lk_rules.proofs.Stating.{statements_follow_their_forms}
 use Rattle.lk_check_unit.proofs.Typed.{typed_both}
 use Rattle.lk_check_unit.proofs.Walking.{walks_told}
 

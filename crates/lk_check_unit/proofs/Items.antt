@@ -14,7 +14,8 @@ use Rattle.lk_typed.specs.Statements.{around_behind}
 use Rattle.lk_checker.specs.States.{IsSound}
 use Rattle.lk_checker.specs.declared.checker.Checker.{Checker}
 use Rattle.lk_check_walk.proofs.Walking.{no_walk}
-use Rattle.lk_check_unit.specs.Bodies.{IsKnownResult, IsRound, Passes, WalksDeclaration, WalksItem, WalksItems, item_told, items_told}
+use Rattle.lk_check_unit.specs.Bodies.{IsKnownResult, IsRound, Passes, WalksDeclaration, WalksItem, WalksItems}
+use Rattle.lk_rules.specs.Statements.{item_told, items_told}
 use Rattle.lk_check_unit.specs.declared.body.Body.{Body}
 use Rattle.lk_check_unit.proofs.Arounds.{behind_only}
 use Rattle.lk_check_unit.proofs.Passing.{passes_only, passes_then}

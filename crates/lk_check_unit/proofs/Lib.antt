@@ -26,13 +26,10 @@ pub mod Nameless
 pub mod Names
 pub mod Naming
 pub mod Passing
-pub mod Rests
 pub mod Returned
 pub mod Sets
-pub mod Shapes
 pub mod Sources
 pub mod Standing
-pub mod Stating
 pub mod Staying
 pub mod Typed
 pub mod Untold

@@ -1,10 +1,10 @@
 -- What stands round a statement in its function, and what a walk over a statement leaves behind.
-use Rattle.std.specs.Prelude.{ℕ, ◌≡◌, ◌++◌, false, ◌∷◌, [], List, map, Option, option_map, IfSome, if◌then◌else◌}
+use Rattle.std.specs.Prelude.{ℕ, ◌≡◌, ◌++◌, false, ◌∷◌, [], List, Option, option_map, IfSome, if◌then◌else◌}
 use Rattle.lk_base.specs.declared.code.Code.{Code}
 use Rattle.lk_tree.specs.declared.declaration.Declare.{Declare}
 use Rattle.lk_tree.specs.declared.expression.Expr.{Expr}
 use Rattle.lk_tree.specs.declared.statement.BlockItem.TheOpen.{BlockItem-F, StmtForm-F}
-use Rattle.lk_tree.specs.declared.statement.BlockItem.{BlockItem, out-BlockItem}
+use Rattle.lk_tree.specs.declared.statement.BlockItem.{BlockItem}
 use Rattle.lk_tree.specs.declared.statement.ForFirst.{ForFirst}
 use Rattle.lk_tree.specs.declared.statement.Stmt.{Stmt}
 use Rattle.lk_tree.specs.declared.statement.StmtForm.{StmtForm}
@@ -19,11 +19,12 @@ use Rattle.lk_typed.specs.NodeRules.{are_typed, first_rules, for_rules, optional
 use Rattle.lk_typed.specs.Nodes.{Placed, ADeclaration, AnExpression, AStatement, at}
 use Rattle.lk_typed.specs.Parts.{added_by, first_adds, first_part, item_part, items_in_turn, perhaps, statement_parts, to_result}
 use Rattle.lk_typed.specs.StatementRules.{Around, in_body_of_loop, return_rules}
-use Rattle.lk_typed.specs.Statements.{StmtTeller, StmtTold, adding, all_in_turn, around_behind, of_form, or_nothing, scoped, statement}
+use Rattle.lk_typed.specs.Statements.{StmtTold, around_behind, or_nothing, scoped, statement}
 use Rattle.lk_typed.specs.Ty.{Ty}
 use Rattle.lk_check_decl.specs.Breaches.{told}
 use Rattle.lk_check_decl.specs.Switches.{switch_of}
 use Rattle.lk_labels.specs.Leasts.{AreLabels}
+use Rattle.lk_rules.specs.Statements.{item_told, items_told, told_of}
 use Rattle.lk_found.specs.declared.found.At.{At}
 use Rattle.lk_checker.specs.States.{IsIn, IsSound}
 use Rattle.lk_checker.specs.declared.checker.Checker.{Checker}
@@ -76,34 +77,6 @@ pub record Asks (old new : Checker) (e : Option Expr) (rule : Option Ty → List
   pub code : (env : Env) → IsPlain old env → asked.code ≡ told (optional_rules env rule e)
 
 -- ---- statements by their forms
-
--- an item of a block
-abbrev pub item_told : BlockItem-F BlockItem StmtForm Stmt → StmtTeller
-item_told (BlockItem-F.Declare node) = adding (λ env. declaration_adds InBlock env node)
-item_told (BlockItem-F.Stmt inner) = statement inner
-
-abbrev pub items_told : List BlockItem → StmtTeller
-items_told items = all_in_turn (map (λ i. item_told (out-BlockItem i)) items)
-
--- a form with what its parts tell
-abbrev pub form_told : StmtForm-F BlockItem StmtForm Stmt → StmtForm-F StmtTeller (ℕ → StmtTeller) StmtTeller
-form_told (StmtForm-F.Label name inner) = StmtForm-F.Label name (statement inner)
-form_told (StmtForm-F.Case value inner) = StmtForm-F.Case value (statement inner)
-form_told (StmtForm-F.Default inner) = StmtForm-F.Default (statement inner)
-form_told (StmtForm-F.Block items) = StmtForm-F.Block (map (λ i. item_told (out-BlockItem i)) items)
-form_told (StmtForm-F.Do e) = StmtForm-F.Do e
-form_told (StmtForm-F.If e taken other) = StmtForm-F.If e (statement taken) (option_map statement other)
-form_told (StmtForm-F.Switch e inner) = StmtForm-F.Switch e (statement inner)
-form_told (StmtForm-F.While e inner) = StmtForm-F.While e (statement inner)
-form_told (StmtForm-F.Until inner e) = StmtForm-F.Until (statement inner) e
-form_told (StmtForm-F.For start condition step inner) = StmtForm-F.For start condition step (statement inner)
-form_told (StmtForm-F.Goto name) = StmtForm-F.Goto name
-form_told StmtForm-F.Continue = StmtForm-F.Continue
-form_told StmtForm-F.Break = StmtForm-F.Break
-form_told (StmtForm-F.Return e) = StmtForm-F.Return e
-
-abbrev pub told_of : StmtForm-F BlockItem StmtForm Stmt → ℕ → StmtTeller
-told_of f n = of_form (form_told f) n
 
 -- the codes that hold at a statement of this form
 abbrev pub form_breaches : Around → Env → ℕ → StmtForm-F BlockItem StmtForm Stmt → List Breach

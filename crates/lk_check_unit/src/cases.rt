@@ -7,8 +7,8 @@ ghost use Rattle.lk_check_decl.specs.Switches.{switch_of};
 ghost use Rattle.lk_check_unit.specs.Bodies.{IsAround};
 
 use crate::body::Body;
-use lk_base::{Code, Kind, NoMemory, Seq};
-use lk_check_decl::{Switch, case_code, case_value, default_code};
+use lk_base::{Code, Kind, NoMemory};
+use lk_check_decl::{CaseValues, Switch, case_code, case_value, default_code};
 use lk_typed::Constant;
 use std::alloc::Global;
 use std::mem;
@@ -68,7 +68,7 @@ pub(crate) fn begin_switch(alloc: Global, body: &mut Body, kind: Option<Kind>) -
 {
     let inner = Switch {
         kind,
-        values: Seq::new(Vec::new(alloc)),
+        values: CaseValues::new(alloc),
         has_default: false,
     };
     mem::replace(&mut body.switch, Some(inner))

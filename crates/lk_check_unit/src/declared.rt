@@ -23,11 +23,10 @@ ghost use Rattle.lk_check_unit.specs.Declaring.{PutsDeclared, PutsTypes, WaitsIn
 
 use crate::entities::{is_function_type, reach_of, type_with_old};
 use crate::pending::Pending;
-use crate::written::{braces_of, text_of};
 use lk_base::NoMemory;
 use lk_check_decl::{
-    Given, NameUse, Scope, completed, defines_of, given_code, has_extern, has_typedef, list_size,
-    meaning_of, object_code, text_size, use_code, waits_for_end,
+    Given, NameUse, Scope, braces_of, completed, defines_of, given_code, has_extern, has_typedef,
+    list_size, meaning_of, object_code, text_of, text_size, use_code, waits_for_end,
 };
 use lk_checker::Checker;
 use lk_found::{At, DeclaredHere, DeclaredName};

@@ -1,7 +1,6 @@
 //! Definitions of functions (C99 6.9.1).
 ghost use Rattle.std.specs.Prelude.{◌≡◌, Some, length, IfOk, IfSome, OnOk};
 ghost use Rattle.std.specs.Option.{option_map};
-ghost use Rattle.lk_tree.specs.declared.statement.StmtForm.{out-StmtForm};
 ghost use Rattle.lk_types.specs.Table.{IsKnown};
 ghost use Rattle.lk_names.specs.Growing.{IsKnownLeft};
 ghost use Rattle.lk_typed.specs.DeclarationRules.{definition_rules};
@@ -25,9 +24,9 @@ use lk_check_decl::{Given, Holder, Scope, definition_code};
 use lk_check_walk::{declarator, specifiers};
 use lk_checker::Checker;
 use lk_found::{Asked, At, DeclaratorFound, DeclaredName, declared_name};
-use lk_labels::labels_of;
+use lk_labels::{items_of, labels_of};
 use lk_names::{LeftScope, Mark};
-use lk_tree::{BlockItem, Declarator, Function, Init, Stmt, StmtForm, Storage};
+use lk_tree::{Declarator, Function, Init, Stmt, Storage};
 use lk_typed::form;
 use lk_types::{CType, TypeId, TypeTable};
 use std::alloc::Global;
@@ -39,28 +38,6 @@ pub(crate) struct Headed {
     returned: Option<TypeId>,
     /// What the parameters declare.
     parameters: Option<LeftScope>,
-}
-
-/// The items of a body, which is a block.
-pub fn items_of(body: &Stmt) -> &[BlockItem]
-    ensures { result.now ≡ spec.body_items (out-StmtForm body.now.form) }
-{
-    match &body.form {
-        StmtForm::Block(items) => items.list(),
-        StmtForm::Label(..)
-        | StmtForm::Case(..)
-        | StmtForm::Default(_)
-        | StmtForm::Do(_)
-        | StmtForm::If(..)
-        | StmtForm::Switch(..)
-        | StmtForm::While(..)
-        | StmtForm::Until(..)
-        | StmtForm::For(..)
-        | StmtForm::Goto(_)
-        | StmtForm::Continue
-        | StmtForm::Break
-        | StmtForm::Return(_) => &[],
-    }
 }
 
 /// What a type gives, where it is one of functions.

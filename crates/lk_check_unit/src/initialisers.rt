@@ -9,9 +9,9 @@ ghost use Rattle.lk_check_unit.specs.Initialising.{WalksExpr, WalksInit, WalksLi
 use crate::converting::{listed, stands_for};
 use crate::designators::{both, designators};
 use crate::seen::{braces_code, found_code, part_of, target_type, word_code};
-use crate::written::{braces_of, text_of, word_type};
+use crate::words::word_type;
 use lk_base::{Code, NoMemory};
-use lk_check_decl::Target;
+use lk_check_decl::{Target, braces_of, text_of};
 use lk_check_walk::judge;
 use lk_checker::Checker;
 use lk_found::{At, InitialiserKind};

@@ -22,9 +22,7 @@ mod scopes;
 mod seen;
 mod source;
 mod statements;
-mod written;
+mod words;
 
-pub use definitions::items_of;
 pub use lk_checker::Checked;
 pub use source::{check, check_faults};
-pub use written::braces_of;

@@ -8,9 +8,8 @@ ghost use Rattle.lk_names.specs.InScope.{IsKnownScope};
 ghost use Rattle.lk_found.specs.Structs.{AreListed};
 ghost use Rattle.lk_found.specs.Findings.{refusal_of};
 ghost use Rattle.lk_checker.specs.States.{IsIn, IsSound, kept_in};
-ghost use Rattle.lk_predeclared.specs.Beginning.{IsOutsideOf};
-ghost use Rattle.lk_check_unit.specs.Sources.{IsBehind, IsRefused, IsSetOf, PutsNames};
-ghost use Rattle.lk_check_unit.specs.Sources.{RecordsOf, TellsFirst, WalksOver};
+ghost use Rattle.lk_checker.specs.Sources.{IsBehind, IsOutsideOf, RecordsOf, TellsFirst};
+ghost use Rattle.lk_check_unit.specs.Sources.{IsRefused, IsSetOf, PutsNames, WalksOver};
 
 use crate::at_end::ask_pending;
 use crate::declarations::nothing_pending;

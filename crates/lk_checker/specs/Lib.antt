@@ -6,4 +6,5 @@ pub mod Naming
 pub mod Parameters
 pub mod Scopes
 pub mod Shaped
+pub mod Sources
 pub mod States

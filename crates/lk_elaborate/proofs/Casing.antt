@@ -18,7 +18,7 @@ use Rattle.lk_typed.specs.Meaning.{meaning_of}
 use Rattle.lk_typed.specs.Nodes.{AStatement, AnExpression, at}
 use Rattle.lk_typed.specs.Parts.{added_by, behind, behind_inner, first_adds, first_part, item_adds, item_around, item_part, items_in_turn, perhaps, statement_parts}
 use Rattle.lk_typed.specs.StatementRules as spec
-use Rattle.lk_typed.specs.StatementRules.{behind_cases, case_value, in_body_of_loop}
+use Rattle.lk_typed.specs.StatementRules.{case_value, in_body_of_loop}
 use Rattle.lk_typed.specs.Statements.{Case, StmtTold, kind_in, or_nothing, statement}
 use Rattle.lk_typed.specs.Ty.{Ty, kind_of}
 use Rattle.lk_typed.specs.TypedStatements.{AreCases, IsDefault}
@@ -26,8 +26,8 @@ use Rattle.lk_typed.specs.Typing.{Typing, constant_in}
 use Rattle.lk_typed.specs.declared.constant.Constant.{Constant}
 use Rattle.lk_typed.specs.declared.statement.SwitchCase.{SwitchCase}
 use Rattle.lk_typed.specs.declared.typed.Typed.{Typed}
-use Rattle.lk_check_unit.proofs.Stating.{statements_follow_their_forms}
-use Rattle.lk_check_unit.specs.Bodies.{item_told, items_told, told_of}
+use Rattle.lk_rules.proofs.Stating.{statements_follow_their_forms}
+use Rattle.lk_rules.specs.Statements.{item_told, items_told, told_of}
 use Rattle.lk_elab_expr.specs.Known.{HasTyping, HasValue, OfEach}
 use Rattle.lk_elab_expr.specs.declared.elaborator.Elaborator.{Elaborator}
 use Rattle.lk_elaborate.proofs.Carried.{head_stands, parts_stand, rest_stand, tail_stands}

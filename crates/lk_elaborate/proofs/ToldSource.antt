@@ -44,7 +44,7 @@ use Rattle.lk_nodes.proofs.Environments.{known_structs_stay, outside_stays}
 use Rattle.lk_nodes.proofs.Names.{declared_names_have_types, defined_names_have_types, names_are_told_apart}
 use Rattle.lk_nodes.proofs.Sources.{expressions_are_told_apart, type_names_are_told_apart, values_are_told_apart}
 use Rattle.lk_names.specs.InScope.{IsKnownScope}
-use Rattle.lk_predeclared.specs.Beginning.{IsOutsideOf}
+use Rattle.lk_checker.specs.Sources.{IsOutsideOf, RecordsOf}
 use Rattle.lk_found.proofs.Forms.{Layer}
 use Rattle.lk_found.specs.Structs.{AreListed}
 use Rattle.lk_found.specs.Truth.{IsSoInside}
@@ -54,7 +54,6 @@ use Rattle.lk_found.specs.declared.found.Found.{Found}
 use Rattle.lk_found.specs.declared.records.DeclaredHere.{DeclaredHere}
 use Rattle.lk_found.specs.declared.records.InitialiserKind.{InitialiserKind}
 use Rattle.lk_found.specs.declared.records.Meant.{Meant}
-use Rattle.lk_check_unit.specs.Sources.{RecordsOf}
 use Rattle.lk_elab_expr.specs.Telling.{HasFields, IsMeant, IsTold, IsTrueOf, IsTrueOfName}
 use Rattle.lk_elaborate.specs.Source.{IsToldSource}
 use Rattle.lk_elab_expr.specs.declared.elaborator.Elaborator.{Elaborator}

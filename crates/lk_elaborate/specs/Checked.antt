@@ -3,7 +3,7 @@ use Rattle.std.specs.Prelude.{◌≡◌, List, None}
 use Rattle.lk_tree.specs.Numbers.{numbered}
 use Rattle.lk_tree.specs.declared.statement.Unit.{Unit}
 use Rattle.lk_typed.specs.Env.{Name}
-use Rattle.lk_check_unit.specs.Sources.{IsBehind, RecordsOf, TellsFirst}
+use Rattle.lk_checker.specs.Sources.{IsBehind, RecordsOf, TellsFirst}
 use Rattle.lk_checker.specs.declared.checker.Checked.{Checked}
 
 -- it is true of the source, whose nodes have their numbers, where --externs lists these names

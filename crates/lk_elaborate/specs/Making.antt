@@ -38,7 +38,7 @@ use Rattle.lk_typed.specs.declared.statement.TypedItem.TheOpen.{TypedStmtForm-F}
 use Rattle.lk_typed.specs.declared.statement.TypedStmt.{TypedStmt}
 use Rattle.lk_typed.specs.declared.statement.TypedStmtForm.{TypedStmtForm}
 use Rattle.lk_labels.specs.Leasts.{AreLabels}
-use Rattle.lk_check_unit.specs.Bodies.{item_told, items_told, told_of}
+use Rattle.lk_rules.specs.Statements.{item_told, items_told, told_of}
 use Rattle.lk_elab_expr.specs.Leading.{Grows, GoesOn, Leads}
 use Rattle.lk_elab_expr.specs.declared.elaborator.Elaborator.{Elaborator}
 use Rattle.lk_elaborate.specs.Source.{IsToldSource}

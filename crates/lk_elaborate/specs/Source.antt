@@ -28,7 +28,7 @@ use Rattle.lk_found.specs.Uses.{taken_in, word_in}
 use Rattle.lk_found.specs.Findings.{IsDeclaredAs, IsOfKind}
 use Rattle.lk_found.specs.declared.records.DeclaredHere.{DeclaredHere}
 use Rattle.lk_found.specs.declared.records.InitialiserKind.{InitialiserKind}
-use Rattle.lk_check_unit.specs.Sources.{AreUses}
+use Rattle.lk_checker.specs.Sources.{AreUses}
 use Rattle.lk_elab_expr.specs.Telling.{IsTold}
 use Rattle.lk_elab_expr.specs.declared.elaborator.Elaborator.{Elaborator}
 

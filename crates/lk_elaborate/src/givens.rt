@@ -18,8 +18,7 @@ ghost use Rattle.lk_elaborate.specs.declared.givens.Beginning.TheVariants as beg
 use crate::paths::{longer_path, path_of};
 use crate::type_forms::{count_of, part_at};
 use lk_base::{CellStep, NoMemory, Seq, Spot};
-use lk_check_decl::is_text_for;
-use lk_check_unit::braces_of;
+use lk_check_decl::{braces_of, is_text_for};
 use lk_elab_expr::{Elaborator, known, nowhere};
 use lk_found::InitialiserKind;
 use lk_tree::{Entry, Expr, ExprForm, Init, InitList};

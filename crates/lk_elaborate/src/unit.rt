@@ -14,7 +14,7 @@ ghost use Rattle.lk_elaborate.specs.Outside.{GoesOutside};
 use crate::declarations::file_declaration;
 use crate::definitions::definition;
 use lk_base::{NoMemory, Seq};
-use lk_check_unit::Checked;
+use lk_checker::Checked;
 use lk_elab_expr::{Elaborator, Entities, Locals, SourceTypes, nowhere};
 use lk_found::Records;
 use lk_tree::{Decl, Unit};

@@ -11,7 +11,7 @@ use Rattle.lk_found.specs.Structs.{HasMembers, listed}
 use Rattle.lk_checker.specs.States.{IsIn, IsSound}
 use Rattle.lk_checker.specs.declared.checker.Checker.{Checker}
 use Rattle.lk_checker.specs.declared.checker.Outside.{Outside}
-use Rattle.lk_predeclared.specs.Beginning.{IsOutsideOf}
+use Rattle.lk_checker.specs.Sources.{IsOutsideOf}
 use Rattle.lk_predeclared.specs.Plain.{Grows}
 use Rattle.lk_predeclared.specs.Scope.{AddsNames, HasScope, all_declared}
 

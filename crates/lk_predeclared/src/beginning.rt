@@ -7,7 +7,8 @@ ghost use Rattle.lk_typed.specs.Units.{around};
 ghost use Rattle.lk_rules.specs.Keeping.{none_kept};
 ghost use Rattle.lk_found.specs.Recorded.{nothing_recorded};
 ghost use Rattle.lk_checker.specs.States.{IsIn, IsSound, kept_in};
-ghost use Rattle.lk_predeclared.specs.Beginning.{IsOutsideOf, Predeclares};
+ghost use Rattle.lk_predeclared.specs.Beginning.{Predeclares};
+ghost use Rattle.lk_checker.specs.Sources.{IsOutsideOf};
 
 use crate::functions::declare_functions;
 use crate::words::declare_words;

@@ -4,4 +4,7 @@ pub mod Found
 pub mod Kept
 pub mod Layered
 pub mod Parts
+pub mod Rests
 pub mod Roles
+pub mod Shapes
+pub mod Stating

@@ -3,3 +3,4 @@ pub mod Keeping
 pub mod Laws
 pub mod LayerLaws
 pub mod NodeLaws
+pub mod Statements

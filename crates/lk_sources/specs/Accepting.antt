@@ -10,7 +10,7 @@ use Rattle.lk_typed.specs.Elements.{HasFewElements}
 use Rattle.lk_typed.specs.Env.{Name}
 use Rattle.lk_typed.specs.Meaning.{IsReady}
 use Rattle.lk_words.specs.Words.{Check}
-use Rattle.lk_check_unit.specs.Sources.{IsBehind, RecordsOf, TellsFirst}
+use Rattle.lk_checker.specs.Sources.{IsBehind, RecordsOf, TellsFirst}
 use Rattle.lk_sources.specs.Externs.{externs_text, listed, Names, BadLine}
 use Rattle.lk_sources.specs.Faults.{AreFaultless, AreFaulty}
 use Rattle.lk_sources.specs.Numbers.{numbered, refusal_at}

@@ -1,6 +1,6 @@
 use Rattle.std.proofs.Common.{◌+◌, drop}
 use Rattle.lk_check_unit.proofs.AtEnd.{all_left, next_known, none_left, one_less}
-use Rattle.lk_check_unit.proofs.Rests.{next_left, nothing_left}
+use Rattle.lk_rules.proofs.Rests.{next_left, nothing_left}
 use Rattle.lk_check_unit.proofs.at_end.ask_pending.Goals as goal
 
 pub loop-pending-init : goal.loop-pending-init

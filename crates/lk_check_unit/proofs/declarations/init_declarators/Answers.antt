@@ -1,6 +1,6 @@
 use Rattle.std.proofs.Common.{◌+◌, drop, sym, subst}
 use Rattle.lk_check_unit.proofs.Declares.{AreLeft, all_left, none_left, one_less}
-use Rattle.lk_check_unit.proofs.Rests.{next_left, nothing_left}
+use Rattle.lk_rules.proofs.Rests.{next_left, nothing_left}
 use Rattle.lk_check_unit.proofs.Standing.{result_known}
 use Rattle.lk_check_unit.proofs.Staying.{grows_none, grows_then}
 use Rattle.lk_check_unit.proofs.declarations.init_declarators.Goals as goal

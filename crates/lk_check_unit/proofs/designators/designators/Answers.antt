@@ -1,6 +1,6 @@
 use Rattle.std.proofs.Common.{drop, ◌+◌, subst, sym}
 use Rattle.lk_check_unit.proofs.Designated.{AreLeft, all_left, none_left, one_less}
-use Rattle.lk_check_unit.proofs.Rests.{next_left, nothing_left}
+use Rattle.lk_rules.proofs.Rests.{next_left, nothing_left}
 use Rattle.lk_check_unit.proofs.Staying.{grows_none, grows_then}
 use Rattle.lk_check_unit.proofs.designators.designators.Goals as goal
 

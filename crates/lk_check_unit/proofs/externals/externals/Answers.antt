@@ -1,5 +1,5 @@
 use Rattle.std.proofs.Common.{◌+◌, drop}
-use Rattle.lk_check_unit.proofs.Rests.{next_left, nothing_left}
+use Rattle.lk_rules.proofs.Rests.{next_left, nothing_left}
 use Rattle.lk_check_unit.proofs.Sources.{all_left, none_left, one_less}
 use Rattle.lk_check_unit.proofs.Staying.{grows_none, grows_then}
 use Rattle.lk_check_unit.proofs.externals.externals.Goals as goal

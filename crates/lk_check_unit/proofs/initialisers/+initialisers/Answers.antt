@@ -8,7 +8,7 @@ use Rattle.lk_check_unit.specs.Initialising.{WalksDesignators, WalksEntries, Wal
 use Rattle.lk_check_unit.proofs.Entries.{AreLeft, all_left, entry_walked, none_left, object_stays, one_less, target_known}
 use Rattle.lk_check_unit.proofs.Initialised.{list_walked}
 use Rattle.lk_check_unit.proofs.Initials.{a_list, an_expression}
-use Rattle.lk_check_unit.proofs.Rests.{next_left, nothing_left}
+use Rattle.lk_rules.proofs.Rests.{next_left, nothing_left}
 use Rattle.lk_check_unit.proofs.Staying.{grows_none, grows_then, grows_told}
 use Rattle.lk_check_unit.proofs.initialisers.+initialisers.Goals as goal
 

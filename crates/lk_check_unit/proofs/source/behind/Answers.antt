@@ -11,8 +11,8 @@ use Rattle.lk_checker.specs.States.{IsIn, kept_in}
 use Rattle.lk_checker.specs.declared.checker.Checker.{Checker}
 use Rattle.lk_checker.specs.declared.checker.Outside.{Outside}
 use Rattle.lk_checker.proofs.LetThrough.{let_through}
-use Rattle.lk_predeclared.specs.Beginning.{IsOutsideOf}
-use Rattle.lk_check_unit.specs.Sources.{RecordsOf, TellsFirst, WalksOver}
+use Rattle.lk_checker.specs.Sources.{IsOutsideOf, RecordsOf, TellsFirst}
+use Rattle.lk_check_unit.specs.Sources.{WalksOver}
 use Rattle.lk_check_unit.proofs.Checking.{behind_all, few_behind, first_told, known_behind, outside_stays, ready_behind, records_told, structs_behind}
 use Rattle.lk_check_unit.proofs.source.behind.Goals as goal
 

@@ -6,8 +6,7 @@ use Rattle.lk_typed.specs.Meaning.{IsReady}
 use Rattle.lk_typed.specs.Units.{at_end}
 use Rattle.lk_found.specs.Structs.{AreListed}
 use Rattle.lk_checker.specs.declared.checker.Outside.{Outside}
-use Rattle.lk_predeclared.specs.Beginning.{IsOutsideOf}
-use Rattle.lk_check_unit.specs.Sources.{RecordsOf, TellsFirst}
+use Rattle.lk_checker.specs.Sources.{IsOutsideOf, RecordsOf, TellsFirst}
 use Rattle.lk_check_unit.proofs.source.check.Goals as goal
 
 pub returns-in-Ok-clause-ok : goal.returns-in-Ok-clause-ok

@@ -1,5 +1,5 @@
 use Rattle.std.proofs.Common.{subst, sym}
-use Rattle.lk_check_unit.specs.Sources.{TellsFirst}
+use Rattle.lk_checker.specs.Sources.{TellsFirst}
 use Rattle.lk_check_unit.proofs.source.check_faults.Goals as goal
 
 pub returns : goal.returns

@@ -8,8 +8,8 @@ use Rattle.lk_checker.specs.States.{IsSound}
 use Rattle.lk_check_unit.specs.Bodies.{IsKnownResult, WalksForm, WalksItem, WalksScoped}
 use Rattle.lk_check_unit.proofs.Forming as forming
 use Rattle.lk_check_unit.proofs.Items.{all_left, item_declared, none_left, one_less}
-use Rattle.lk_check_unit.proofs.Rests.{next_left, nothing_left}
-use Rattle.lk_check_unit.proofs.Shapes as shape
+use Rattle.lk_rules.proofs.Rests.{next_left, nothing_left}
+use Rattle.lk_rules.proofs.Shapes as shape
 use Rattle.lk_check_unit.proofs.Staying.{grows_none, known_behind, stays_by, stays_entered, stays_left, stays_then, stays_told}
 use Rattle.lk_check_unit.proofs.statements.+statements.Goals as goal
 

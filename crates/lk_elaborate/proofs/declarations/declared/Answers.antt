@@ -1,5 +1,5 @@
 use Rattle.std.proofs.Common.{drop, ◌+◌}
-use Rattle.lk_check_unit.proofs.Rests.{next_left, nothing_left}
+use Rattle.lk_rules.proofs.Rests.{next_left, nothing_left}
 use Rattle.lk_elaborate.proofs.Carried.{goes_same, goes_then}
 use Rattle.lk_elaborate.proofs.Declaring.{all_left, none_left, one_less}
 use Rattle.lk_elaborate.proofs.PuttingDeclared as put

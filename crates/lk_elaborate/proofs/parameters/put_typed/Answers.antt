@@ -1,5 +1,5 @@
 use Rattle.std.proofs.Common.{drop, ◌+◌}
-use Rattle.lk_check_unit.proofs.Rests.{next_left, nothing_left}
+use Rattle.lk_rules.proofs.Rests.{next_left, nothing_left}
 use Rattle.lk_elaborate.proofs.ParametersMore.{all_so_far, none_so_far, one_so_far}
 use Rattle.lk_elaborate.proofs.parameters.put_typed.Goals as goal
 

@@ -1,5 +1,5 @@
 use Rattle.std.proofs.Common.{drop, ◌+◌, refl}
-use Rattle.lk_check_unit.proofs.Rests.{next_left, nothing_left}
+use Rattle.lk_rules.proofs.Rests.{next_left, nothing_left}
 use Rattle.lk_elaborate.proofs.InTurn.{all_left, none_left, one_less}
 use Rattle.lk_elaborate.proofs.Outside.{outside_same, outside_then}
 use Rattle.lk_elaborate.proofs.unit.externals.Goals as goal

@@ -8,7 +8,7 @@ use Rattle.lk_found.specs.Recorded.{nothing_recorded}
 use Rattle.lk_checker.specs.States.{IsIn, IsSound, kept_in}
 use Rattle.lk_checker.specs.declared.checker.Checker.{Checker}
 use Rattle.lk_checker.proofs.LetThrough.{let_through}
-use Rattle.lk_predeclared.specs.Beginning.{IsOutsideOf}
+use Rattle.lk_checker.specs.Sources.{IsOutsideOf}
 use Rattle.lk_predeclared.proofs.Begun.{begins_in, begins_sound}
 use Rattle.lk_predeclared.proofs.beginning.begin.Goals as goal
 

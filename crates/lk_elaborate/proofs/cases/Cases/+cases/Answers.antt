@@ -2,8 +2,8 @@ use Rattle.std.proofs.Common.{◌∙◌, Some, refl, sym, ap, subst, drop, ◌+�
 use Rattle.std.proofs.lemmas.Result.{on_ok_weaker}
 use Rattle.lk_tree.specs.declared.statement.StmtForm.TheVariants as form
 use Rattle.lk_tree.specs.declared.statement.BlockItem.TheOpen.{StmtForm-F}
-use Rattle.lk_check_unit.proofs.Rests.{next_left, nothing_left}
-use Rattle.lk_check_unit.proofs.Shapes as shape
+use Rattle.lk_rules.proofs.Rests.{next_left, nothing_left}
+use Rattle.lk_rules.proofs.Shapes as shape
 use Rattle.lk_elaborate.proofs.Casing as casing
 use Rattle.lk_elaborate.specs.Making.{PutsOfElse}
 use Rattle.lk_elaborate.proofs.cases.Cases.+cases.Goals as goal

@@ -6,7 +6,7 @@ use Rattle.lk_tree.specs.declared.statement.BlockItem.{BlockItem, out-BlockItem}
 use Rattle.lk_tree.specs.declared.statement.Stmt.{Stmt}
 use Rattle.lk_tree.specs.declared.statement.StmtForm.{StmtForm, out-StmtForm}
 use Rattle.lk_typed.specs.Statements.{StmtTeller, of_form, of_item, of_stmt, statement}
-use Rattle.lk_check_unit.specs.Bodies.{form_told, item_told, told_of}
+use Rattle.lk_rules.specs.Statements.{form_told, item_told, told_of}
 
 unfoldable item_folded : BlockItem → StmtTeller
 item_folded = fold-BlockItem StmtTeller (ℕ → StmtTeller) StmtTeller of_item of_form of_stmt

@@ -2,7 +2,7 @@ use Rattle.std.proofs.Common.{◌∙◌, ap}
 use Rattle.lk_names.specs.InScope.{env_in}
 use Rattle.lk_check_unit.specs.Writing.{word_given}
 use Rattle.lk_check_unit.proofs.Alone.{word_is}
-use Rattle.lk_check_unit.proofs.written.word_type.Goals as goal
+use Rattle.lk_check_unit.proofs.words.word_type.Goals as goal
 
 pub returns-in-Word-clause-word : goal.returns-in-Word-clause-word
 returns-in-Word-clause-word c = λ table rest.

@@ -1,23 +1,14 @@
-//! How initialisers are written: names and texts alone, and lists in braces (C99 6.7.8).
-ghost use Rattle.std.specs.Prelude.{◌≡◌, IfOk, IfSome, option_copied, option_map};
+//! How initialisers are written: texts alone, and lists in braces (C99 6.7.8).
+ghost use Rattle.std.specs.Prelude.{◌≡◌, IfOk};
 ghost use Rattle.lk_tree.specs.declared.declaration.Init.{out-Init};
 ghost use Rattle.lk_tree.specs.declared.declaration.InitList.{out-InitList};
-ghost use Rattle.lk_types.specs.Table.{Table, IsKnown};
-ghost use Rattle.lk_names.specs.InScope.{env_in, IsKnownScope};
-ghost use Rattle.lk_typed.specs.Env.{Env};
-ghost use Rattle.lk_typed.specs.Expressions.{expr_text, expr_word};
+ghost use Rattle.lk_typed.specs.Expressions.{expr_text};
 ghost use Rattle.lk_typed.specs.Initialisers as spec;
-ghost use Rattle.lk_typed.specs.Meaning.{meaning};
-ghost use Rattle.lk_typed.specs.Names.{declared_in, IsKnownName};
 ghost use Rattle.lk_check_decl.specs.Initialisers.{braces_of as spec_braces};
-ghost use Rattle.lk_check_unit.specs.Writing.{word_given};
 
+use crate::initialisers::Braces;
 use lk_base::NoMemory;
-use lk_check_decl::Braces;
-use lk_names::Names;
 use lk_tree::{Designator, Entry, Expr, ExprForm, Init, InitList};
-use lk_typed::{Declared, Meaning};
-use lk_types::TypeId;
 
 /// A number of bytes or entries, which is below 2^32.
 fn count(len: usize) -> Result<u32, NoMemory>
@@ -30,7 +21,7 @@ fn count(len: usize) -> Result<u32, NoMemory>
 }
 
 /// How many bytes the text has that an expression is. `NoMemory` where they are more than a `u32` counts.
-pub(crate) fn text_of(e: &Expr) -> Result<Option<u32>, NoMemory>
+pub fn text_of(e: &Expr) -> Result<Option<u32>, NoMemory>
     ensures { IfOk result (λ text. text ≡ expr_text e.now) }
 {
     match &e.form {
@@ -53,56 +44,6 @@ pub(crate) fn text_of(e: &Expr) -> Result<Option<u32>, NoMemory>
         | ExprForm::Number(..)
         | ExprForm::Char(_)
         | ExprForm::Paren(_) => Ok(None),
-    }
-}
-
-/// The type whose initialiser word a declared name is.
-fn declared_word(found: Option<&Declared>) -> Option<TypeId>
-    ensures word { (table : Table) →
-        option_map (meaning table) result ≡
-        word_given (option_map (declared_in table) (option_copied found.entry)) }
-    ensures known { (table : Table) → IfSome (option_copied found.entry) (IsKnownName table) →
-        IfSome result (IsKnown table) }
-{
-    match found {
-        Some(declared) => match declared.meaning {
-            Meaning::InitialiserWord(t) => Some(t),
-            Meaning::Object(..)
-            | Meaning::Function(_)
-            | Meaning::Typedef(_)
-            | Meaning::Enumerator(_)
-            | Meaning::Faulty => None,
-        },
-        None => None,
-    }
-}
-
-/// The type whose initialiser word an expression is (POSIX, `pthread.h`).
-pub(crate) fn word_type(names: &Names, e: &Expr) -> Option<TypeId>
-    ensures word { (table : Table) (rest : Env) →
-        option_map (meaning table) result ≡ expr_word e.now (env_in table rest names.now) }
-    ensures known { (table : Table) → IsKnownScope table names.now → IfSome result (IsKnown table) }
-{
-    match &e.form {
-        ExprForm::Word(name) => declared_word(names.look_up(name)),
-        ExprForm::Comma(..)
-        | ExprForm::Assign(..)
-        | ExprForm::Choice(..)
-        | ExprForm::Binary(..)
-        | ExprForm::Cast(..)
-        | ExprForm::Pre(..)
-        | ExprForm::Prefix(..)
-        | ExprForm::SizeofExpr(_)
-        | ExprForm::SizeofType(_)
-        | ExprForm::Index(..)
-        | ExprForm::Call(..)
-        | ExprForm::Member(..)
-        | ExprForm::Arrow(..)
-        | ExprForm::Post(..)
-        | ExprForm::Number(..)
-        | ExprForm::Char(_)
-        | ExprForm::Text(_)
-        | ExprForm::Paren(_) => None,
     }
 }
 
@@ -146,9 +87,7 @@ fn text_alone(entries: &[Entry]) -> Result<Option<u32>, NoMemory>
     }
 }
 
-/// A list in braces. `NoMemory` where its entries, or the bytes of the text that is all of it, are more than
-/// a `u32`
-/// counts.
+/// A list in braces. `NoMemory` where its entries, or the bytes of the text that is all of it, are more than a `u32` counts.
 pub fn braces_of(list: &InitList) -> Result<Braces, NoMemory>
     ensures { IfOk result (λ braces. spec_braces braces ≡ spec.braces_of (out-InitList list.now).entries) }
 {
