@@ -5,8 +5,8 @@ usage: bench/checking.py PATH-OF-LSRACE [KIND ..]
 
 Each kind of source is written twice, of at most 1 MiB, the second time twice as large: C as it is written by hand; many globals;
 declarations; functions; locals; labels, each with a `goto`; cases of one `switch`, and of many; entries of an initialiser;
-structs; members of one struct, and uses of them; expressions nested 150 deep; redeclarations of an object, of a function, of one
-whose type is large, and of one by two large types that differ in the sizes of arrays.
+structs; members of one struct, and the same with a use of each; expressions nested 150 deep; redeclarations of an object, of a
+function, of one whose type is large, and of one by two large types that differ in the sizes of arrays.
 
 None of them has a fault, and each is run with one behind it, an enumerator that is declared twice: lsrace reads its tokens and its
 tree, checks it to the end, and refuses it with 21, before it makes anything of it; another answer ends the run. Each is also run with
@@ -149,8 +149,11 @@ def structs(count):
 
 
 def members(count):
-    declared = "struct all{\n" + listed(count, lambda i: f"int {name_of(i)};") + "};\n"
-    return in_function(listed(count, lambda i: f"p->{name_of(i)}=x;"), declared + "struct all*p;\n")
+    return "struct all{\n" + listed(count, lambda i: f"int {name_of(i)};") + "};\n"
+
+
+def member_uses(count):
+    return in_function(listed(count, lambda i: f"p->{name_of(i)}=x;"), members(count) + "struct all*p;\n")
 
 
 def nested(count):
@@ -195,6 +198,7 @@ KINDS = {
     entries: 100_000,
     structs: 5_000,
     members: 20_000,
+    member_uses: 20_000,
     nested: 1_250,
     objects: 30_000,
     redeclared: 15_000,

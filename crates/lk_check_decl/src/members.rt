@@ -1,9 +1,9 @@
 //! The rules of members (C99 6.7.2.1).
-ghost use Rattle.std.specs.Prelude.{◌≡◌, false, List, map, is_some};
+ghost use Rattle.std.specs.Prelude.{◌≡◌, false, List, map};
 ghost use Rattle.lk_tree.specs.declared.expression.MemberDeclarator.{out-MemberDeclarator};
 ghost use Rattle.lk_types.specs.Sizes.{is_too_large};
-ghost use Rattle.lk_types.specs.Table.{Table, IsKnown};
-ghost use Rattle.lk_typed.specs.Env.{Env, Field as SpecField, field_of};
+ghost use Rattle.lk_types.specs.Table.{IsKnown};
+ghost use Rattle.lk_typed.specs.Env.{Env, Field as SpecField};
 ghost use Rattle.lk_typed.specs.HolderRules.{has_bit_field, is_bit_field};
 ghost use Rattle.lk_typed.specs.Meaning.{meaning};
 ghost use Rattle.lk_typed.specs.MemberRules as spec;
@@ -13,29 +13,18 @@ ghost use Rattle.lk_check_decl.specs.Making.{AreFields};
 ghost use Rattle.lk_check_decl.specs.Members.{size_with, types_of, IsWithMember};
 
 use crate::breaches::unless;
+use crate::fields::Fields;
 use lk_base::{Code, Name};
 use lk_tree::MemberDeclarator;
-use lk_typed::{Field, Members, is_complete, lesser};
+use lk_typed::{Members, is_complete, lesser};
 use lk_types::{TypeId, TypeSize, TypeTable};
-
-/// Whether one of the members has this name.
-fn has_field(fields: &[Field], name: &Name) -> bool
-    ensures { (table : Table) → result ≡ is_some (field_of (map (field_in table) fields.now) name.now) }
-{
-    for field in fields {
-        if field.name == *name {
-            return true;
-        }
-    }
-    false
-}
 
 /// The code of a member's name: 21 where the struct has one before it, 25 where its type is incomplete, `void` or a function
 /// (C99 6.7.2.1, 2). `before` are the members before it.
 pub fn member_code(
     types: &TypeTable,
     structs: &[Members],
-    before: &[Field],
+    before: &Fields,
     name: &Name,
     t: TypeId,
 ) -> Option<Code>
@@ -43,7 +32,7 @@ pub fn member_code(
     ensures { (env : Env) → env.structs ≡ structs_in types.now structs.now → result
         ≡ told (spec.member_rules env (map (field_in types.now) before.now) name.now (meaning types.now t)) }
 {
-    let again = unless(!has_field(before, name), Code::Redeclared);
+    let again = unless(!before.has(name), Code::Redeclared);
     let incomplete = unless(is_complete(types, structs, t), Code::Incomplete);
     lesser(again, incomplete)
 }

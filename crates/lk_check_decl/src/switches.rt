@@ -1,6 +1,5 @@
 //! The rules of `break`, `continue` and cases: code 26, and 24 of a case (C99 6.8.1, 6.8.4.2, 6.8.6).
 ghost use Rattle.std.specs.Prelude.{◌≡◌, ◌||◌, Some, option_copied};
-ghost use Rattle.std.specs.List.{list_any};
 ghost use Rattle.std.specs.Option.{option_map};
 ghost use Rattle.lk_typed.specs.StatementRules as spec;
 ghost use Rattle.lk_typed.specs.StatementRules.{Around};
@@ -8,8 +7,9 @@ ghost use Rattle.lk_check_decl.specs.Breaches.{told};
 ghost use Rattle.lk_check_decl.specs.Switches.{switch_of};
 
 use crate::breaches::unless;
+use crate::case_values::CaseValues;
 use lk_arith::{convert, promoted};
-use lk_base::{Code, Kind, Seq};
+use lk_base::{Code, Kind};
 use lk_typed::{Constant, lesser};
 
 /// A `switch`, as far as it stands before a statement in it.
@@ -18,7 +18,7 @@ pub struct Switch {
     /// The kind of its value, where that is an integer.
     pub kind: Option<Kind>,
     /// The values of its cases so far, converted to its promoted type; nothing for one of which none is known.
-    pub values: Seq<Option<i128>>,
+    pub values: CaseValues,
     /// Whether it has a `default` already.
     pub has_default: bool,
 }
@@ -52,28 +52,6 @@ pub fn case_value(kind: Option<Kind>, value: Option<Constant>) -> Option<i128>
     }
 }
 
-/// Whether two values are known and equal.
-fn are_equal(value: Option<i128>, other: Option<i128>) -> bool
-    ensures { result ≡ spec.are_equal value other }
-{
-    match (value, other) {
-        (Some(value), Some(other)) => value == other,
-        (Some(_), None) | (None, Some(_)) | (None, None) => false,
-    }
-}
-
-/// Whether one of the values is this one.
-fn has_value(values: &[Option<i128>], value: Option<i128>) -> bool
-    ensures { result ≡ list_any (spec.are_equal value) values.now }
-{
-    for other in values {
-        if are_equal(value, *other) {
-            return true;
-        }
-    }
-    false
-}
-
 /// The code of a case by the `switch` round it: 26 where there is none, or where an earlier case has its value (C99 6.8.1, 2;
 /// 6.8.4.2, 3).
 fn place_code(switch: Option<&Switch>, value: Option<Constant>) -> Option<Code>
@@ -82,7 +60,7 @@ fn place_code(switch: Option<&Switch>, value: Option<Constant>) -> Option<Code>
     match switch {
         Some(switch) => {
             let value = case_value(switch.kind, value);
-            unless(!has_value(switch.values.list(), value), Code::BadLabel)
+            unless(!switch.values.has(value), Code::BadLabel)
         }
         None => Some(Code::BadLabel),
     }

@@ -337,7 +337,7 @@ declares_width old middle in_size e found before after typed sound has judges sa
       found = record {
         walks = walks;
         members = record {
-          fields = ap (λ fs. map (field_in middle.types) fs.items) same ∙ grown.fields ∙ sym (append-nil others.fields);
+          fields = ap (map (field_in middle.types)) same ∙ grown.fields ∙ sym (append-nil others.fields);
           sound = faulty ∙ sym (and_false others.sound);
           holds_sizeof = holds ∙ ap (λ h. h || found.look.holds_sizeof) grown.holds_sizeof ∙ ap (λ h. others.holds_sizeof || h) (operand_holds at_end old middle in_size env e found stands judged);
         };
@@ -373,7 +373,7 @@ module _ (at_end : Env) (old first middle new : Checker) (in_size : Bool) (env :
       let more = record others { holds_sizeof = others.holds_sizeof || told.holds_sizeof } in
       let grown = members_grow old.types first.types sound.ready.table_is specifies.walks.longer before others has members in
       let between_members : AreMembers first.types between more = record {
-        fields = ap (λ fs. map (field_in first.types) fs.items) same_fields ∙ grown.fields;
+        fields = ap (map (field_in first.types)) same_fields ∙ grown.fields;
         sound = same_sound ∙ grown.sound;
         holds_sizeof = holds ∙ ap (λ h. h || specified.holds_sizeof) grown.holds_sizeof ∙ ap (λ h. others.holds_sizeof || h) specifies.specified.holds_sizeof;
       } in

@@ -7,6 +7,7 @@ use Rattle.std.proofs.lemmas.List.{length-map, map-set}
 use Rattle.std.proofs.lemmas.List.Elements.{All-set}
 use Rattle.std.proofs.lemmas.Option.{slice_get-map, slice_get_within}
 use Rattle.lk_types.proofs.NewLemmas.{predeclared_types_stay}
+use Rattle.lk_types.proofs.RoomLemmas.{not_over}
 use Rattle.lk_types.specs.Building.{IsTable, IsLonger, IsPartOfObjects, CanComplete, with_members, types_of}
 use Rattle.lk_types.specs.Sizes.{fields_size, is_too_large}
 use Rattle.lk_types.specs.Table.{Table, is_empty}
@@ -57,7 +58,8 @@ can_complete checker sound s begun fields some parts small members are =
           ap (λ o. is_empty (unwrap_or o [])) (slice_get-map listed structs s ∙ ap (option_map listed) begun);
       members = ap is_empty are ∙ empty_same fields ∙ some;
       parts = subst (λ members. All (λ (member : StructMember). IsPartOfObjects checker.types member.ty) members) (sym are) (map_parts (λ member. IsPartOfObjects checker.types member.ty) fields parts);
-      small = ap (λ members. is_too_large (fields_size checker.types (types_of members))) are ∙ ap (λ ts. is_too_large (fields_size checker.types ts)) (types_are fields) ∙ small;
+      small = not_over (fields_size checker.types (types_of members))
+          (ap (λ members. is_too_large (fields_size checker.types (types_of members))) are ∙ ap (λ ts. is_too_large (fields_size checker.types ts)) (types_are fields) ∙ small);
     }
 
 pub completed_sound : (old new : Checker) → IsSound old → (s : ℕ) (fields : List Field) (members : List StructMember) → members ≡ map member_of fields → is_empty fields ≡ false → IsTable new.types →

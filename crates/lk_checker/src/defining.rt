@@ -117,7 +117,7 @@ impl Checker {
             self.fail_members(s);
             return Ok(());
         }
-        self.complete_members(s, fields)?;
+        self.complete_members(s, fields.into_vec())?;
         Ok(())
     }
 

@@ -22,11 +22,10 @@ ghost use Rattle.lk_checker.specs.States.{IsIn, IsSound, Tells, kept_in};
 
 use crate::checker::Checker;
 use lk_base::{Code, Name, NoMemory};
-use lk_check_decl::{member_code, with_member};
+use lk_check_decl::{Fields, member_code, with_member};
 use lk_check_expr::is_broken;
 use lk_found::{At, DeclaratorFound, MembersFound, Specified, at_declarator, declared_name};
 use lk_tree::Declarator;
-use lk_typed::Field;
 use lk_types::{TypeId, TypeSize};
 
 /// Whether a code is that of a name that is there already.
@@ -76,7 +75,7 @@ impl Checker {
         at: At,
         name: &Name,
         t: TypeId,
-        before: &[Field],
+        before: &Fields,
     ) -> Result<bool, NoMemory>
         requires sound { IsSound self.old }
         requires known { IsKnown self.old.types t }
@@ -92,12 +91,7 @@ impl Checker {
     }
 
     /// Keeps the code of a member's name, where it has one. The answer says whether it has one and there is no code.
-    fn keep_name_of(
-        &mut self,
-        d: &Declarator,
-        t: TypeId,
-        before: &[Field],
-    ) -> Result<bool, NoMemory>
+    fn keep_name_of(&mut self, d: &Declarator, t: TypeId, before: &Fields) -> Result<bool, NoMemory>
         requires sound { IsSound self.old }
         requires known { IsKnown self.old.types t }
         ensures kept { OnOk result ((env : Env) → IsIn self.old env → KeepsName self.old self.new env
@@ -152,17 +146,17 @@ impl Checker {
         requires known { IsKnown self.old.types t }
         requires fields { HasFields self.old.types out.now }
         ensures keeps { OnOk result ((env : Env) → IsIn self.old env → KeepsEach (kept_in self.old)
-            (member_codes env (map (field_in self.old.types) out.now.fields.items) d.now
+            (member_codes env (map (field_in self.old.types) out.now.fields) d.now
             (Some (meaning self.old.types t)))
             (kept_in self.new)) }
         ensures same { OnOk result (IsSame self.old self.new) }
         ensures size { IfOk result (λ size. (env : Env) → IsIn self.old env →
-            IsThereWhere self.old.types env out.now.fields.items (declarator_found d.now).name t size) }
-        ensures small { IfOk result (λ size. IfSome size (IsSizeWith self.old.types out.now.fields.items t)) }
+            IsThereWhere self.old.types env out.now.fields (declarator_found d.now).name t size) }
+        ensures small { IfOk result (λ size. IfSome size (IsSizeWith self.old.types out.now.fields t)) }
         ensures complete { IfOk result (λ size. IfSome size (λ n.
             is_complete (structs_in self.old.types self.old.names.structs) (meaning self.old.types t) ≡ true)) }
     {
-        let is_free = self.keep_name_of(d, t, out.fields.as_slice())?;
+        let is_free = self.keep_name_of(d, t, &out.fields)?;
         let larger = self.keep_member_size(at_declarator(d), t, out.size)?;
         Ok(size_if(is_free, larger))
     }
@@ -177,7 +171,7 @@ impl Checker {
     ) -> Result<(), NoMemory>
         requires sound { IsSound self.now }
         requires known { IsKnown self.now.types t }
-        requires small { IfSome size (IsSizeWith self.now.types out.old.fields.items t) }
+        requires small { IfSome size (IsSizeWith self.now.types out.old.fields t) }
         requires complete { IfSome size (λ n.
             is_complete (structs_in self.now.types self.now.names.structs) (meaning self.now.types t) ≡ true) }
         requires fields { HasFields self.now.types out.old }
@@ -186,7 +180,7 @@ impl Checker {
         ensures puts { OnOk result ((env : Env) (others : MemberTold) (added : Additions) (holds : Bool) →
             IsIn self.now env →
             TellsFields self.now.types out.old others →
-            IsThereWhere self.now.types env out.old.fields.items (declarator_found d.now).name t size →
+            IsThereWhere self.now.types env out.old.fields (declarator_found d.now).name t size →
             TellsFields self.now.types out.new (then_member others (field_told env others.fields
             (declarator_found d.now).name (Some (meaning self.now.types t)) (faulty_member added holds)))) }
     {

@@ -93,7 +93,7 @@ known_by table true (f ∷ fs) is = refl
 known_by table false fields is = absurd (false≢true (sym is))
 
 pub made_of_members : (table : Table) (found : MembersFound) (told : MemberTold) → AreMembers table found told →
-    members_made told ≡ (if found.is_sound then known_or_faulty (map (field_in table) found.fields.items) else Faulty)
+    members_made told ≡ (if found.is_sound then known_or_faulty (map (field_in table) found.fields) else Faulty)
 made_of_members table found told are =
     ap (λ b. if b then known_or_faulty told.fields else Faulty) (sym are.sound) ∙ ap (λ fs. if found.is_sound then known_or_faulty fs else Faulty) (sym are.fields)
 

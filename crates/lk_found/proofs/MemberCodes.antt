@@ -196,16 +196,16 @@ pub tells_failed : (table : Table) (before after : MembersFound) (others told : 
 tells_failed table before after others told added holds same tells is =
     subst (λ t. TellsFields table after (then_member others t)) (sym is)
     (record {
-      fields = ap (λ (m : MembersFound). map (field_in table) m.fields.items) same ∙ tells.fields ∙ sym (append-nil others.fields);
+      fields = ap (λ (m : MembersFound). map (field_in table) m.fields) same ∙ tells.fields ∙ sym (append-nil others.fields);
       sound = ap (λ (m : MembersFound). m.is_sound) same ∙ sym (and_false others.sound);
     })
 
-pub tells_field : (table : Table) (before after : MembersFound) (others told faulty : MemberTold) (field : CodeField) → after.fields.items ≡ before.fields.items ++ field ∷ [] →
+pub tells_field : (table : Table) (before after : MembersFound) (others told faulty : MemberTold) (field : CodeField) → after.fields ≡ before.fields ++ field ∷ [] →
     after.is_sound ≡ before.is_sound → TellsFields table before others → told ≡ as_field field.name (meaning table field.ty) faulty → TellsFields table after (then_member others told)
 tells_field table before after others told faulty field items sound tells is =
     subst (λ t. TellsFields table after (then_member others t)) (sym is)
     (record {
-      fields = ap (map (field_in table)) items ∙ map-append (field_in table) before.fields.items (field ∷ []) ∙ ap (λ xs. xs ++ field_in table field ∷ []) tells.fields;
+      fields = ap (map (field_in table)) items ∙ map-append (field_in table) before.fields (field ∷ []) ∙ ap (λ xs. xs ++ field_in table field ∷ []) tells.fields;
       sound = sound ∙ tells.sound ∙ sym (and_true others.sound);
     })
 
@@ -264,7 +264,7 @@ if_free false larger f = tt
 pub tells_of : (table : Table) (before middle : MembersFound) (told : MemberTold) (holds : Bool) → middle ≡ record before { holds_sizeof = before.holds_sizeof || holds } →
     AreMembers table before told → TellsFields table middle told
 tells_of table before middle told holds same are = record {
-  fields = ap (λ (m : MembersFound). map (field_in table) m.fields.items) same ∙ are.fields;
+  fields = ap (λ (m : MembersFound). map (field_in table) m.fields) same ∙ are.fields;
   sound = ap (λ (m : MembersFound). m.is_sound) same ∙ are.sound;
 }
 

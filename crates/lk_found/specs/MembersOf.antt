@@ -30,19 +30,19 @@ use Rattle.lk_found.specs.declared.fields.MembersFound.{MembersFound}
 
 -- a struct may have these fields, and is as large as told with them
 pub record HasFields (table : Table) (found : MembersFound) : Type 0 where
-  pub parts : All (λ field. IsPartOfObjects table field.ty) found.fields.items
-  pub size : found.size ≡ fields_size table (map (λ field. field.ty) found.fields.items)
+  pub parts : All (λ field. IsPartOfObjects table field.ty) found.fields
+  pub size : found.size ≡ fields_size table (map (λ field. field.ty) found.fields)
   pub small : is_too_large found.size ≡ false
 
 -- they tell this, whatever they add to the environment
 pub record AreMembers (table : Table) (found : MembersFound) (told : MemberTold) : Type 0 where
-  pub fields : map (field_in table) found.fields.items ≡ told.fields
+  pub fields : map (field_in table) found.fields ≡ told.fields
   pub sound : found.is_sound ≡ told.sound
   pub holds_sizeof : found.holds_sizeof ≡ told.holds_sizeof
 
 -- they have these fields, and are faulty or not
 pub record TellsFields (table : Table) (found : MembersFound) (told : MemberTold) : Type 0 where
-  pub fields : map (field_in table) found.fields.items ≡ told.fields
+  pub fields : map (field_in table) found.fields ≡ told.fields
   pub sound : found.is_sound ≡ told.sound
 
 -- ---- one declarator, whose type this is, in the environment behind it

@@ -6,6 +6,7 @@ ghost use Rattle.lk_found.specs.MembersOf.{AreMembers, HasFields};
 
 use crate::found::Found;
 use lk_base::{Name, NoMemory};
+use lk_check_decl::Fields;
 use lk_typed::Field;
 use lk_types::{TypeId, TypeSize};
 use std::alloc::Global;
@@ -14,7 +15,7 @@ use std::alloc::Global;
 #[derive(Drop)]
 pub struct MembersFound {
     /// Its fields.
-    pub fields: Vec<Field>,
+    pub fields: Fields,
     /// Whether no member is faulty.
     pub is_sound: bool,
     /// How large a struct with these fields is.
@@ -30,7 +31,7 @@ impl MembersFound {
         ensures members { (table : Table) → AreMembers table result no_member }
     {
         MembersFound {
-            fields: Vec::new(alloc),
+            fields: Fields::new(alloc),
             is_sound: true,
             size: TypeSize::START,
             holds_sizeof: false,
@@ -66,8 +67,8 @@ impl MembersFound {
 
     /// One more field, with which a struct is so large.
     pub fn put_field(&mut self, name: &Name, t: TypeId, size: TypeSize) -> Result<(), NoMemory>
-        ensures fields { OnOk result (self.new.fields.items ≡
-            self.old.fields.items ++ record { name = name.now; ty = t } ∷ []) }
+        ensures fields { OnOk result (self.new.fields ≡
+            self.old.fields ++ record { name = name.now; ty = t } ∷ []) }
         ensures sound { OnOk result (self.new.is_sound ≡ self.old.is_sound) }
         ensures size { OnOk result (self.new.size ≡ size) }
         ensures holds_sizeof { OnOk result (self.new.holds_sizeof ≡ self.old.holds_sizeof) }

@@ -18,5 +18,5 @@ returns c = λ env same.
     let name = c.args.name.now in
     let again = is_some (field_of (map (field_in table) c.args.before.now) name) in
     both_told (if again then breach_of Redeclared name ∷ [] else []) (unless (is_complete env.structs t) Incomplete)
-    (c.unless-again.ensures ∙ ap (λ b. told (unless (not b) Redeclared)) (c.has_field.ensures table) ∙ if_told again Redeclared name)
+    (c.unless-again.ensures ∙ ap (λ b. told (unless (not b) Redeclared)) (c.has.ensures table) ∙ if_told again Redeclared name)
     (c.unless-incomplete.ensures ∙ ap (λ b. told (unless b Incomplete)) (c.is_complete.ensures ∙ ap (λ structs. is_complete structs t) (sym same))) c.lesser.ensures

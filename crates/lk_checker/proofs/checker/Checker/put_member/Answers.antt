@@ -32,7 +32,7 @@ put_field_of-requires-clause-known c =
 
 pub put_field_of-requires-clause-small : goal.put_field_of-requires-clause-small
 put_field_of-requires-clause-small c =
-    subst (λ (table : Table). IfSome c.in_ok-size.size (IsSizeWith table c.put_sizeof.new.self.fields.items c.in-Some.t)) (sym c.in_ok-size.ensures.same.types) c.in_ok-size.ensures.small
+    subst (λ (table : Table). IfSome c.in_ok-size.size (IsSizeWith table c.put_sizeof.new.self.fields c.in-Some.t)) (sym c.in_ok-size.ensures.same.types) c.in_ok-size.ensures.small
 
 pub put_field_of-requires-clause-complete : goal.put_field_of-requires-clause-complete
 put_field_of-requires-clause-complete c =
@@ -103,4 +103,4 @@ returns-clause-puts c = λ behind others is are.
     (subst (λ (table : Table). TellsFields table after (then_member others (field_told behind others.fields name (Some (meaning table c.in-Some.t)) (faulty_member added holds)))) same.types
     (c.in_ok-put_field_of.ensures.puts behind others added holds (in_same old new behind same is)
     (subst (λ (table : Table). TellsFields table c.put_sizeof.new.self others) (sym same.types) tells)
-    (subst (λ (table : Table). IsThereWhere table behind c.put_sizeof.new.self.fields.items name c.in-Some.t c.in_ok-size.size) (sym same.types) (c.in_ok-size.ensures.size behind is))))))
+    (subst (λ (table : Table). IsThereWhere table behind c.put_sizeof.new.self.fields name c.in-Some.t c.in_ok-size.size) (sym same.types) (c.in_ok-size.ensures.size behind is))))))

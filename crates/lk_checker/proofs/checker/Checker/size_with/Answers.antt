@@ -38,12 +38,12 @@ returns-clause-keeps c = λ env is.
     let new = c.keep_member_size.new.self in
     let same = c.in_ok-is_free.ensures.same in
     let d = c.args.d.now in
-    let xs = c.args.out.now.fields.items in
+    let xs = c.args.out.now.fields in
     let has = c.requires.fields in
     let before = map (field_in old.types) xs in
     let t = meaning old.types c.args.t in
     let name = (declarator_found d).name in
-    let one = subst (λ xs. KeepsName old middle env (map (field_in old.types) xs) name t) c.as_slice.ensures.value (c.in_ok-is_free.ensures.kept env is) in
+    let one = c.in_ok-is_free.ensures.kept env is in
     let two = c.in_ok-larger.ensures.kept env xs (in_same old middle env same is)
     (subst (λ (table : Table). All (λ field. IsKnown table field.ty) xs) (sym same.types) (λ k d within. (has.parts k d within).known))
     (has.size ∙ ap (λ (table : Table). fields_size table (map (λ field. field.ty) xs)) (sym same.types)) in
@@ -59,11 +59,11 @@ returns-clause-size c = λ env is.
     let old = c.args.self.now in
     let middle = c.keep_name_of.new.self in
     let same = c.in_ok-is_free.ensures.same in
-    let xs = c.args.out.now.fields.items in
+    let xs = c.args.out.now.fields in
     let before = map (field_in old.types) xs in
     let t = meaning old.types c.args.t in
     let name = (declarator_found c.args.d.now).name in
-    let free = subst (λ xs. c.in_ok-is_free.is_free ≡ is_free env (map (field_in old.types) xs) name t) c.as_slice.ensures.value (c.in_ok-is_free.ensures.free env is) in
+    let free = c.in_ok-is_free.ensures.free env is in
     let larger = subst (λ (table : Table). IsLarger table env xs c.args.t c.in_ok-larger.larger) same.types
     (c.in_ok-larger.ensures.larger env xs (in_same old middle env same is)
     (subst (λ (table : Table). All (λ field. IsKnown table field.ty) xs) (sym same.types) (λ k d within. (c.requires.fields.parts k d within).known))
@@ -76,7 +76,7 @@ returns-clause-small c =
     let old = c.args.self.now in
     let middle = c.keep_name_of.new.self in
     let same = c.in_ok-is_free.ensures.same in
-    let xs = c.args.out.now.fields.items in
+    let xs = c.args.out.now.fields in
     let some = somewhere old (operand_in true) in
     let larger = subst (λ (table : Table). IsLarger table some.0 xs c.args.t c.in_ok-larger.larger) same.types
     (c.in_ok-larger.ensures.larger some.0 xs (in_same old middle some.0 same some.1.is_in)
@@ -89,11 +89,11 @@ returns-clause-complete c =
     let old = c.args.self.now in
     let middle = c.keep_name_of.new.self in
     let same = c.in_ok-is_free.ensures.same in
-    let xs = c.args.out.now.fields.items in
+    let xs = c.args.out.now.fields in
     let some = somewhere old (operand_in true) in
     let t = meaning old.types c.args.t in
     let name = (declarator_found c.args.d.now).name in
-    let free = subst (λ xs. c.in_ok-is_free.is_free ≡ is_free some.0 (map (field_in old.types) xs) name t) c.as_slice.ensures.value (c.in_ok-is_free.ensures.free some.0 some.1.is_in) in
+    let free = c.in_ok-is_free.ensures.free some.0 some.1.is_in in
     subst (λ size. IfSome size (λ n. is_complete (structs_in old.types old.names.structs) t ≡ true)) (sym c.size_if.ensures)
     (if_free c.in_ok-is_free.is_free c.in_ok-larger.larger (λ yes.
     ap (λ (e : Env). is_complete e.structs t) some.1.is_in.scope ∙ free_complete some.0 (map (field_in old.types) xs) name t (sym free ∙ yes)))
