@@ -1,4 +1,4 @@
--- Composite types in a table: what may be made of them, and that they are within the bounds.
+-- Composite types in a table: what may be made of them, and that they are within the bounds of a table.
 use Rattle.std.proofs.Common.{◌≡◌, ◌∙◌, ◌*◌, ◌<◌, ◌^◌, ◌++◌, ℕ, zero, suc, Bool, true, List, [], ◌∷◌, Option, Some, None, length, take, map, refl, sym, ap, subst, arith, All, append-nil, ◌+◌}
 use Rattle.std.specs.Prelude.{IsSome, nat_eq, unwrap_or, ◌&&◌}
 use Rattle.std.specs.List.{slice_get}
@@ -7,13 +7,14 @@ use Rattle.std.proofs.lemmas.Bool.{and_parts, false≢true}
 use Rattle.std.proofs.lemmas.List.Elements.{All-head, All-tail, All-cons, All-nil, All-weaker}
 use Rattle.std.proofs.lemmas.Option.{none-some, same_Some}
 use Rattle.lk_types.specs.Building.{IsTable, IsForm, IsLonger, IsMadeOf, IsPartOfObjects, IsPassed, types_of as member_types}
+use Rattle.lk_types.specs.Sizes.{is_over}
 use Rattle.lk_types.specs.Table.{Table, IsKnown, is_complete, is_complete_form, members_of, type_at}
 use Rattle.lk_types.specs.declared.c_type.CType.{CType}
 use Rattle.lk_types.specs.declared.c_type.CType.TheVariants as forms
 use Rattle.lk_types.proofs.FormEq.{take_more}
 use Rattle.lk_types.proofs.GrowLemmas.{form_grown, known_same, longer_then}
 use Rattle.lk_typed.specs.Told.{with_optional}
-use Rattle.lk_typed.specs.Bounds.{holds_struct, is_large}
+use Rattle.lk_typed.specs.Bounds.{holds_struct, size_of}
 use Rattle.lk_typed.specs.Declarations.{composite, composites, sized}
 use Rattle.lk_typed.specs.DeclaratorRules.{elements}
 use Rattle.lk_typed.specs.Elements.{HasFewElements}
@@ -21,12 +22,12 @@ use Rattle.lk_typed.specs.Meaning.{meaning, tree_of}
 use Rattle.lk_typed.specs.Ty.{Signature, Ty, Tys, Pointer, Array, Function, types_of, is_equal_but, are_equal_but, is_redeclarable, sizes_or_none, target_of, array_of, function_of}
 use Rattle.lk_typed.proofs.Meanings.{made_by, meaning_by, meaning_is, meaning_stays, more_same}
 use Rattle.lk_check_decl.specs.Making as made
-use Rattle.lk_check_decl.specs.Making.{IsMade, IsThere}
+use Rattle.lk_check_decl.specs.Storing.{IsStored}
 use Rattle.lk_check_decl.proofs.Sizes.{holds_is, known_small}
 use Rattle.lk_check_decl.specs.declared.composite.ArrayParts.{ArrayParts}
 use Rattle.lk_check_decl.specs.declared.composite.FunctionParts.{FunctionParts}
 use Rattle.lk_check_decl.specs.Composites.{AddsTypes, IsArrayOf, IsFunctionOf, PointsTo, Stands, StandEach, none as no_numbers, more as one_more}
-use Rattle.lk_check_decl.proofs.Composites.{HasSizes, complete_composite, few_composite, holds_composite, is_complete_tree, large_composite, not_true}
+use Rattle.lk_check_decl.proofs.Composites.{HasSizes, complete_composite, few_composite, holds_composite, is_complete_tree, not_true, over_composite}
 
 -- ---- complete types
 
@@ -86,22 +87,22 @@ module _ (old new : Table) (good : IsTable old) (new_good : IsTable new) where
     no_struct = sym (holds_is new new_good c known) ∙ ap holds_struct means ∙ holds_composite (meaning old a) b ∙ holds_is old good a passed.known ∙ passed.no_struct;
   }
 
-  -- it is within the bounds, so it was made
-  pub made_there : (longer : IsLonger old new) (t : ℕ) → IsKnown old t → (b tree : Ty) → tree ≡ composite (meaning old t) b → (last : Table) (answer : Option ℕ) → IsMade new last tree answer →
+  -- it is within the bounds of the table, so it is stored
+  pub made_there : (longer : IsLonger old new) (t : ℕ) → IsKnown old t → (b tree : Ty) → tree ≡ composite (meaning old t) b → (last : Table) (answer : Option ℕ) → IsStored new last tree answer →
       IsSome answer
   made_there longer t known b tree is last (Some u) made = refl
-  made_there longer t known b tree is last None large =
+  made_there longer t known b tree is last None over =
       let fields = λ (s : ℕ). map (meaning new) (member_types (members_of new s)) in
       absurd
       (false≢true
       (sym
-      (ap (is_large fields) is ∙ large_composite fields (meaning old t) b ∙ ap (is_large fields) (sym (meaning_stays old new good longer t known)) ∙ known_small new new_good fields (λ s. refl) t (known_same old new good longer t known)) ∙
-      large fields (λ s. refl)))
+      (ap (λ t. is_over (size_of fields t)) is ∙ over_composite fields (meaning old t) b ∙ ap (λ t. is_over (size_of fields t)) (sym (meaning_stays old new good longer t known)) ∙ known_small new new_good fields (λ s. refl) t (known_same old new good longer t known)) ∙
+      over fields (λ s. refl)))
 
 -- what was made stands for the composite
-pub made_stands : (old new : Table) (tree other : Ty) (answer : Option ℕ) (t : ℕ) → IsMade old new tree answer → answer ≡ Some t → tree ≡ other → Stands new other t
+pub made_stands : (old new : Table) (tree other : Ty) (answer : Option ℕ) (t : ℕ) → IsStored old new tree answer → answer ≡ Some t → tree ≡ other → Stands new other t
 made_stands old new tree other answer t made some is =
-    let there : IsThere old new tree t = subst (IsMade old new tree) some made in
+    let there : Stands new tree t = subst (IsStored old new tree) some made in
     record { known = there.known; means = there.means ∙ is }
 
 -- ---- types that functions take, in a longer table

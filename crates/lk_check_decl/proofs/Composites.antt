@@ -3,11 +3,11 @@ use Rattle.std.proofs.Common.{◌≡◌, ◌∙◌, ◌*◌, ◌<◌, ◌^◌, �
 use Rattle.std.specs.Prelude.{⊤, not, unwrap_or, ◌||◌, if◌then◌else◌}
 use Rattle.std.specs.List.{slice_get}
 use Rattle.std.proofs.lemmas.Bool.{and_parts, eqb-true, false≢true}
-use Rattle.lk_types.specs.Sizes.{start_size, with_part, is_too_large}
+use Rattle.lk_types.specs.Sizes.{start_size, with_part, is_over}
 use Rattle.lk_types.specs.Table.{is_empty}
 use Rattle.lk_types.specs.declared.member.StructMember.{StructMember}
 use Rattle.lk_types.specs.declared.size.TypeSize.{TypeSize}
-use Rattle.lk_typed.specs.Bounds.{holds_struct, is_void, is_large, parts_of, plain, size_of_parts, size_within, steps_counted}
+use Rattle.lk_typed.specs.Bounds.{holds_struct, is_void, parts_of, plain, size_of, size_of_parts, size_within, steps_counted}
 use Rattle.lk_typed.specs.Declarations.{composite, composites, sized}
 use Rattle.lk_typed.specs.DeclaratorRules.{elements}
 use Rattle.lk_typed.specs.Told.{with_optional}
@@ -104,9 +104,9 @@ unfolding size_within
 size_composite zero fields a b = refl
 size_composite (suc n) fields a b = layer_size (size_within n fields) (size_composite n fields) fields a b
 
--- the composite is over a bound exactly where the type is
-pub large_composite : (fields : ℕ → List Ty) (a b : Ty) → is_large fields (composite a b) ≡ is_large fields a
-large_composite fields a b = ap is_too_large (size_composite steps_counted fields a b)
+-- the composite is over the bounds of a table exactly where the type is
+pub over_composite : (fields : ℕ → List Ty) (a b : Ty) → is_over (size_of fields (composite a b)) ≡ is_over (size_of fields a)
+over_composite fields a b = ap is_over (size_composite steps_counted fields a b)
 
 -- ---- its size
 

@@ -1,25 +1,25 @@
 -- An array without a size has the one that its initialiser gives.
-use Rattle.std.proofs.Common.{◌≡◌, ◌∙◌, ◌*◌, ◌<◌, ◌^◌, ◌⊎◌, inl, inr, ℕ, Bool, true, false, List, Option, Some, None, option_map, nat_eq, nat_le, refl, sym, ap, subst, map, arith}
+use Rattle.std.proofs.Common.{◌≡◌, ◌∙◌, ◌<◌, ◌^◌, ◌⊎◌, inl, inr, ℕ, Bool, true, false, List, Option, Some, None, option_map, nat_le, refl, sym, ap, subst, map, arith}
 use Rattle.std.proofs.lemmas.Bool.{false≢true}
 use Rattle.std.proofs.lemmas.Bool.Decides.{nat_tests}
-use Rattle.std.proofs.lemmas.Option.{none-some, same_Some}
 use Rattle.lk_base.specs.declared.kind.Kind.{Kind}
 use Rattle.lk_base.specs.declared.code.Code.TheVariants.{VariableArray}
-use Rattle.lk_tree.specs.declared.declaration.Init.{Init, out-Init}
+use Rattle.lk_tree.specs.declared.declaration.Init.{Init}
 use Rattle.lk_types.specs.Building.{IsTable, types_of as member_types}
+use Rattle.lk_types.specs.Sizes.{is_over}
 use Rattle.lk_types.specs.Table.{Table, IsKnown, members_of}
 use Rattle.lk_types.specs.declared.c_type.CType.{CType}
 use Rattle.lk_types.specs.declared.c_type.CType.TheVariants as forms
-use Rattle.lk_typed.specs.Bounds.{is_large, size_within, steps_counted}
-use Rattle.lk_typed.specs.Declarations.{completed, elements_given}
+use Rattle.lk_typed.specs.Bounds.{size_of, size_within, steps_counted}
+use Rattle.lk_typed.specs.Declarations.{completed}
 use Rattle.lk_typed.specs.DeclaratorRules.{elements, most_elements, unless}
-use Rattle.lk_typed.specs.Initialisers.{completed_by, size_of_init}
+use Rattle.lk_typed.specs.Initialisers.{completed_by}
 use Rattle.lk_typed.specs.Meaning.{meaning, tree_of}
 use Rattle.lk_typed.specs.Told.{unless_broken}
-use Rattle.lk_typed.specs.Ty.{Ty, Void, Int, ThreadId, Mutex, Cond, Pointer, Array, Struct, Function, Opaque, array_of}
+use Rattle.lk_typed.specs.Ty.{Ty, Array, array_of}
 use Rattle.lk_check_decl.proofs.Sizes.{known_small}
 use Rattle.lk_check_decl.specs.GivenSizes.{GivesSize, IsSizedBy}
-use Rattle.lk_check_decl.specs.Making.{AreFields, IsLarge}
+use Rattle.lk_check_decl.specs.Storing.{IsOver}
 
 -- ---- what is no array
 
@@ -55,17 +55,17 @@ told_none init tree made is many = sym (told_type init tree made false is many)
 
 -- ---- an array is as large with a size as without one
 
-isnt_large : (table : Table) → IsTable table → (t : ℕ) → IsKnown table t → (element : Ty) → meaning table t ≡ Array element 0 → (n : ℕ) → IsLarge table (Array element n) true → ⊥
+isnt_over : (table : Table) → IsTable table → (t : ℕ) → IsKnown table t → (element : Ty) → meaning table t ≡ Array element 0 → (n : ℕ) → IsOver table (Array element n) true → ⊥
 unfolding size_within steps_counted
-isnt_large table good t known element is n large =
+isnt_over table good t known element is n over =
     let fields = λ (s : ℕ). map (meaning table) (member_types (members_of table s)) in
-    false≢true (sym (subst (λ tree. is_large fields tree ≡ false) is (known_small table good fields (λ s. refl) t known)) ∙ large fields (λ s. refl))
+    false≢true (sym (subst (λ tree. is_over (size_of fields tree) ≡ false) is (known_small table good fields (λ s. refl) t known)) ∙ over fields (λ s. refl))
 
 -- what was made of an array without a size
 pub sized_means : (old new : Table) → IsTable old → (t : ℕ) → IsKnown old t → (element : Ty) → meaning old t ≡ Array element 0 → (size : ℕ) (made : Option ℕ) →
     IsSizedBy old new element size made → (init : Init) → GivesSize init (meaning old t) size → option_map (meaning new) made ≡ completed (Some init) (Some (meaning old t))
 sized_means old new good t known element is size None (inl many) init gives = told_none init (meaning old t) (Array element size) (completed_is init (meaning old t) element size is gives) many
-sized_means old new good t known element is size None (inr large) init gives = absurd (isnt_large old good t known element is size large)
+sized_means old new good t known element is size None (inr over) init gives = absurd (isnt_over old good t known element is size over)
 sized_means old new good t known element is size (Some u) made init gives =
     ap Some made.1.means ∙ told_few init (meaning old t) (Array element size) (completed_is init (meaning old t) element size is gives) made.0
 

@@ -2,6 +2,7 @@ pub mod Told
 pub mod Sizes
 mod Made
 mod MemberSizes
+mod Sets
 mod MainLemmas
 mod FieldLemmas
 mod GivenSizes

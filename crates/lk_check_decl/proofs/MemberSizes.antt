@@ -3,7 +3,7 @@ use Rattle.std.proofs.Common.{◌≡◌, ◌∙◌, ◌++◌, ℕ, Bool, true, f
 use Rattle.std.specs.Prelude.{not}
 use Rattle.lk_base.specs.declared.code.Code.TheVariants.{LargeType}
 use Rattle.lk_types.specs.Building.{IsTable}
-use Rattle.lk_types.specs.Sizes.{Fits, start_size, with_part, size_at, is_too_large}
+use Rattle.lk_types.specs.Sizes.{FitsBy, start_size, with_part, size_at, is_too_large}
 use Rattle.lk_types.specs.Table.{Table, IsKnown}
 use Rattle.lk_types.specs.declared.size.TypeSize.{TypeSize}
 use Rattle.lk_typed.specs.Bounds.{plain, size_of}
@@ -29,7 +29,7 @@ told_small : (large : Bool) → large ≡ false → told (unless (not large) Lar
 told_small large is = rw is refl
 
 pub with_member : (table : Table) → IsTable table → (t : ℕ) → IsKnown table t → (size : TypeSize) (env : Env) (before : List Field) →
-    AreFields table (fields_in env) → size ≡ size_with env (types_of before) → (answer : Option TypeSize) → Fits (with_part size (size_at table t)) answer →
+    AreFields table (fields_in env) → size ≡ size_with env (types_of before) → (answer : Option TypeSize) → FitsBy is_too_large (with_part size (size_at table t)) answer →
     IsWithMember env before (meaning table t) answer
 with_member table good t known size env before same is answer fits = of answer fits
   where
@@ -42,7 +42,7 @@ with_member table good t known size env before same is answer fits = of answer f
         ap (with_part (size_with env (types_of before))) (sym (tree_size table good (fields_in env) same t known)) ∙
         sym (one_more (size_of (fields_in env)) start_size (types_of before) tree)
 
-    of : (answer : Option TypeSize) → Fits (with_part size (size_at table t)) answer → IsWithMember env before tree answer
+    of : (answer : Option TypeSize) → FitsBy is_too_large (with_part size (size_at table t)) answer → IsWithMember env before tree answer
     of None large = told_large (is_too_large (size_with env (types_of before ++ tree ∷ []))) (ap is_too_large (sym whole) ∙ large)
     of (Some found) fits =
         (fits.0 ∙ whole, told_small (is_too_large (size_with env (types_of before ++ tree ∷ []))) (ap is_too_large (sym whole) ∙ fits.1))

@@ -8,7 +8,7 @@ use Rattle.lk_types.proofs.Fuel.{sizes_are_of_parts}
 use Rattle.lk_types.proofs.SubwalkLemmas.{lower_parts}
 use Rattle.lk_types.specs.Building.{IsTable, IsForm, IsMadeOf, types_of as member_types}
 use Rattle.lk_types.specs.Sizes as walks
-use Rattle.lk_types.specs.Sizes.{start_size, with_part, size_at, steps_of, form_size, is_too_large, HasLowerParts}
+use Rattle.lk_types.specs.Sizes.{start_size, with_part, size_at, steps_of, form_size, is_over, HasLowerParts}
 use Rattle.lk_types.specs.Table.{Table, type_at, least_of, members_of, IsKnown, HasKnown}
 use Rattle.lk_types.specs.Walks as walk
 use Rattle.lk_types.specs.Walks.{Branch, branches, fields as field_branches, has_tag, holds, holds_within}
@@ -43,7 +43,7 @@ plain_parts below at tree (u ∷ us) k size all =
     ap (λ part. with_parts below (with_part size part) (map plain (map tree us))) (All-head (λ u. below (tree u) ≡ at u) u us all) ∙
     plain_parts below at tree us (suc k) (with_part size (at u)) (All-tail (λ u. below (tree u) ≡ at u) u us all)
 
-steps_within : (size : TypeSize) → is_too_large size ≡ false → size.steps ≤ 1000
+steps_within : (size : TypeSize) → is_over size ≡ false → size.steps ≤ 1002
 steps_within size small = grind (arith, nat_tests)
 
 -- ---- the size of a form by its parts
@@ -185,10 +185,10 @@ module _ (table : Table) (good : IsTable table) (fields : ℕ → List Ty) (same
       (of_lower t known (λ u. size_within n fields (meaning table u) ≡ size_at table u) (λ u there less. within_same n u there (omega (arith, less, few))) (type_at table t) made low) ∙
       sym (size_of_form t known)
 
-  few_steps : (t : ℕ) → IsKnown table t → steps_of table t ≤ 1000
+  few_steps : (t : ℕ) → IsKnown table t → steps_of table t ≤ 1002
   few_steps t known = steps_within (size_at table t) (small_at table good t known)
 
-  counted : (n : ℕ) → n ≤ 1000 → n ≤ steps_counted
+  counted : (n : ℕ) → n ≤ 1002 → n ≤ steps_counted
   unfolding steps_counted
   counted n less = omega (arith, less)
 
@@ -196,15 +196,15 @@ module _ (table : Table) (good : IsTable table) (fields : ℕ → List Ty) (same
   pub tree_size : (t : ℕ) → IsKnown table t → spec.size_of fields (meaning table t) ≡ size_at table t
   tree_size t known = within_same steps_counted t known (counted (steps_of table t) (few_steps t known))
 
-  pub known_small : (t : ℕ) → IsKnown table t → spec.is_large fields (meaning table t) ≡ false
-  known_small t known = ap is_too_large (tree_size t known) ∙ small_at table good t known
+  pub known_small : (t : ℕ) → IsKnown table t → is_over (spec.size_of fields (meaning table t)) ≡ false
+  known_small t known = ap is_over (tree_size t known) ∙ small_at table good t known
 
   -- one layer
   one_layer : (n : ℕ) (tree : Ty) → size_within (suc n) fields tree ≡ spec.size_of_parts (size_within n fields) (spec.parts_of fields tree)
   unfolding size_within
   one_layer n tree = refl
 
-  layers : steps_counted ≡ suc 1000
+  layers : steps_counted ≡ suc 1002
   unfolding steps_counted
   layers = refl
 
@@ -233,10 +233,9 @@ module _ (table : Table) (good : IsTable table) (fields : ℕ → List Ty) (same
   of_known P all (forms.Opaque n) derived is = absurd derived
 
   -- a form that is about to be put is as large as its tree
-  pub form_large : (form : CType) → IsDerived form → IsForm table form → spec.is_large fields (tree_of (meaning table) form) ≡ is_too_large (form_size table form)
-  form_large form derived is =
-      ap is_too_large
-      (ap (λ n. size_within n fields (tree_of (meaning table) form)) layers ∙
-      one_layer 1000 (tree_of (meaning table) form) ∙
-      form_same (size_within 1000 fields) form (derived_known form derived is)
-      (of_known (λ u. size_within 1000 fields (meaning table u) ≡ size_at table u) (λ u there. within_same 1000 u there (few_steps u there)) form derived is))
+  pub form_tree_size : (form : CType) → IsDerived form → IsForm table form → spec.size_of fields (tree_of (meaning table) form) ≡ form_size table form
+  form_tree_size form derived is =
+      ap (λ n. size_within n fields (tree_of (meaning table) form)) layers ∙
+      one_layer 1002 (tree_of (meaning table) form) ∙
+      form_same (size_within 1002 fields) form (derived_known form derived is)
+      (of_known (λ u. size_within 1002 fields (meaning table u) ≡ size_at table u) (λ u there. within_same 1002 u there (few_steps u there)) form derived is)

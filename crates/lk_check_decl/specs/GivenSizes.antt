@@ -6,7 +6,8 @@ use Rattle.lk_typed.specs.DeclaratorRules.{elements, most_elements}
 use Rattle.lk_typed.specs.Initialisers.{completed_by, size_of_init}
 use Rattle.lk_typed.specs.Meaning.{meaning}
 use Rattle.lk_typed.specs.Ty.{Ty, Array}
-use Rattle.lk_check_decl.specs.Making.{IsLarge, IsThere}
+use Rattle.lk_check_decl.specs.Composites.{Stands}
+use Rattle.lk_check_decl.specs.Storing.{IsOver}
 use Rattle.lk_check_decl.specs.declared.completing.ArrayParts.{ArrayParts}
 
 -- an array without a size has elements of this type; anything else is left as it is by an initialiser
@@ -21,8 +22,8 @@ GivesSize init tree size = (element : Ty) (n : ℕ) → tree ≡ Array element n
 abbrev pub elements_in : Table → ArrayParts → Ty × ℕ
 elements_in table parts = (meaning table parts.element, parts.count)
 
--- an array of so many elements was made; or they are too many, or it is too large
+-- an array of so many elements was made; or they are too many, or it is over one of the bounds of a table
 abbrev pub IsSizedBy : Table → Table → Ty → ℕ → Option ℕ → Type 0
 IsSizedBy old new element size answer =
-    MatchOption answer ((nat_le (size * elements element) most_elements ≡ false) ⊎ IsLarge old (Array element size) true)
-    (λ u. (nat_le (size * elements element) most_elements ≡ true) × IsThere old new (Array element size) u)
+    MatchOption answer ((nat_le (size * elements element) most_elements ≡ false) ⊎ IsOver old (Array element size) true)
+    (λ u. (nat_le (size * elements element) most_elements ≡ true) × Stands new (Array element size) u)

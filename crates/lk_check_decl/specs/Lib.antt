@@ -2,8 +2,10 @@ pub mod Arrays
 pub mod Breaches
 pub mod Initialisers
 pub mod Making
+pub mod Storing
 pub mod Members
 pub mod Names
+pub mod Sets
 pub mod Switches
 pub mod Twins
 pub mod GivenSizes

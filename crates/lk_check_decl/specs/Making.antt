@@ -19,13 +19,13 @@ AreFields table fields = (s : ℕ) → fields s ≡ map (meaning table) (member_
 abbrev pub IsLarge : Table → Ty → Bool → Type 0
 IsLarge table tree large = (fields : ℕ → List Ty) → AreFields table fields → is_large fields tree ≡ large
 
--- the type is there, and is within its bounds
+-- the type is there, and is within the bounds of the language
 pub record IsThere (old new : Table) (tree : Ty) (t : ℕ) : Type 0 where
   pub known : IsKnown new t
   pub means : meaning new t ≡ tree
   pub small : IsLarge old tree false
 
--- the type was made, or is over one of its bounds
+-- the type was made, or is over one of the bounds of the language
 abbrev pub IsMade : Table → Table → Ty → Option ℕ → Type 0
 IsMade old new tree answer = MatchOption answer (IsLarge old tree true) (IsThere old new tree)
 

@@ -14,7 +14,7 @@ ghost use Rattle.lk_check_decl.specs.GivenSizes.{elements_in, GivesSize, IsSized
 
 use crate::arrays::has_few;
 use crate::breaches::unless;
-use crate::making::array_of;
+use crate::storing::stored_array;
 use lk_base::{Code, NoMemory};
 use lk_types::{CType, TypeId, TypeTable};
 
@@ -68,7 +68,7 @@ fn unsized_element(types: &TypeTable, t: TypeId) -> Option<TypeId>
 }
 
 /// The type of arrays of so many elements; nothing exactly where they are more than an array may have, or the type is over one
-/// of its bounds.
+/// of the bounds of a table.
 fn sized(types: &mut TypeTable, element: TypeId, size: u64) -> Result<Option<TypeId>, NoMemory>
     requires { IsPartOfObjects types.old element }
     ensures ok { IfOk result (IsSizedBy types.old types.new (meaning types.old element) size) }
@@ -80,7 +80,7 @@ fn sized(types: &mut TypeTable, element: TypeId, size: u64) -> Result<Option<Typ
     if !has_few(types, size, element) {
         return Ok(None);
     }
-    let made = array_of(types, element, size)?;
+    let made = stored_array(types, element, size)?;
     Ok(made)
 }
 

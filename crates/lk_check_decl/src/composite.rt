@@ -10,7 +10,7 @@ ghost use Rattle.lk_typed.specs.Ty as trees;
 ghost use Rattle.lk_typed.specs.Ty.{are_equal_but, is_redeclarable, sizes_or_none, types_of};
 ghost use Rattle.lk_check_decl.specs.Composites.{AddsTypes, IsArrayOf, IsFunctionOf, PointsTo, StandEach, Stands};
 
-use crate::making::{array_of, function_of, pointer_to};
+use crate::storing::{stored_array, stored_function, stored_pointer};
 use lk_base::NoMemory;
 use lk_types::{CType, TypeId, TypeIds, TypeTable};
 use std::alloc::Global;
@@ -163,7 +163,7 @@ fn of_pointers(
         Some(other) => {
             let both = composite(alloc, types, target, other)?;
             types.is_table();
-            let made = pointer_to(types, both)?;
+            let made = stored_pointer(types, both)?;
             types.is_table();
             Ok(made.unwrap())
         }
@@ -193,7 +193,7 @@ fn of_arrays(
         Some(other) => {
             let both = composite(alloc, types, parts.element, other.element)?;
             types.is_table();
-            let made = array_of(types, both, sized(parts.size, other.size))?;
+            let made = stored_array(types, both, sized(parts.size, other.size))?;
             types.is_table();
             Ok(made.unwrap())
         }
@@ -225,7 +225,7 @@ fn of_functions(
             types.is_table();
             let params = of_params(alloc, types, parts.params.list(), other.params.list())?;
             types.is_table();
-            let made = function_of(types, both, params, parts.dots)?;
+            let made = stored_function(types, both, params, parts.dots)?;
             types.is_table();
             Ok(made.unwrap())
         }

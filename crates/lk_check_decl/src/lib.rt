@@ -7,26 +7,32 @@
 
 mod arrays;
 mod breaches;
+mod case_values;
 mod completing;
 mod composite;
 mod declarators;
 mod enumerators;
+mod fields;
 mod initialisers;
 mod making;
 mod members;
 mod names;
 mod statements;
 mod storages;
+mod storing;
 mod switches;
 mod words;
+mod written;
 
 pub use arrays::{ArraySize, MOST_ELEMENTS, array_code, array_count};
+pub use case_values::CaseValues;
 pub use completing::{completed, given_code};
 pub use composite::composite_if_equal;
 pub use declarators::{
     definition_code, function_code, parameter_code, parameter_name_code, pointer_code,
 };
 pub use enumerators::{next_code, next_value, written_code, written_value};
+pub use fields::Fields;
 pub use initialisers::{
     Braces, Seen, Target, entry_target, entry_type, expression_code, is_text_for, list_code,
     list_size, size_code, text_size,
@@ -39,5 +45,7 @@ pub use storages::{
     defines_of, has_extern, has_static, has_typedef, linkage_of, may_have, may_lack_size,
     specifier_code,
 };
+pub use storing::stored_pointer;
 pub use switches::{Switch, break_code, case_code, case_value, continue_code, default_code};
 pub use words::{Given, Holder, Scope};
+pub use written::{braces_of, text_of};

@@ -1,4 +1,4 @@
-//! Types that declarators make (C99 6.7.5). A type over one of its bounds isn't made: code 32 holds there.
+//! Types that declarators make (C99 6.7.5). A type over one of the bounds of the language isn't made: code 32 holds there.
 ghost use Rattle.std.specs.Prelude.{◌≡◌, ◌∷◌, ◌*◌, ◌<◌, ◌^◌, All, OnErr, IfOk, IfSome};
 ghost use Rattle.lk_types.specs.Building.{IsForm, IsLonger, IsPartOfObjects, IsPassed};
 ghost use Rattle.lk_types.specs.Table.{IsKnown};
@@ -8,6 +8,7 @@ ghost use Rattle.lk_typed.specs.Meaning.{meaning, tree_of};
 ghost use Rattle.lk_typed.specs.Ty.{Pointer, Array};
 ghost use Rattle.lk_check_decl.specs.Making.{function_tree, IsAdjusted, IsDerived, IsMade};
 
+use crate::storing::store;
 use lk_base::NoMemory;
 use lk_typed::form;
 use lk_types::{CType, TypeId, TypeIds, TypeTable};
@@ -23,18 +24,14 @@ fn made(types: &mut TypeTable, form: CType) -> Result<Option<TypeId>, NoMemory>
     ensures err { OnErr result (types.new ≡ types.old) }
 {
     types.is_table();
-    if types.form_size(&form).is_none() {
+    if types.is_large_form(&form) {
         return Ok(None);
     }
-    if types.count() == u32::MAX {
-        return Err(NoMemory);
-    }
-    let t = types.put(form)?;
-    types.is_table();
+    let t = store(types, form)?;
     Ok(Some(t))
 }
 
-/// The type of pointers to a type, or nothing exactly where it is over one of the bounds.
+/// The type of pointers to a type, or nothing exactly where it is over one of the bounds of the language.
 pub fn pointer_to(types: &mut TypeTable, target: TypeId) -> Result<Option<TypeId>, NoMemory>
     requires { IsKnown types.old target }
     ensures ok { IfOk result (IsMade types.old types.new (Pointer (meaning types.old target))) }
@@ -46,7 +43,8 @@ pub fn pointer_to(types: &mut TypeTable, target: TypeId) -> Result<Option<TypeId
     made(types, CType::Pointer(target))
 }
 
-/// The type of arrays of so many elements, 0 where no size is known; or nothing exactly where it is over one of the bounds.
+/// The type of arrays of so many elements, 0 where no size is known; or nothing exactly where it is over one of the bounds of
+/// the language.
 pub fn array_of(
     types: &mut TypeTable,
     element: TypeId,
@@ -63,7 +61,8 @@ pub fn array_of(
     made(types, CType::Array(element, count))
 }
 
-/// The type of functions with this result and these parameters, or nothing exactly where it is over one of the bounds.
+/// The type of functions with this result and these parameters, or nothing exactly where it is over one of the bounds of the
+/// language.
 pub fn function_of(
     types: &mut TypeTable,
     returned: TypeId,
@@ -107,8 +106,20 @@ fn adjusted_target(types: &TypeTable, t: TypeId) -> Option<TypeId>
     }
 }
 
+/// A type of the table, or nothing exactly where it is over one of the bounds of the language.
+fn bounded(types: &TypeTable, t: TypeId) -> Option<TypeId>
+    requires { IsKnown types.now t }
+    ensures { IsMade types.now types.now (meaning types.now t) result }
+{
+    types.is_table();
+    if types.size(t).is_too_large() {
+        return None;
+    }
+    Some(t)
+}
+
 /// The type of a parameter, which is a pointer where it is written as an array or a function (C99 6.7.5.3, 7 and 8); or
-/// nothing exactly where that is over one of the bounds.
+/// nothing exactly where that is over one of the bounds of the language.
 pub fn adjusted(types: &mut TypeTable, t: TypeId) -> Result<Option<TypeId>, NoMemory>
     requires { IsKnown types.old t }
     ensures ok { IfOk result (IsMade types.old types.new (adjusted (meaning types.old t))) }
@@ -120,6 +131,6 @@ pub fn adjusted(types: &mut TypeTable, t: TypeId) -> Result<Option<TypeId>, NoMe
     types.is_table();
     match adjusted_target(types, t) {
         Some(target) => pointer_to(types, target),
-        None => Ok(Some(t)),
+        None => Ok(bounded(types, t)),
     }
 }

@@ -2,7 +2,7 @@
 use Rattle.std.proofs.Common.{◌≡◌, ◌∙◌, ◌<◌, ◌*◌, ◌^◌, ℕ, false, sym, ap, subst, arith}
 use Rattle.lk_base.specs.declared.kind.Kind.TheVariants as kind
 use Rattle.lk_types.specs.Building.{IsForm}
-use Rattle.lk_types.specs.Sizes.{form_size, size_at, start_size, with_part, is_too_large}
+use Rattle.lk_types.specs.Sizes.{form_size, size_at, start_size, with_part, is_over}
 use Rattle.lk_types.specs.Table.{Table, is_complete_form}
 use Rattle.lk_types.specs.declared.c_type.CType.TheVariants as forms
 use Rattle.lk_types.proofs.Fuel.{sizes_are_of_parts}
@@ -19,8 +19,8 @@ module _ (table : Table) (ready : IsReady table) (n : ℕ) where
   pub may_stand : IsForm table (forms.Array 2 n)
   may_stand = record { known = kind_known table ready kind.Char; complete = ap (is_complete_form table) (char_at table ready) }
 
-  pub is_small : is_too_large (form_size table (forms.Array 2 n)) ≡ false
-  is_small = ap (λ size. is_too_large (with_part start_size size)) char_size
+  pub is_small : is_over (form_size table (forms.Array 2 n)) ≡ false
+  is_small = ap (λ size. is_over (with_part start_size size)) char_size
 
   pub has_few : n < 2 ^ 64 → IsFew table (forms.Array 2 n)
   has_few few = subst (λ t. n * elements t < 2 ^ 64) (sym (kind_means table ready kind.Char)) (omega (arith, few))

@@ -8,7 +8,7 @@ ghost use Rattle.lk_typed.specs.Ty.{Pointer};
 
 use crate::unreached::nowhere;
 use lk_base::NoMemory;
-use lk_check_decl::pointer_to;
+use lk_check_decl::stored_pointer;
 use lk_types::{TypeId, TypeTable, predeclared_types_stay};
 use std::marker::Model;
 
@@ -60,9 +60,8 @@ impl SourceTypes {
         table
     }
 
-    /// The pointer to a type.
-    ///
-    /// Where it were over the bounds of types, it is refused where it is declared.
+    /// The pointer to a type. The table has room for it: no type that is declared is over the bounds of the language, and
+    /// those of a table are wider.
     pub fn pointer(&mut self, target: TypeId) -> Result<TypeId, NoMemory>
         requires { IsKnown self.old target }
         ensures means { IfOk result (λ t. meaning self.new t ≡ Pointer (meaning self.old target)) }
@@ -71,7 +70,7 @@ impl SourceTypes {
         ensures members { self.new.members ≡ self.old.members }
         ensures ready { IsReady self.new }
     {
-        let made = pointer_to(&mut self.table, target);
+        let made = stored_pointer(&mut self.table, target);
         self.table.is_table();
         predeclared_types_stay();
         match made {

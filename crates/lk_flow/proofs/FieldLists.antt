@@ -45,7 +45,7 @@ module _ (table : Table) where
   field_within m n k steps = field_there (along (node_of table m)) (field k) (fields_of table (form_of table m)) k (node_of table n) steps.leads
 
   -- and there are few of these
-  pub few_steps : IsTable table → (m n : NodeId) (k : ℕ) → Steps table m (Field k) n → k < 65535
+  pub few_steps : IsTable table → (m n : NodeId) (k : ℕ) → Steps table m (Field k) n → k < 65537
   few_steps good m n k steps = elim (cases_lt (node_of table m).type (length table.types)) [
     | inl known ↦ (let few = few_fields table good (node_of table m).type known in let within = field_within m n k steps in omega (arith, few, within))
     | inr past ↦ (let within = field_within m n k steps in absurd (no_field (node_of table m).type past k within))

@@ -13,8 +13,8 @@ use crate::names::{behind, place, pointee};
 use lk_base::NoMemory;
 use lk_facts::{Holder, Labels, Mark, Points, Site};
 
-/// More than the fields of any type: a type has at most 65,535 nodes.
-const FIELD_BOUND: usize = 65_535;
+/// More than the fields of any type: a type of a table has at most 65,537 nodes.
+const FIELD_BOUND: usize = 65_537;
 
 /// Joins what an argument of a call through a pointer points to with what the parameter `k` of the function does.
 fn put_pointer_argument(

@@ -48,7 +48,7 @@ module _ (table : Table) where
   few_in_form (Opaque n) = omega arith
 
   -- a type has fewer fields than nodes
-  pub few_fields : IsTable table → (t : ℕ) → IsKnown table t → length (fields_of table (type_at table t)) < 65535
+  pub few_fields : IsTable table → (t : ℕ) → IsKnown table t → length (fields_of table (type_at table t)) < 65537
   few_fields good t known =
       let few = (few_of (form_size table (type_at table t)) (good.types t known).small).0 in
       let less = few_in_form (type_at table t) in

@@ -3,7 +3,7 @@
 use lk_base::NoMemory;
 
 /// Why a program gets no labels.
-#[derive(Clone, Copy, Debug, PartialEq, Eq)]
+#[derive(Clone, Copy, PartialEq, Eq)]
 pub enum LabelFault {
     /// There are more than 65,536 of them.
     TooMany,

@@ -12,7 +12,7 @@ use Rattle.lk_types.proofs.NodeLemmas.{field_known}
 use Rattle.lk_types.proofs.SubwalkLemmas.{lower_parts}
 use Rattle.lk_types.specs.Building.{IsMadeOf, IsTable}
 use Rattle.lk_types.specs.Nodes.{IsBase, IsNode, Node, IsSel, along, element_of, first as first_of, node_of, step}
-use Rattle.lk_types.specs.Sizes.{HasLowerParts, is_too_large, size_at, steps_of}
+use Rattle.lk_types.specs.Sizes.{HasLowerParts, is_over, size_at, steps_of}
 use Rattle.lk_types.specs.Table.{Table, fields_of, type_at, IsKnown}
 use Rattle.lk_types.specs.Walks.{Branch, element, field}
 use Rattle.lk_types.specs.declared.c_type.CType.{CType}
@@ -39,7 +39,7 @@ pub led_node : (program : Program) (k p : ℕ) (n : NodeId) → LeadsBy program 
 led_node program k p n (object _ r _ does start) = start.2.node
 led_node program k p n (further steps _ a does sel m _ at from leads to) = to.node
 
-steps_within : (size : TypeSize) → is_too_large size ≡ false → size.steps ≤ 1000
+steps_within : (size : TypeSize) → is_over size ≡ false → size.steps ≤ 1002
 steps_within size small = grind (arith, nat_tests)
 
 -- the type that a step inside an object leads to
@@ -76,7 +76,7 @@ lower_field table t (forms.Opaque c) k u low at = absurd (none-some u at)
 -- no more steps lead to a node than a type has
 record IsShallow (table : Table) (k : ℕ) (n : NodeId) : Type 0 where
   pub known : IsKnown table (node_of table n).type
-  pub few : k + steps_of table (node_of table n).type ≤ 1000
+  pub few : k + steps_of table (node_of table n).type ≤ 1002
 
 module _ (program : Program) (good : IsTable program.types) where
   lower_at : (t : ℕ) → IsKnown program.types t → HasLowerParts program.types t (type_at program.types t)
@@ -102,7 +102,7 @@ module _ (program : Program) (good : IsTable program.types) where
       let low : steps_of table is.0 < steps_of table t = subst (HasLowerParts table t) is.2 (lower_at t before.known) in
       record {
         known = subst (IsKnown table) (sym is.3) (omega (arith, made, before.known));
-        few = subst (λ u. suc steps + steps_of table u ≤ 1000) (sym is.3) (omega (arith, low, before.few));
+        few = subst (λ u. suc steps + steps_of table u ≤ 1002) (sym is.3) (omega (arith, low, before.few));
       }
 
   shallow : (k p : ℕ) (n : NodeId) → LeadsBy program k p n → IsShallow program.types k n
@@ -114,10 +114,10 @@ module _ (program : Program) (good : IsTable program.types) where
       let type = ap (λ node. node.type) start.first in
       let known : IsKnown table t = subst (IsBase table) base start.node.base in
       let few = steps_within (size_at table t) (small_at table good t known) in
-      let from_none : 0 + steps_of table t ≤ 1000 = omega (arith, few) in
+      let from_none : 0 + steps_of table t ≤ 1002 = omega (arith, few) in
       record {
         known = subst (IsKnown table) (sym type) known;
-        few = subst (λ u. 0 + steps_of table u ≤ 1000) (sym type) from_none;
+        few = subst (λ u. 0 + steps_of table u ≤ 1002) (sym type) from_none;
       }
   shallow k p n (further steps _ a does sel m _ at from leads to) =
       let before = shallow steps a m leads in
@@ -126,7 +126,7 @@ module _ (program : Program) (good : IsTable program.types) where
         | inr element ↦ shallow_element steps m n before (subst (λ s. Steps program.types m s n) element.2 to)
       ]
 
-  pub few_steps : (k p : ℕ) (n : NodeId) → LeadsBy program k p n → k < 1001
+  pub few_steps : (k p : ℕ) (n : NodeId) → LeadsBy program k p n → k < 1003
   few_steps k p n leads = let h = (shallow k p n leads).few in omega (arith, h)
 
 -- ---- the part to which a point leads is one

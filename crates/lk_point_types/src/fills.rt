@@ -13,9 +13,8 @@ ghost use Rattle.lk_types.specs.declared.node.Sel.{Sel as SelIs};
 
 use crate::forms::form;
 use crate::readers::points_to;
-use lk_base::MOST_TYPE_STEPS;
 use lk_facts::{Action, Place, Points};
-use lk_types::{NodeId, Sel, TypeId};
+use lk_types::{MOST_TABLE_STEPS, NodeId, Sel, TypeId};
 
 /// The object of a root as a part of itself.
 fn root_node(points: &Points, r: u32) -> NodeId
@@ -251,8 +250,8 @@ pub(crate) fn points_to_place(points: &Points, a: u32, place: Place) -> bool
     points_to_cell(points, a, points.types().node_type(place.node))
 }
 
-/// Whether the operand of an action that fills cells points to those of the place that it names. No type has more than
-/// `MOST_TYPE_STEPS` steps to its parts.
+/// Whether the operand of an action that fills cells points to those of the place that it names. No type of a table has more
+/// than `MOST_TABLE_STEPS` steps to its parts.
 pub(crate) fn has_its_place(points: &Points, action: &Action) -> bool
     requires { IsActionInRange (sizes_of points.now) action.now }
     ensures { IsTrue result ↔ FillsItsPlace points.now action.now }
@@ -261,7 +260,7 @@ pub(crate) fn has_its_place(points: &Points, action: &Action) -> bool
         return true;
     };
     points.types().is_table();
-    match part_at(points, *a, MOST_TYPE_STEPS + 1) {
+    match part_at(points, *a, MOST_TABLE_STEPS + 1) {
         Some(node) => is_same_node(node, place.node),
         None => false,
     }

@@ -65,9 +65,9 @@ unfoldable pub size_within : ℕ → (ℕ → List Ty) → Ty → TypeSize
 size_within zero fields t = start_size
 size_within (suc steps) fields t = size_of_parts (size_within steps fields) (parts_of fields t)
 
--- one step more than a type may have
+-- one step more than a type of a table may have, which is more than a declarator may make
 unfoldable pub steps_counted : ℕ
-steps_counted = 1001
+steps_counted = 1003
 
 abbrev pub size_of : (ℕ → List Ty) → Ty → TypeSize
 size_of fields t = size_within steps_counted fields t

@@ -2,7 +2,7 @@
 use Rattle.std.proofs.Common.{◌≡◌, ◌∙◌, ◌≤◌, ◌<◌, ◌⊎◌, inl, inr, ℕ, zero, suc, Bool, true, false, List, [], ◌∷◌, ◌++◌, length, map, refl, sym, ap, subst, arith, All, Option, Some, None, length-append}
 use Rattle.std.specs.List.{slice_get}
 use Rattle.std.specs.Option.{option_map}
-use Rattle.std.specs.Prelude.{unwrap_or, not, ◌||◌}
+use Rattle.std.specs.Prelude.{unwrap_or, ◌||◌}
 use Rattle.std.proofs.lemmas.Bool.{false≢true}
 use Rattle.std.proofs.lemmas.List.{length-map}
 use Rattle.std.proofs.lemmas.List.Elements.{All-head, All-tail, All-weaker}
@@ -10,18 +10,20 @@ use Rattle.std.proofs.lemmas.Option.{none-some, same_Some, slice_get-map, slice_
 use Rattle.lk_types.specs.Building.{IsTable, IsType, IsLonger, IsClosed, IsClosedForm, IsMadeOf, IsForm, IsPassed, IsAdded, ArePartsOf, types_of}
 use Rattle.lk_types.specs.Forms.{AreApart, IsAbsent}
 use Rattle.lk_types.specs.Kept.{table_of, AreKept, kept_size, size_by, HasKey, key_form, key_of}
-use Rattle.lk_types.specs.Sizes.{size_at, form_size, is_too_large}
-use Rattle.lk_types.specs.Table.{Table, type_at, least_of, members_of, fields_of, is_open, is_complete, is_complete_form, struct_of, IsKnown}
+use Rattle.lk_types.specs.Sizes.{size_at, form_size, is_over}
+use Rattle.lk_types.specs.Table.{Table, type_at, least_of, members_of, fields_of, struct_of, IsKnown}
 use Rattle.lk_types.specs.Walks.{target, element, branches, holds, holds_within, holds_struct, has_tag, is_void}
 use Rattle.lk_types.specs.declared.c_type.CType.{CType}
 use Rattle.lk_types.specs.declared.c_type.CType.TheVariants.{Void, Int, ThreadId, Mutex, Cond, Pointer, Array, Struct, Function, Opaque}
 use Rattle.lk_types.specs.declared.facts.StructEntry.{StructEntry}
 use Rattle.lk_types.specs.declared.facts.TypeFacts.{TypeFacts}
 use Rattle.lk_types.proofs.AlikeLemmas.{AreKeys, is_least, alike_iff}
+use Rattle.lk_types.proofs.ClosedLemmas.{closed_complete, closed_members}
 use Rattle.lk_types.proofs.Entries.{OfParts}
 use Rattle.lk_types.proofs.Fuel.{size_at_is}
 use Rattle.lk_types.proofs.GrowLemmas.{IsOwn, IsOfKnown, branches_by, form_size_by, type_from, type_grown, size_same, holds_struct_same, holds_agree, known_same, type_same, least_same, get_before}
 use Rattle.lk_types.proofs.KeptLemmas.{known_got, members_got}
+use Rattle.lk_types.proofs.OrderLemmas.{ordered_added, pushed}
 use Rattle.lk_types.proofs.PartLemmas.{of_fields, no_parts, one_part, target_type}
 use Rattle.lk_types.proofs.RestLemmas.{sized_grown}
 use Rattle.lk_types.proofs.SizeLemmas.{struct_form_size}
@@ -33,13 +35,6 @@ map-push f (y ∷ xs) x = ap (λ ys. f y ∷ ys) (map-push f xs x)
 pub last_got : {X : Type 0} (xs : List X) (x : X) → slice_get (xs ++ x ∷ []) (length xs) ≡ Some x
 last_got [] x = refl
 last_got (y ∷ xs) x = last_got xs x
-
--- what stands in a list with one more element
-pushed : {X : Type 0} (xs : List X) (x y : X) (k : ℕ) → slice_get (xs ++ x ∷ []) k ≡ Some y → (slice_get xs k ≡ Some y) ⊎ ((k ≡ length xs) × (y ≡ x))
-pushed [] x y zero at = inr (refl, sym (same_Some x y at))
-pushed [] x y (suc k) at = absurd (none-some y at)
-pushed (z ∷ xs) x y zero at = inl at
-pushed (z ∷ xs) x y (suc k) at = elim (pushed xs x y k at) [ inl h ↦ inl h | inr h ↦ inr (ap suc h.0, h.1) ]
 
 -- a type that holds no struct is no incomplete struct
 closed_form : (below : ℕ → Bool) (table : Table) (form : CType) → holds below form ≡ false → IsClosedForm table form
@@ -57,25 +52,6 @@ closed_form below table (Opaque n) none = tt
 pub closed_plain : (table : Table) (t : ℕ) → holds_struct table t ≡ false → IsClosed table t
 unfolding holds_within
 closed_plain table t none = closed_form (holds_within t table) table (type_at table t) none
-
-not-true : (b : Bool) → not b ≡ true → b ≡ false
-not-true true is = sym is
-not-true false is = refl
-
-complete_form : (table : Table) (form : CType) → is_complete_form table form ≡ true → IsClosedForm table form
-complete_form table Void is = tt
-complete_form table (Int kind) is = tt
-complete_form table ThreadId is = tt
-complete_form table Mutex is = tt
-complete_form table Cond is = tt
-complete_form table (Pointer t) is = tt
-complete_form table (Array t n) is = tt
-complete_form table (Struct s) is = not-true (is_open table s) is
-complete_form table (Function result params dots) is = tt
-complete_form table (Opaque n) is = tt
-
-pub closed_complete : (table : Table) (t : ℕ) → is_complete table t ≡ true → IsClosed table t
-closed_complete table t is = complete_form table (type_at table t) is
 
 or-false : (a b : Bool) → (a || b) ≡ false → b ≡ false
 or-false true b is = absurd (false≢true (sym is))
@@ -159,7 +135,7 @@ holds_suc table t = refl
 
 module _ (types : List (CType × TypeFacts)) (classes : List (CType × ℕ)) (structs : List StructEntry) (parts : List ℕ) (kept : AreKept types classes structs (table_of types structs parts))
     (c : CType) (fact : TypeFacts) (absent : (t : ℕ) → slice_get (table_of types structs parts).types t ≡ Some c → ⊥) (ok : IsForm (table_of types structs parts) c)
-    (small : is_too_large (form_size (table_of types structs parts) c) ≡ false) where
+    (small : is_over (form_size (table_of types structs parts) c) ≡ false) where
   abbrev old : Table
   old = table_of types structs parts
 
@@ -222,7 +198,7 @@ module _ (types : List (CType × TypeFacts)) (classes : List (CType × ℕ)) (st
           none_within [] k is within = omega arith
           none_within (x ∷ ss) zero is within = none-some x (sym is)
           none_within (x ∷ ss) (suc k) is within = none_within ss k is (omega arith)
-      of (Some entry) is = subst (λ ms. All (λ u. IsKnown old u × IsClosed old u) (types_of ms)) (sym (members_got types structs parts s entry is)) (kept.structs_sized s entry is).parts
+      of (Some entry) is = subst (λ ms. All (λ u. IsKnown old u × IsClosed old u) (types_of ms)) (sym (members_got types structs parts s entry is)) (closed_members old (types_of entry.members) (kept.structs_sized s entry is).parts)
 
   new_parts : OfParts (λ u. IsKnown old u × IsClosed old u) (branches old c)
   new_parts = parts_of_form old members_closed c ok
@@ -376,6 +352,7 @@ module _ (types : List (CType × TypeFacts)) (classes : List (CType × ℕ)) (st
         keyed = keyed';
         keys = keys';
         lesser = lesser';
+        ordered = ordered_added old new c forms_are refl good ok kept.ordered (λ t form at. slice_get_within old.types t form at);
       }
 
 apart_pushed : (classes : List (CType × ℕ)) (key : CType) (n : ℕ) → AreApart classes → IsAbsent classes key → AreApart (classes ++ (key, n) ∷ [])
@@ -391,7 +368,7 @@ apart_pushed classes key n apart absent form i j v w at at' = of (pushed classes
 pub record IsAddable (now : Table) (c : CType) (fact : TypeFacts) (key : CType) : Type 0 where
   pub absent : (t : ℕ) → slice_get now.types t ≡ Some c → ⊥
   pub form : IsForm now c
-  pub small : is_too_large (form_size now c) ≡ false
+  pub small : is_over (form_size now c) ≡ false
   pub room : length now.types < 4294967295
   pub key_is : key ≡ key_form (least_of now) c
   pub size : fact.size ≡ form_size now c

@@ -9,7 +9,7 @@ use Rattle.std.proofs.lemmas.List.Elements.{All-weaker, All-map}
 use Rattle.std.proofs.lemmas.Option.{none-some, same_Some, slice_get-map}
 use Rattle.lk_types.specs.Building.{IsTable, IsType, IsLonger, IsClosed, IsForm, IsMadeOf, CanComplete, IsPartOfObjects, types_of}
 use Rattle.lk_types.specs.Kept.{table_of, AreKept, kept_size, size_by, IsSized}
-use Rattle.lk_types.specs.Sizes.{size_at, form_size, fields_size, is_too_large}
+use Rattle.lk_types.specs.Sizes.{size_at, form_size, fields_size, is_over}
 use Rattle.lk_types.specs.Table.{Table, type_at, members_of, is_open, struct_of, IsKnown}
 use Rattle.lk_types.specs.Walks.{fields, branches}
 use Rattle.lk_types.specs.declared.c_type.CType.{CType}
@@ -18,13 +18,15 @@ use Rattle.lk_types.specs.declared.facts.StructEntry.{StructEntry}
 use Rattle.lk_types.specs.declared.facts.TypeFacts.{TypeFacts}
 use Rattle.lk_types.specs.declared.member.StructMember.{StructMember}
 use Rattle.lk_types.specs.declared.size.TypeSize.{TypeSize}
-use Rattle.lk_types.proofs.AddLemmas.{closed_complete}
+use Rattle.lk_types.proofs.ClosedLemmas.{closed_members}
 use Rattle.lk_types.proofs.Entries.{OfParts}
 use Rattle.lk_types.proofs.Fuel.{size_at_is}
-use Rattle.lk_types.proofs.GrowLemmas.{IsOwn, type_grown, size_same, holds_struct_same, closed_same, parts_size_same}
+use Rattle.lk_types.proofs.GrowLemmas.{IsOwn, type_grown, size_same, holds_struct_same, closed_same, parts_same, parts_size_same}
 use Rattle.lk_types.proofs.KeptLemmas.{known_got, type_at_is}
+use Rattle.lk_types.proofs.OrderLemmas.{ordered_completed, sized_closed}
 use Rattle.lk_types.proofs.PartLemmas.{of_fields}
 use Rattle.lk_types.proofs.RestLemmas.{longer_rest, rest_table, parts_rest, sized_grown}
+use Rattle.lk_types.proofs.StructLemmas.{sized_structs}
 
 -- reading after a write
 set_here : {X : Type 0} (xs : List X) (s : ℕ) (x : X) → s < length xs → slice_get (slice_set xs s x) s ≡ Some x
@@ -50,7 +52,7 @@ same_or zero (suc r) = inr (λ is. absurd (omega arith))
 same_or (suc s) zero = inr (λ is. absurd (omega arith))
 same_or (suc s) (suc r) = elim (same_or s r) [ inl h ↦ inl (ap suc h) | inr h ↦ inr (λ is. h (omega arith)) ]
 
-struct_is : (form : CType) (s : ℕ) → struct_of form ≡ Some s → form ≡ Struct s
+pub struct_is : (form : CType) (s : ℕ) → struct_of form ≡ Some s → form ≡ Struct s
 struct_is Void s is = absurd (none-some s is)
 struct_is (Int kind) s is = absurd (none-some s is)
 struct_is ThreadId s is = absurd (none-some s is)
@@ -102,10 +104,11 @@ module _ (types : List (CType × TypeFacts)) (classes : List (CType × ℕ)) (st
   own : (form : CType) → (struct_of form ≡ Some s → ⊥) → IsOwn old new good completed_longer form
   own form apart r is = members_same r (λ same. apart (ap struct_of is ∙ ap Some (sym same)))
 
+  objects : All (IsPartOfObjects old) (types_of members)
+  objects = All-map (IsPartOfObjects old) (λ member. member.ty) members ok.parts
+
   member_parts : All (λ u. IsKnown old u × IsClosed old u) (types_of members)
-  member_parts =
-      All-map (λ u. IsKnown old u × IsClosed old u) (λ member. member.ty) members
-      (All-weaker (λ member. IsPartOfObjects old member.ty) (λ member. IsKnown old member.ty × IsClosed old member.ty) (λ member part. (part.known, closed_complete old member.ty part.complete)) members ok.parts)
+  member_parts = closed_members old (types_of members) objects
 
   fields_same : fields_size new (types_of members) ≡ fields_size old (types_of members)
   fields_same = parts_size_same old new good completed_longer (fields 0 (types_of members)) (of_fields (λ u. IsKnown old u × IsClosed old u) (types_of members) 0 member_parts)
@@ -118,14 +121,14 @@ module _ (types : List (CType × TypeFacts)) (classes : List (CType × ℕ)) (st
 
   struct_type : (t : ℕ) → type_at new t ≡ Struct s → IsType new t
   struct_type t is =
-      subst (λ f. IsMadeOf new t f → IsForm new f → OfParts (IsClosed new) (branches new f) → is_too_large (form_size new f) ≡ false → IsType new t) is
+      subst (λ f. IsMadeOf new t f → IsForm new f → OfParts (IsClosed new) (branches new f) → is_over (form_size new f) ≡ false → IsType new t) is
       (λ made ok closed small. record { made_of = made; form = ok; closed = closed; small = small }) (
         omega (arith, within, same_count, length-map structs' (λ entry. entry.members)),
         subst (λ ms. All (IsKnown new) (types_of ms)) (sym members_here) (All-weaker (λ u. IsKnown old u × IsClosed old u) (IsKnown new) (λ u h. h.0) (types_of members) member_parts),
       )
       (omega (arith, within, same_count, length-map structs' (λ entry. entry.members)))
       (subst (λ ms. OfParts (IsClosed new) (fields 0 (types_of ms))) (sym members_here) (of_fields (IsClosed new) (types_of members) 0 members_closed))
-      (ap is_too_large struct_size ∙ ok.small)
+      (ap is_over struct_size ∙ ok.small)
 
   -- whether a type is the struct that is completed
   is_it : (form : CType) → (struct_of form ≡ Some s) ⊎ (struct_of form ≡ Some s → ⊥)
@@ -166,8 +169,8 @@ module _ (types : List (CType × TypeFacts)) (classes : List (CType × ℕ)) (st
   entry_sized r entry at = elim (same_or s r) [
     | inl it ↦ subst (IsSized new) (same_Some entry' entry (sym (set_here structs s entry' within) ∙ ap (slice_get structs') it ∙ at)) (record {
       value = size_is ∙ sym fields_same;
-      small = ap is_too_large size_is ∙ ok.small;
-      parts = λ k d inside. let part = member_parts k d inside in (part.0, closed_same old new good completed_longer _ part.0 part.1);
+      small = ap is_over size_is ∙ ok.small;
+      parts = parts_same old new good completed_longer (types_of members) objects;
     })
     | inr apart ↦ sized_grown old new good completed_longer entry (kept.structs_sized r entry (sym (set_there structs s r entry' apart) ∙ at))
   ]
@@ -184,4 +187,5 @@ module _ (types : List (CType × TypeFacts)) (classes : List (CType × ℕ)) (st
     keyed = kept.keyed;
     keys = kept.keys;
     lesser = kept.lesser;
+    ordered = ordered_completed old new s members refl members_here members_same ok (sized_closed old (sized_structs types classes structs parts kept)) good kept.ordered;
   }

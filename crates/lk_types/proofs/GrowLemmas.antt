@@ -5,7 +5,7 @@ use Rattle.std.specs.Prelude.{not, unwrap_or, ◌||◌}
 use Rattle.std.proofs.lemmas.Bool.{false≢true}
 use Rattle.std.proofs.lemmas.List.Elements.{All-weaker}
 use Rattle.lk_types.specs.Building.{IsTable, IsType, IsLonger, IsMadeOf, IsClosed, IsClosedForm, IsForm, IsPartOfObjects, IsPassed, types_of}
-use Rattle.lk_types.specs.Sizes.{size_at, form_size, size_of_parts, is_too_large}
+use Rattle.lk_types.specs.Sizes.{size_at, form_size, size_of_parts, is_over}
 use Rattle.lk_types.specs.Laws.{OlderWalksStay}
 use Rattle.lk_types.specs.Table.{Table, type_at, least_of, members_of, is_complete_form, IsKnown, is_empty}
 use Rattle.lk_types.specs.Walks.{Branch, target, branches, fields, has_tag, holds, holds_within, holds_struct, is_void, walk, nodes, most_steps, start, below_start, at_branch}
@@ -159,6 +159,12 @@ module _ (old new : Table) (good : IsTable old) (longer : IsLonger old new) wher
   complete_same : (u : ℕ) → IsKnown old u → is_complete_form old (type_at old u) ≡ true → is_complete_form new (type_at new u) ≡ true
   complete_same u known is = ap (is_complete_form new) (type_same u known) ∙ complete_grown (type_at old u) is
 
+  pub part_same : (u : ℕ) → IsPartOfObjects old u → IsPartOfObjects new u
+  part_same u part = record { known = known_same u part.known; complete = complete_same u part.known part.complete }
+
+  pub parts_same : (us : List ℕ) → All (IsPartOfObjects old) us → All (IsPartOfObjects new) us
+  parts_same us parts = All-weaker (IsPartOfObjects old) (IsPartOfObjects new) part_same us parts
+
   -- a form that could be put still could
   pub form_grown : (form : CType) → IsForm old form → IsForm new form
   form_grown Void ok = tt
@@ -167,7 +173,7 @@ module _ (old new : Table) (good : IsTable old) (longer : IsLonger old new) wher
   form_grown Mutex ok = tt
   form_grown Cond ok = tt
   form_grown (Pointer u) ok = known_same u ok
-  form_grown (Array u n) ok = record { known = known_same u ok.known; complete = complete_same u ok.known ok.complete }
+  form_grown (Array u n) ok = part_same u ok
   form_grown (Struct s) ok = omega (arith, ok, longer.structs)
   form_grown (Function result params dots) ok =
       All-weaker (IsPassed old) (IsPassed new) (λ u p. record { known = known_same u p.known; no_struct = holds_struct_same u p.known ∙ p.no_struct }) (result ∷ params) ok
@@ -195,11 +201,11 @@ module _ (old new : Table) (good : IsTable old) (longer : IsLonger old new) wher
 
   -- a form whose parts are known and closed makes a type of the later table
   pub type_from : (t : ℕ) (form : CType) → type_at new t ≡ form → IsMadeOf new t form → IsForm old form → branches new form ≡ branches old form → OfParts (λ u. IsKnown old u × IsClosed old u) (branches old form) →
-      is_too_large (form_size old form) ≡ false → IsType new t
+      is_over (form_size old form) ≡ false → IsType new t
   type_from t form is made ok same all small =
-      subst (λ f. IsMadeOf new t f → IsForm new f → OfParts (IsClosed new) (branches new f) → is_too_large (form_size new f) ≡ false → IsType new t) is
+      subst (λ f. IsMadeOf new t f → IsForm new f → OfParts (IsClosed new) (branches new f) → is_over (form_size new f) ≡ false → IsType new t) is
       (λ made ok closed small. record { made_of = made; form = ok; closed = closed; small = small })
-      made (form_grown form ok) (closed_parts form same all) (ap is_too_large (form_size_by form same all) ∙ small)
+      made (form_grown form ok) (closed_parts form same all) (ap is_over (form_size_by form same all) ∙ small)
 
   pub type_grown : (t : ℕ) → IsKnown old t → IsOwn (type_at old t) → IsType new t
   type_grown t known own =

@@ -8,7 +8,7 @@ use Rattle.std.proofs.lemmas.Option.{none-some, same_Some, slice_get-map, slice_
 use Rattle.lk_types.specs.Building.{IsTable, IsForm, IsMadeOf, IsLeast}
 use Rattle.lk_types.specs.Equal.{IsAlike}
 use Rattle.lk_types.specs.Kept.{table_of, AreKept, size_by}
-use Rattle.lk_types.specs.Sizes.{HasLowerParts, steps_of, size_at, is_too_large}
+use Rattle.lk_types.specs.Sizes.{HasLowerParts, steps_of, size_at, is_over}
 use Rattle.lk_types.specs.Table.{Table, type_at, least_of, members_of, fields_of, struct_of, IsKnown}
 use Rattle.lk_types.specs.Walks.{Branch, target, element, field, fields, branches}
 use Rattle.lk_types.specs.declared.c_type.CType.{CType}
@@ -78,9 +78,9 @@ pub lower_got : (table : Table) → IsTable table → (t : ℕ) (form : CType) �
 lower_got table good t form at =
     subst (HasLowerParts table t) (ap (λ o. unwrap_or o Void) at) (lower_form table t (type_at table t) (lower_parts table good t (slice_get_within table.types t form at)))
 
--- no size in a table is too large
-pub small_at : (table : Table) → IsTable table → (t : ℕ) → IsKnown table t → is_too_large (size_at table t) ≡ false
-small_at table good t known = let small = (good.types t known).small in ap is_too_large (size_at_is table t small) ∙ small
+-- no size in a table is over its bounds
+pub small_at : (table : Table) → IsTable table → (t : ℕ) → IsKnown table t → is_over (size_at table t) ≡ false
+small_at table good t known = let small = (good.types t known).small in ap is_over (size_at_is table t small) ∙ small
 
 module _ (types : List (CType × TypeFacts)) (classes : List (CType × ℕ)) (structs : List StructEntry) (parts : List ℕ) (kept : AreKept types classes structs (table_of types structs parts)) where
   -- the size that is kept of a type that is no struct
@@ -103,7 +103,7 @@ module _ (types : List (CType × TypeFacts)) (classes : List (CType × ℕ)) (st
       of None none = absurd (none-some (size_at (table_of types structs parts) t) (sym (ap (option_map (λ entry. entry.size)) none) ∙ sym (ap (size_by structs fact) is) ∙ kept.sized t form fact at))
       of (Some entry) there = slice_get_within structs s entry there
 
-  pub size_small : (t : ℕ) (form : CType) (fact : TypeFacts) → slice_get types t ≡ Some (form, fact) → is_too_large (size_at (table_of types structs parts) t) ≡ false
+  pub size_small : (t : ℕ) (form : CType) (fact : TypeFacts) → slice_get types t ≡ Some (form, fact) → is_over (size_at (table_of types structs parts) t) ≡ false
   size_small t form fact at = small_at (table_of types structs parts) kept.table_is t (known_got types structs parts t form fact at)
 
   pub least_kept : (t : ℕ) (form : CType) (fact : TypeFacts) → slice_get types t ≡ Some (form, fact) → least_of (table_of types structs parts) t ≡ fact.least

@@ -4,10 +4,12 @@ pub mod PlaceLemmas
 pub mod PathLemmas
 pub mod PartLemmas
 pub mod GrowLemmas
+pub mod ClosedLemmas
 pub mod SubwalkLemmas
 pub mod FormEq
 pub mod KeptLemmas
 pub mod AlikeLemmas
+pub mod OrderLemmas
 pub mod RestLemmas
 pub mod VoidParts
 pub mod NodeLemmas
@@ -15,6 +17,8 @@ pub mod ElementLemmas
 pub mod LeftPath
 pub mod RedeclareLemmas
 pub mod SizeLemmas
+pub mod RoomLemmas
+pub mod StructLemmas
 pub mod AddLemmas
 pub mod CompleteLemmas
 pub mod NewLemmas

@@ -11,7 +11,7 @@ use Rattle.lk_types.specs.Equal.IsEqualBut.{same, pointers, arrays, functions}
 use Rattle.lk_types.specs.Kept.{table_of, AreKept}
 use Rattle.lk_types.specs.Laws.{PredeclaredStay}
 use Rattle.lk_types.specs.Predeclared.{predeclared, first_table, kind_id}
-use Rattle.lk_types.specs.Sizes.{form_size, is_too_large}
+use Rattle.lk_types.specs.Sizes.{form_size, is_over}
 use Rattle.lk_types.specs.Table.{Table, least_of, IsKnown}
 use Rattle.lk_types.specs.declared.c_type.CType.{CType}
 use Rattle.lk_types.specs.declared.c_type.CType.TheVariants.{Void, Int, ThreadId, Mutex, Cond, Pointer, Array, Struct, Function, Opaque}
@@ -46,7 +46,7 @@ plain_form table (Struct s) is = absurd (false≢true is)
 plain_form table (Function result params dots) is = absurd (false≢true is)
 plain_form table (Opaque n) is = tt
 
-plain_small : (table : Table) (form : CType) → is_plain form ≡ true → is_too_large (form_size table form) ≡ false
+plain_small : (table : Table) (form : CType) → is_plain form ≡ true → is_over (form_size table form) ≡ false
 unfolding is_plain
 plain_small table Void is = refl
 plain_small table (Int kind) is = refl
@@ -99,7 +99,7 @@ all_ranked = refl
 pub predeclared_form : (table : Table) (k : ℕ) (form : CType) → slice_get predeclared k ≡ Some form → IsForm table form
 predeclared_form table k form at = plain_form table form (ranked_at predeclared 0 all_ranked k form at).1
 
-pub predeclared_small : (table : Table) (k : ℕ) (form : CType) → slice_get predeclared k ≡ Some form → is_too_large (form_size table form) ≡ false
+pub predeclared_small : (table : Table) (k : ℕ) (form : CType) → slice_get predeclared k ≡ Some form → is_over (form_size table form) ≡ false
 predeclared_small table k form at = plain_small table form (ranked_at predeclared 0 all_ranked k form at).1
 
 pub predeclared_new : (types : List CType) (k : ℕ) (form : CType) → slice_get predeclared k ≡ Some form → types ≡ take k predeclared → (t : ℕ) → slice_get types t ≡ Some form → ⊥
@@ -128,6 +128,11 @@ kept_none = record {
   keyed = λ t known. absurd (omega (arith, known));
   keys = λ place key t at. absurd (none-some (key, t) at);
   lesser = λ t known. absurd (omega (arith, known));
+  ordered = record {
+    done = λ s. 0;
+    are = record { few = λ s shut. omega arith; members = λ s shut. absurd (false≢true (sym shut)); inside = λ s shut. absurd (false≢true (sym shut)) };
+    elements = λ t u n at. absurd (none-some (Array u n) at);
+  };
 }
 
 pub append-assoc : {X : Type 0} (xs ys zs : List X) → (xs ++ ys) ++ zs ≡ xs ++ (ys ++ zs)

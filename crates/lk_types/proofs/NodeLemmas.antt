@@ -223,11 +223,11 @@ module _ (table : Table) (good : IsTable table) where
   fielded_nodes t known is =
       ap length (split table good t known) ∙ ap (λ bs. suc (length (flat_map (at_branch (nodes table)) bs))) is ∙ ap suc (fields_length (fields_of table (type_at table t)) 0)
 
-  few_nodes : (t : ℕ) → IsKnown table t → nodes_of table t ≤ 65535
+  few_nodes : (t : ℕ) → IsKnown table t → nodes_of table t ≤ 65537
   few_nodes t known = (few_of (size_at table t) (small_at table good t known)).0
 
   pub fields_bound : (t : ℕ) → IsKnown table t → (k u : ℕ) → slice_get (fields_of table (type_at table t)) k ≡ Some u →
-      nodes_of_all table (take k (fields_of table (type_at table t))) + nodes_of table u < 65535
+      nodes_of_all table (take k (fields_of table (type_at table t))) + nodes_of table u < 65537
   fields_bound t known k u at =
       let ts = fields_of table (type_at table t) in
       let whole = fielded_nodes t known (fields_branches (type_at table t) k u at) in
@@ -288,7 +288,7 @@ module _ (table : Table) (good : IsTable table) where
       subst (λ k. slice_get (nodes table (base_type n.base)) k ≡ Some (record { path = (entry_of table n).path ++ sel ∷ []; type = u; tag = false })) number got.1
 
   -- the number of that node is within the bound of a type's nodes
-  pub inside_room : (n : NodeId) → IsNode table n → (place u : ℕ) (sel : Sel) → entry_at table (node_of table n).type (suc place) ≡ Some (record { path = sel ∷ []; type = u; tag = false }) → n.number + place + 1 < 65535
+  pub inside_room : (n : NodeId) → IsNode table n → (place u : ℕ) (sel : Sel) → entry_at table (node_of table n).type (suc place) ≡ Some (record { path = sel ∷ []; type = u; tag = false }) → n.number + place + 1 < 65537
   inside_room n ok place u sel at =
       let within = slice_get_within (nodes table (base_type n.base)) (n.number + place + 1) _ (inside_got n ok place u sel at) in
       omega (arith, within, few_nodes (base_type n.base) (known_base table n.base ok.base))

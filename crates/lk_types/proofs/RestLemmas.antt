@@ -7,7 +7,7 @@ use Rattle.std.proofs.lemmas.List.{length-map}
 use Rattle.std.proofs.lemmas.List.Elements.{All-nil}
 use Rattle.std.proofs.lemmas.Bool.{false≢true}
 use Rattle.std.proofs.lemmas.Option.{none-some, same_Some, slice_get-map, slice_get_within}
-use Rattle.lk_types.specs.Building.{IsTable, IsType, IsLonger, IsClosed, IsMadeOf, ArePartsOf, types_of}
+use Rattle.lk_types.specs.Building.{IsTable, IsType, IsLonger, IsClosed, IsPartOfObjects, IsMadeOf, ArePartsOf, types_of}
 use Rattle.lk_types.specs.Kept.{table_of, AreKept, kept_size, size_by, IsSized}
 use Rattle.lk_types.specs.Table.{Table, type_at, members_of, is_open, is_empty, struct_of, IsKnown}
 use Rattle.lk_types.specs.Walks.{fields}
@@ -15,8 +15,10 @@ use Rattle.lk_types.specs.declared.c_type.CType.{CType}
 use Rattle.lk_types.specs.declared.facts.StructEntry.{StructEntry}
 use Rattle.lk_types.specs.declared.facts.TypeFacts.{TypeFacts}
 use Rattle.lk_types.specs.declared.member.StructMember.{StructMember}
-use Rattle.lk_types.proofs.GrowLemmas.{IsOwn, get_before, type_grown, size_same, holds_struct_same, known_same, closed_same, parts_size_same}
+use Rattle.lk_types.proofs.ClosedLemmas.{closed_members}
+use Rattle.lk_types.proofs.GrowLemmas.{IsOwn, get_before, type_grown, size_same, holds_struct_same, parts_same, parts_size_same}
 use Rattle.lk_types.proofs.KeptLemmas.{known_got, struct_within}
+use Rattle.lk_types.proofs.OrderLemmas.{ordered_same}
 use Rattle.lk_types.proofs.PartLemmas.{of_fields}
 
 append-nil : {X : Type 0} (xs : List X) → xs ≡ xs ++ []
@@ -58,9 +60,9 @@ pub sized_grown : (old new : Table) → IsTable old → IsLonger old new → (en
 sized_grown old new good longer entry sized =
     let ts = types_of entry.members in
     record {
-      value = sized.value ∙ sym (parts_size_same old new good longer (fields 0 ts) (of_fields (λ u. IsKnown old u × IsClosed old u) ts 0 sized.parts));
+      value = sized.value ∙ sym (parts_size_same old new good longer (fields 0 ts) (of_fields (λ u. IsKnown old u × IsClosed old u) ts 0 (closed_members old ts sized.parts)));
       small = sized.small;
-      parts = λ k d within. let part = sized.parts k d within in (known_same old new good longer _ part.0, closed_same old new good longer _ part.0 part.1);
+      parts = parts_same old new good longer ts sized.parts;
     }
 
 -- a struct that has just begun
@@ -68,7 +70,7 @@ abbrev pub fresh : StructEntry
 fresh = record { members = []; size = record { nodes = 1; steps = 0 } }
 
 pub fresh_sized : (table : Table) → IsSized table fresh
-fresh_sized table = record { value = refl; small = refl; parts = All-nil (λ u. IsKnown table u × IsClosed table u) }
+fresh_sized table = record { value = refl; small = refl; parts = All-nil (IsPartOfObjects table) }
 
 members_at : (structs : List StructEntry) (s : ℕ) → slice_get (map (λ entry. entry.members) structs) s ≡ option_map (λ entry. entry.members) (slice_get structs s)
 members_at structs s = slice_get-map (λ entry. entry.members) structs s
@@ -130,8 +132,20 @@ module _ (types : List (CType × TypeFacts)) (classes : List (CType × ℕ)) (st
         keyed = kept.keyed;
         keys = kept.keys;
         lesser = kept.lesser;
+        ordered = ordered_same old new refl (λ s shut. same_shut others s shut) kept.ordered;
       }
     where
+      -- a complete struct is one of the first
+      same_shut : ((s : ℕ) (entry : StructEntry) → length structs ≤ s → slice_get structs' s ≡ Some entry → entry ≡ fresh) → (s : ℕ) →
+          is_open (table_of types structs' parts') s ≡ false → members_of (table_of types structs' parts') s ≡ members_of (table_of types structs parts) s
+      same_shut others s shut = elim (within_or s (length structs)) [ inl within ↦ members_same s within | inr past ↦ of past (slice_get structs' s) refl ]
+        where
+          of : length structs ≤ s → (o : Option StructEntry) → slice_get structs' s ≡ o → members_of (table_of types structs' parts') s ≡ members_of (table_of types structs parts) s
+          of past None is = absurd (false≢true (sym shut ∙ ap (λ o. is_empty (unwrap_or o [])) (members_at structs' s ∙ ap (option_map (λ entry. entry.members)) is)))
+          of past (Some entry) is =
+              let members = members_at structs' s ∙ ap (option_map (λ entry. entry.members)) is in
+              absurd (false≢true (sym shut ∙ ap (λ o. is_empty (unwrap_or o [])) members ∙ ap (λ (e : StructEntry). is_empty e.members) (others s entry past is)))
+
       same_kept : (t : ℕ) (form : CType) (fact : TypeFacts) → slice_get types t ≡ Some (form, fact) → kept_size structs' form fact ≡ kept_size structs form fact
       same_kept t form fact at = of (struct_of form) refl
         where

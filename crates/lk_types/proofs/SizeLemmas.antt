@@ -6,7 +6,7 @@ use Rattle.std.proofs.lemmas.Bool.{false≢true}
 use Rattle.std.proofs.lemmas.Bool.Decides.{nat_tests}
 use Rattle.std.proofs.lemmas.List.Sums.{fold_push}
 use Rattle.std.proofs.lemmas.List.{take-append-drop}
-use Rattle.lk_types.specs.Sizes.{with_part, part_size, start_size, size_at, fields_size, form_size, with_types, is_too_large, Fits}
+use Rattle.lk_types.specs.Sizes.{with_part, part_size, start_size, size_at, fields_size, form_size, with_types, is_over, Fits}
 use Rattle.lk_types.specs.Table.{Table, IsKnown}
 use Rattle.lk_types.specs.Walks.{fields}
 use Rattle.lk_types.specs.declared.size.TypeSize.{TypeSize}
@@ -31,27 +31,27 @@ fields_from table size k (t ∷ ts) = fields_from table (with_part size (size_at
 pub fields_size_is : (table : Table) (ts : List ℕ) → fields_size table ts ≡ with_types table start_size ts
 fields_size_is table ts = fields_from table start_size 0 ts
 
-pub small_from : (size : TypeSize) → size.nodes ≤ 65535 → size.steps ≤ 1000 → is_too_large size ≡ false
+pub small_from : (size : TypeSize) → size.nodes ≤ 65537 → size.steps ≤ 1002 → is_over size ≡ false
 small_from size few low = grind (arith, nat_tests)
 
-pub large_grows : (a p : TypeSize) → is_too_large a ≡ true → is_too_large (with_part a p) ≡ true
-large_grows a p large = of (is_too_large (with_part a p)) refl
+pub large_grows : (a p : TypeSize) → is_over a ≡ true → is_over (with_part a p) ≡ true
+large_grows a p large = of (is_over (with_part a p)) refl
   where
-    of : (b : Bool) → is_too_large (with_part a p) ≡ b → b ≡ true
+    of : (b : Bool) → is_over (with_part a p) ≡ b → b ≡ true
     of true is = refl
     of false is =
         let few = few_of (with_part a p) is in
         absurd (false≢true (sym (small_from a (omega (arith, few.0)) (omega (arith, few.1))) ∙ large))
 
-pub large_stays : (table : Table) (ts : List ℕ) (a : TypeSize) → is_too_large a ≡ true → is_too_large (with_types table a ts) ≡ true
+pub large_stays : (table : Table) (ts : List ℕ) (a : TypeSize) → is_over a ≡ true → is_over (with_types table a ts) ≡ true
 large_stays table [] a large = large
 large_stays table (t ∷ ts) a large = large_stays table ts (with_part a (size_at table t)) (large_grows a (size_at table t) large)
 
 pub sizes_more : (table : Table) (a : TypeSize) (ts : List ℕ) (t : ℕ) → with_types table a (ts ++ t ∷ []) ≡ with_part (with_types table a ts) (size_at table t)
 sizes_more table a ts t = fold_push (λ size t. with_part size (size_at table t)) a ts t
 
--- where a front of the types is too large, all of them are
-pub large_front : (table : Table) (a : TypeSize) (ts us : List ℕ) → is_too_large (with_types table a ts) ≡ true → is_too_large (with_types table a (ts ++ us)) ≡ true
+-- where a front of the types is over the bounds of a table, all of them are
+pub large_front : (table : Table) (a : TypeSize) (ts us : List ℕ) → is_over (with_types table a ts) ≡ true → is_over (with_types table a (ts ++ us)) ≡ true
 large_front table a [] us large = large_stays table us a large
 large_front table a (t ∷ ts) us large = large_front table (with_part a (size_at table t)) ts us large
 
@@ -63,11 +63,11 @@ step_size table a ts i t size at is =
     with_types_more : (a : TypeSize) (ts : List ℕ) (i t : ℕ) → slice_get ts i ≡ Some t → with_types table a (take (i + 1) ts) ≡ with_part (with_types table a (take i ts)) (size_at table t)
     with_types_more a ts i t at = ap (with_types table a) (sym (take_more ts i t at)) ∙ sizes_more table a (take i ts) t
 
-pub step_large : (table : Table) (a : TypeSize) (ts : List ℕ) (i t : ℕ) (size : TypeSize) → slice_get ts i ≡ Some t → size ≡ with_types table a (take i ts) → is_too_large (with_part size (size_at table t)) ≡ true →
-    is_too_large (with_types table a ts) ≡ true
+pub step_large : (table : Table) (a : TypeSize) (ts : List ℕ) (i t : ℕ) (size : TypeSize) → slice_get ts i ≡ Some t → size ≡ with_types table a (take i ts) → is_over (with_part size (size_at table t)) ≡ true →
+    is_over (with_types table a ts) ≡ true
 step_large table a ts i t size at is large =
-    let front = large_front table a (take (i + 1) ts) (drop (i + 1) ts) (sym (ap is_too_large (step_size table a ts i t size at is)) ∙ large) in
-    subst (λ us. is_too_large (with_types table a us) ≡ true) (take-append-drop (i + 1) ts) front
+    let front = large_front table a (take (i + 1) ts) (drop (i + 1) ts) (sym (ap is_over (step_size table a ts i t size at is)) ∙ large) in
+    subst (λ us. is_over (with_types table a us) ≡ true) (take-append-drop (i + 1) ts) front
 
 pub all_taken : {X : Type 0} (xs : List X) (i : ℕ) → length xs ≤ i → take i xs ≡ xs
 all_taken [] zero past = refl
@@ -97,10 +97,10 @@ module _ (types : List (CType × TypeFacts)) (classes : List (CType × ℕ)) (st
       (kept.structs_sized s entry at).value ∙ ap (λ ms. fields_size (table_of types structs parts) (types_of ms)) (sym (members_got types structs parts s entry at))
 
   pub struct_form_fits : (s : ℕ) (entry : StructEntry) → slice_get structs s ≡ Some entry → (form : CType) → form ≡ Struct s →
-      (entry.size ≡ form_size (table_of types structs parts) form) × (is_too_large (form_size (table_of types structs parts) form) ≡ false)
+      (entry.size ≡ form_size (table_of types structs parts) form) × (is_over (form_size (table_of types structs parts) form) ≡ false)
   struct_form_fits s entry at form is =
       let value = struct_form_size s entry at ∙ ap (form_size (table_of types structs parts)) (sym is) in
-      (value, sym (ap is_too_large value) ∙ (kept.structs_sized s entry at).small)
+      (value, sym (ap is_over value) ∙ (kept.structs_sized s entry at).small)
 
 pub kept_equal : {types types' : List (CType × TypeFacts)} {classes classes' : List (CType × ℕ)} {structs structs' : List StructEntry} {parts parts' : List ℕ} → types' ≡ types → classes' ≡ classes → structs' ≡ structs → parts' ≡ parts →
     AreKept types classes structs (table_of types structs parts) → AreKept types' classes' structs' (table_of types' structs' parts')

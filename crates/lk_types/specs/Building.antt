@@ -2,7 +2,7 @@
 use Rattle.std.specs.Prelude.{ℕ, ◌≡◌, ◌↔◌, ◌<◌, ◌≤◌, true, false, List, [], ◌∷◌, ◌++◌, map, length, All, slice_get, slice_set, Some, ⊤}
 use Rattle.lk_types.specs.Table.{Table, type_at, members_of, least_of, is_open, is_complete, is_empty, IsKnown}
 use Rattle.lk_types.specs.Walks.{Branch, branches, holds_struct, is_void}
-use Rattle.lk_types.specs.Sizes.{form_size, fields_size, is_too_large}
+use Rattle.lk_types.specs.Sizes.{form_size, fields_size, is_over}
 use Rattle.lk_types.specs.Equal.{IsAlike}
 use Rattle.lk_types.specs.declared.c_type.CType.{CType}
 use Rattle.lk_types.specs.declared.c_type.CType.TheVariants.{Void, Int, ThreadId, Mutex, Cond, Pointer, Array, Struct, Function, Opaque}
@@ -55,13 +55,18 @@ IsForm table (Opaque n) = ⊤
 abbrev pub types_of : List StructMember → List ℕ
 types_of members = map (λ member. member.ty) members
 
+-- the members of each struct are parts of objects, and no complete struct is over the bounds of a table
+pub record HasSizedStructs (table : Table) : Type 0 where
+  pub parts : (s : ℕ) → s < length table.members → All (IsPartOfObjects table) (types_of (members_of table s))
+  pub small : (s : ℕ) → s < length table.members → is_over (fields_size table (types_of (members_of table s))) ≡ false
+
 -- members that may complete a struct, which has none yet
 pub record CanComplete (table : Table) (s : ℕ) (given : List StructMember) : Type 0 where
   pub known : s < length table.members
   pub incomplete : is_open table s ≡ true
   pub members : is_empty given ≡ false
   pub parts : All (λ member. IsPartOfObjects table member.ty) given
-  pub small : is_too_large (fields_size table (types_of given)) ≡ false
+  pub small : is_over (fields_size table (types_of given)) ≡ false
 
 -- the table with a struct's members
 abbrev pub with_members : Table → ℕ → List StructMember → Table
@@ -99,12 +104,12 @@ IsMadeOf table t (Struct s) = (s < length table.members) × All (IsKnown table) 
 IsMadeOf table t (Function result params dots) = All (λ u. u < t) (result ∷ params)
 IsMadeOf table t (Opaque n) = ⊤
 
--- a type of the table: what it is made of is there, its form could be put, what it holds by value is no incomplete struct, and it is within the bounds
+-- a type of the table: what it is made of is there, its form could be put, what it holds by value is no incomplete struct, and it is within the bounds of a table
 pub record IsType (table : Table) (t : ℕ) : Type 0 where
   pub made_of : IsMadeOf table t (type_at table t)
   pub form : IsForm table (type_at table t)
   pub closed : All (IsClosedPart table) (branches table (type_at table t))
-  pub small : is_too_large (form_size table (type_at table t)) ≡ false
+  pub small : is_over (form_size table (type_at table t)) ≡ false
 
 -- what holds in each table
 pub record IsTable (table : Table) : Type 0 where

@@ -3,8 +3,9 @@ use Rattle.std.specs.Prelude.{ℕ, ◌≡◌, List, map, length, All, false, ◌
 use Rattle.std.specs.Option.{option_map}
 use Rattle.lk_types.specs.Table.{Table, type_at, least_of, struct_of, IsKnown}
 use Rattle.lk_types.specs.Walks.{holds_struct}
-use Rattle.lk_types.specs.Sizes.{size_at, fields_size, is_too_large}
-use Rattle.lk_types.specs.Building.{IsTable, ArePartsOf, IsClosed, types_of}
+use Rattle.lk_types.specs.Sizes.{size_at, fields_size, is_over}
+use Rattle.lk_types.specs.Building.{IsTable, ArePartsOf, IsPartOfObjects, types_of}
+use Rattle.lk_types.specs.Order.{IsOrdered}
 use Rattle.lk_types.specs.declared.c_type.CType.{CType}
 use Rattle.lk_types.specs.declared.c_type.CType.TheVariants.{Void, Int, ThreadId, Mutex, Cond, Pointer, Array, Struct, Function, Opaque}
 use Rattle.lk_types.specs.declared.size.TypeSize.{TypeSize}
@@ -50,8 +51,8 @@ HasKey classes key t = (place : ℕ) × (slice_get classes place ≡ Some (key, 
 -- what is kept of a struct is the size of its walk
 pub record IsSized (table : Table) (entry : StructEntry) : Type 0 where
   pub value : entry.size ≡ fields_size table (types_of entry.members)
-  pub small : is_too_large entry.size ≡ false
-  pub parts : All (λ u. IsKnown table u × IsClosed table u) (types_of entry.members)
+  pub small : is_over entry.size ≡ false
+  pub parts : All (IsPartOfObjects table) (types_of entry.members)
 
 -- what is kept tells what holds of the table
 pub record AreKept (types : List (CType × TypeFacts)) (classes : List (CType × ℕ)) (structs : List StructEntry) (table : Table) : Type 0 where
@@ -68,3 +69,5 @@ pub record AreKept (types : List (CType × TypeFacts)) (classes : List (CType ×
   pub keyed : (t : ℕ) → IsKnown table t → HasKey classes (key_of table t) (least_of table t)
   pub keys : (place : ℕ) (key : CType) (t : ℕ) → slice_get classes place ≡ Some (key, t) → IsKnown table t × (key_of table t ≡ key)
   pub lesser : (t : ℕ) → IsKnown table t → least_of table t ≤ t
+  -- of arrays and structs how they came
+  pub ordered : IsOrdered table

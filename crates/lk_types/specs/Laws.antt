@@ -1,11 +1,12 @@
 -- What the definitions imply. Each law is the contract of a public function.
-use Rattle.std.specs.Prelude.{ℕ, ◌≡◌, ◌∷◌, Some, slice_get}
+use Rattle.std.specs.Prelude.{ℕ, ◌≡◌, ◌∷◌, false, Some, slice_get}
 use Rattle.lk_types.specs.Building.{IsTable, IsLonger, IsClosed}
 use Rattle.lk_types.specs.Nodes.{IsNode, node_of}
 use Rattle.lk_types.specs.Predeclared.{HasPredeclared}
-use Rattle.lk_types.specs.Sizes.{size_at, form_size}
+use Rattle.lk_types.specs.Sizes.{size_at, form_size, is_too_large, is_over}
 use Rattle.lk_types.specs.Table.{Table, type_at, IsKnown}
 use Rattle.lk_types.specs.Walks.{Entry, nodes, start, below_start}
+use Rattle.lk_types.specs.declared.c_type.CType.TheVariants.{Pointer}
 use Rattle.lk_types.specs.declared.node.NodeId.{NodeId}
 
 -- no two entries of a walk have the same path
@@ -24,6 +25,16 @@ WalksAreOfParts = (table : Table) → IsTable table → (t : ℕ) → IsKnown ta
 -- the size of a walk is that of its form
 abbrev pub SizesAreOfParts : Type 0
 SizesAreOfParts = (table : Table) → IsTable table → (t : ℕ) → IsKnown table t → size_at table t ≡ form_size table (type_at table t)
+
+-- a table has room for the pointer to each type within the bounds of the language
+abbrev pub PointersHaveRoom : Type 0
+PointersHaveRoom = (table : Table) (t : ℕ) → is_too_large (size_at table t) ≡ false → is_over (form_size table (Pointer t)) ≡ false
+
+-- and for the pointer to that
+abbrev pub PointersToPointersHaveRoom : Type 0
+PointersToPointersHaveRoom =
+    (table : Table) → IsTable table → (t p : ℕ) → IsKnown table p → type_at table p ≡ Pointer t → is_too_large (size_at table t) ≡ false →
+    is_over (form_size table (Pointer p)) ≡ false
 
 -- the walk of a type that isn't an incomplete struct is the same in a later table
 abbrev pub OlderWalksStay : Type 0

@@ -5,6 +5,7 @@ pub mod Nodes
 pub mod Equal
 pub mod Building
 pub mod Objects
+pub mod Order
 pub mod Kept
 pub mod Forms
 pub mod Places

@@ -1,4 +1,4 @@
--- How large walks are, and the bounds of a type.
+-- How large walks are, and the bounds of types.
 use Rattle.std.specs.Prelude.{ℕ, ◌+◌, ◌||◌, ◌≡◌, ◌<◌, suc, Bool, false, List, [], ◌∷◌, length, max, fold, nat_lt, if◌then◌else◌, All, ⊤, true, Option, MatchOption}
 use Rattle.lk_types.specs.Table.{Table, fields_of}
 use Rattle.lk_types.specs.Walks.{Branch, Entry, nodes, branches, fields, has_tag}
@@ -49,9 +49,14 @@ form_size table form = size_of_parts (size_at table) (branches table form)
 abbrev pub fields_size : Table → List ℕ → TypeSize
 fields_size table types = size_of_parts (size_at table) (fields 0 types)
 
--- whether a type is over one of its bounds: 65,535 nodes, and 1,000 steps
+-- whether a type is over one of the bounds of the language: 65,535 nodes, and 1,000 steps. No declarator makes such a type
 abbrev pub is_too_large : TypeSize → Bool
 is_too_large size = nat_lt 65535 size.nodes || nat_lt 1000 size.steps
+
+-- whether a type is over one of the bounds of a table. A table has room for more than declarators make: the address of an object has the type of
+-- pointers to the object's type, and a program has the pointer to each type of its sources. So the bounds are those of the language and two more
+abbrev pub is_over : TypeSize → Bool
+is_over size = nat_lt 65537 size.nodes || nat_lt 1002 size.steps
 
 -- each part of a type that is no Tag has fewer steps than the type
 abbrev pub HasLowerParts : Table → ℕ → CType → Type 0
@@ -66,6 +71,10 @@ HasLowerParts table t (Struct s) = All (λ u. steps_of table u < steps_of table 
 HasLowerParts table t (Function result params dots) = All (λ u. steps_of table u < steps_of table t) (result ∷ params)
 HasLowerParts table t (Opaque n) = ⊤
 
--- an answer that is this size, or nothing exactly where it is over one of the bounds
+-- an answer that is this size, or nothing exactly where it is over one of some bounds
+abbrev pub FitsBy : (TypeSize → Bool) → TypeSize → Option TypeSize → Type 0
+FitsBy over size answer = MatchOption answer (over size ≡ true) (λ found. (found ≡ size) × (over size ≡ false))
+
+-- the same for the bounds of a table
 abbrev pub Fits : TypeSize → Option TypeSize → Type 0
-Fits size answer = MatchOption answer (is_too_large size ≡ true) (λ found. (found ≡ size) × (is_too_large size ≡ false))
+Fits size answer = FitsBy is_over size answer

@@ -107,7 +107,7 @@ walk (suc steps) table t = start t ∷ below_start (walk steps table) table (typ
 
 -- the most steps from the Start of a type that a table holds
 unfoldable pub most_steps : ℕ
-most_steps = 1000
+most_steps = 1002
 
 -- the walk of a type: its nodes, each before its parts, and each place where a Tag stands
 abbrev pub nodes : Table → ℕ → List Entry

@@ -10,7 +10,7 @@ use lk_base::{Kind, NoMemory};
 /// A type of C (C99 6.2.5) by its form; the types that it is made of are numbers in the same table.
 ///
 /// Qualifiers count nowhere, and an enumeration is `int`.
-#[derive(Debug, Drop, PartialEq, Eq, Hash)]
+#[derive(Drop, PartialEq, Eq, Hash)]
 pub enum CType {
     /// `void`.
     Void,

@@ -1,5 +1,5 @@
 //! Laws of tables, walks and nodes.
-ghost use Rattle.lk_types.specs.Laws.{NoPathStandsTwice, EqualNodesHaveEqualIds, WalksAreOfParts, SizesAreOfParts, OlderWalksStay, PredeclaredStay, LongerIsTransitive};
+ghost use Rattle.lk_types.specs.Laws.{NoPathStandsTwice, EqualNodesHaveEqualIds, WalksAreOfParts, SizesAreOfParts, PointersHaveRoom, PointersToPointersHaveRoom, OlderWalksStay, PredeclaredStay, LongerIsTransitive};
 
 /// No path stands twice in a walk.
 pub fn no_path_stands_twice()
@@ -19,6 +19,16 @@ pub fn walks_are_of_parts()
 /// A size is one for the Start together with the sizes of the parts.
 pub fn sizes_are_of_parts()
     ensures { SizesAreOfParts }
+{}
+
+/// A table has room for the pointer to each type that isn't over the bounds of the language.
+pub fn pointers_have_room()
+    ensures { PointersHaveRoom }
+{}
+
+/// A table has room for the pointer to the pointer to such a type, too.
+pub fn pointers_to_pointers_have_room()
+    ensures { PointersToPointersHaveRoom }
 {}
 
 /// The walk of a type that isn't an incomplete struct stays as it is while the table grows.

@@ -18,11 +18,12 @@ mod walk;
 pub use c_type::CType;
 pub use laws::{
     equal_nodes_have_equal_ids, longer_is_transitive, no_path_stands_twice, older_walks_stay,
-    predeclared_types_stay, sizes_are_of_parts, walks_are_of_parts,
+    pointers_have_room, pointers_to_pointers_have_room, predeclared_types_stay, sizes_are_of_parts,
+    walks_are_of_parts,
 };
 pub use member::StructMember;
 pub use node::{Base, NodeId, Sel};
-pub use size::TypeSize;
+pub use size::{MOST_TABLE_NODES, MOST_TABLE_STEPS, TypeSize};
 pub use table::TypeTable;
 pub use type_id::TypeId;
 pub use type_ids::TypeIds;

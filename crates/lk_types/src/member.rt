@@ -5,7 +5,7 @@ use crate::type_id::TypeId;
 use lk_base::{Name, NoMemory};
 
 /// A member of a struct.
-#[derive(Debug, Drop)]
+#[derive(Drop)]
 pub struct StructMember {
     /// Its name.
     pub name: Name,

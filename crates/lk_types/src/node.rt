@@ -5,7 +5,7 @@ ghost use Rattle.lk_types.specs.Nodes.{base_type};
 use crate::type_id::TypeId;
 
 /// Where the walk begins in which a node has its number.
-#[derive(Clone, Copy, Debug, PartialEq, Eq, Hash)]
+#[derive(Clone, Copy, PartialEq, Eq, Hash)]
 pub enum Base {
     /// A value or a place of the type itself.
     Start(TypeId),
@@ -26,7 +26,7 @@ impl Base {
 }
 
 /// A node of a type.
-#[derive(Clone, Copy, Debug, PartialEq, Eq, Hash)]
+#[derive(Clone, Copy, PartialEq, Eq, Hash)]
 pub struct NodeId {
     /// Where the walk begins.
     pub base: Base,
@@ -35,7 +35,7 @@ pub struct NodeId {
 }
 
 /// One step from a node to another.
-#[derive(Clone, Copy, Debug, PartialEq, Eq)]
+#[derive(Clone, Copy, PartialEq, Eq)]
 pub enum Sel {
     /// From a pointer to what it points to.
     Target,

@@ -2,9 +2,10 @@
 ghost use Rattle.std.specs.Prelude.{IsTrue, ℕ, ◌≡◌, ◌↔◌, ◌<◌, length, slice_get, Some, false};
 ghost use Rattle.lk_types.specs.Table.{IsKnown, members_of, least_of};
 ghost use Rattle.lk_types.specs.Walks.{holds_struct};
-ghost use Rattle.lk_types.specs.Sizes.{size_at, is_too_large, HasLowerParts};
+ghost use Rattle.lk_types.specs.Sizes.{size_at, is_over, HasLowerParts};
 ghost use Rattle.lk_types.specs.Equal.{IsAlike};
-ghost use Rattle.lk_types.specs.Building.{IsTable, IsMadeOf, IsLeast, IsPart, ArePartsOf};
+ghost use Rattle.lk_types.specs.Order.{IsOrdered};
+ghost use Rattle.lk_types.specs.Building.{IsTable, IsMadeOf, IsLeast, IsPart, ArePartsOf, HasSizedStructs};
 
 use crate::c_type::CType;
 use crate::facts::{StructEntry, TypeFacts};
@@ -18,7 +19,8 @@ use std::marker::Model;
 mod building;
 
 /// The types of a program by their numbers, with the members of its structs and the parts of `void`. Equal types
-/// have equal numbers, and no type is over the bounds of its nodes and steps.
+/// have equal numbers, and no type is over the bounds of a table: there is room for the pointer to each type that a
+/// declarator makes.
 ///
 /// A contract sees it as plain lists.
 #[derive(Drop)]
@@ -67,6 +69,20 @@ impl TypeTable {
         let _ = &self.types;
     }
 
+    /// The members of each struct are parts of objects, and no struct is over the bounds of a table.
+    pub fn structs_are_sized(&self)
+        ensures { HasSizedStructs self.now }
+    {
+        let _ = &self.structs;
+    }
+
+    /// The elements of each array were complete when it came.
+    pub fn elements_are_ordered(&self)
+        ensures { IsOrdered self.now }
+    {
+        let _ = &self.types;
+    }
+
     /// The number of structs, complete or not.
     pub fn structs(&self) -> u32
         ensures { result ≡ length self.now.members }
@@ -94,7 +110,7 @@ impl TypeTable {
     pub fn size(&self, t: TypeId) -> TypeSize
         requires { IsKnown self.now t }
         ensures value { result ≡ size_at self.now t }
-        ensures small { is_too_large result ≡ false }
+        ensures small { is_over result ≡ false }
     {
         let (form, facts) = self.types.at(t.index());
         match form.struct_number() {

@@ -12,7 +12,7 @@ use std::hash::{Hash, Hasher};
 use std::marker::Model;
 
 /// A list of types that can be compared, as the types of a function's parameters.
-#[derive(Debug, Drop)]
+#[derive(Drop)]
 pub struct TypeIds {
     types: Vec<TypeId>,
 }

@@ -4,7 +4,7 @@ ghost use Rattle.lk_types.specs.Table.{IsKnown, is_complete, least_of};
 ghost use Rattle.lk_types.specs.Walks.{holds, holds_struct};
 ghost use Rattle.lk_types.specs.Kept.{key_form};
 ghost use Rattle.lk_types.specs.Predeclared.{first_table};
-ghost use Rattle.lk_types.specs.Sizes.{size_at, form_size, fields_size, with_part, with_types, is_too_large, Fits};
+ghost use Rattle.lk_types.specs.Sizes.{size_at, form_size, fields_size, with_part, with_types, is_over, is_too_large, Fits, FitsBy};
 ghost use Rattle.lk_types.specs.Building.{IsForm, IsPassed, IsPartOfObjects, IsPut, IsAdded, types_of, IsLonger, CanComplete, with_members};
 
 use super::TypeTable;
@@ -88,7 +88,7 @@ impl TypeTable {
         self.structs[s as usize] = StructEntry { members, size };
     }
 
-    /// The size of a struct with these members, or nothing exactly where it is over one of the bounds.
+    /// The size of a struct with these members, or nothing exactly where it is over one of the bounds of a table.
     pub fn members_size(&self, members: &[StructMember]) -> Option<TypeSize>
         requires { All (IsKnown self.now) (types_of members.now) }
         ensures { Fits (fields_size self.now (types_of members.now)) result }
@@ -103,7 +103,7 @@ impl TypeTable {
         Some(size)
     }
 
-    /// The size of a form that is about to be put, or nothing exactly where it is over one of the bounds.
+    /// The size of a form that is about to be put, or nothing exactly where it is over one of the bounds of a table.
     pub fn form_size(&self, form: &CType) -> Option<TypeSize>
         requires { IsForm self.now form.now }
         ensures { Fits (form_size self.now form.now) result }
@@ -134,10 +134,21 @@ impl TypeTable {
         }
     }
 
-    /// A size with further fields of these types, or nothing exactly where it is over one of the bounds.
+    /// Whether a form that is about to be put is over one of the bounds of the language.
+    pub fn is_large_form(&self, form: &CType) -> bool
+        requires { IsForm self.now form.now }
+        ensures { result ≡ is_too_large (form_size self.now form.now) }
+    {
+        match self.form_size(form) {
+            Some(size) => size.is_too_large(),
+            None => true,
+        }
+    }
+
+    /// A size with further fields of these types, or nothing exactly where it is over one of the bounds of a table.
     fn with_fields(&self, size: TypeSize, types: &[TypeId]) -> Option<TypeSize>
         requires known { All (IsKnown self.now) types.now }
-        requires small { is_too_large size ≡ false }
+        requires small { is_over size ≡ false }
         ensures { Fits (with_types self.now size types.now) result }
     {
         let mut larger = size;
@@ -151,13 +162,16 @@ impl TypeTable {
     }
 
     /// The size of a struct with one more member of this type, or nothing exactly where the struct is then over one
-    /// of the bounds. A struct without members has the size `TypeSize::START`.
+    /// of the bounds of the language. A struct without members has the size `TypeSize::START`.
     pub fn with_field(&self, size: TypeSize, t: TypeId) -> Option<TypeSize>
         requires known { IsKnown self.now t }
         requires small { is_too_large size ≡ false }
-        ensures { Fits (with_part size (size_at self.now t)) result }
+        ensures { FitsBy is_too_large (with_part size (size_at self.now t)) result }
     {
-        size.larger(self.size(t))
+        match size.larger(self.size(t)) {
+            Some(larger) => larger.bounded(),
+            None => None,
+        }
     }
 
     /// Whether a type can be a function's result or parameter: it is known and holds no struct by value.
@@ -181,8 +195,8 @@ impl TypeTable {
         t.0 < self.count() && self.is_complete(t)
     }
 
-    /// Whether a form may be put, where it isn't too large: what it is made of is in the table, elements are complete,
-    /// and a function's result and parameters hold no struct by value.
+    /// Whether a form may be put, where it isn't over the bounds of a table: what it is made of is in the table, elements
+    /// are complete, and a function's result and parameters hold no struct by value.
     pub fn is_form(&self, form: &CType) -> bool
         ensures { IsTrue result ↔ IsForm self.now form.now }
     {
@@ -230,7 +244,7 @@ impl TypeTable {
     /// Where no memory is found the table is as before.
     pub fn put(&mut self, form: CType) -> Result<TypeId, NoMemory>
         requires form { IsForm self.old form }
-        requires small { is_too_large (form_size self.old form) ≡ false }
+        requires small { is_over (form_size self.old form) ≡ false }
         requires room { length self.old.types < 4294967295 }
         ensures put { IfOk result (λ t. IsPut self.old self.new form t) }
         ensures known { IfOk result (λ t. slice_get self.new.types t ≡ Some form) }
@@ -309,7 +323,7 @@ impl TypeTable {
     /// Adds a form that isn't there. Where no memory is found the table is as before.
     fn add(&mut self, form: CType) -> Result<TypeId, NoMemory>
         requires form { IsForm self.old form }
-        requires small { is_too_large (form_size self.old form) ≡ false }
+        requires small { is_over (form_size self.old form) ≡ false }
         requires room { length self.old.types < 4294967295 }
         requires new { (t : ℕ) → slice_get self.old.types t ≡ Some form → ⊥ }
         ensures ok { IfOk result (λ t. (t ≡ length self.old.types) × IsAdded self.old self.new form) }

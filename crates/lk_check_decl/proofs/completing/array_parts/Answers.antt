@@ -1,4 +1,4 @@
-use Rattle.std.proofs.Common.{◌≡◌, ◌∙◌, ap, sym}
+use Rattle.std.proofs.Common.{◌∙◌, ap, sym}
 use Rattle.lk_typed.proofs.Meanings.{meaning_by}
 use Rattle.lk_typed.specs.Meaning.{meaning, tree_of}
 use Rattle.lk_typed.specs.Ty.{array_of}

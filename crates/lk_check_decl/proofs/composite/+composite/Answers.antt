@@ -44,7 +44,7 @@ of_pointers-unwrap-requires t c =
     let both = c.in_ok-both-in-Some in
     made_there c.args.types.now mid c.is_table.ensures c.is_table-in-Some.ensures both.ensures.longer c.args.t c.requires.t (m c.args.old) (Pointer (meaning mid both.both))
     (pointer_composite (m c.args.target) (m c.in-Some.other) (meaning mid both.both) (m c.args.t) (m c.args.old) c.requires.points.means c.in-Some.ensures.means both.ensures.means)
-    c.pointer_to.new.types c.in_ok-made-in-Some.made c.in_ok-made-in-Some.ensures.ok
+    c.stored_pointer.new.types c.in_ok-made-in-Some.made c.in_ok-made-in-Some.ensures.ok
 
 -- ---- arrays
 pub of_arrays-composite-requires : goal.of_arrays-composite-requires
@@ -65,8 +65,8 @@ of_arrays-composite-requires t c =
       ),
     )
 
-pub of_arrays-array_of-requires : goal.of_arrays-array_of-requires
-of_arrays-array_of-requires t c =
+pub of_arrays-stored_array-requires : goal.of_arrays-stored_array-requires
+of_arrays-stored_array-requires t c =
     let both = c.in_ok-both-in-Some in
     element_composite c.args.types.now c.composite.new.types c.is_table.ensures c.is_table-in-Some.ensures both.ensures.members c.args.parts.element both.both (meaning c.args.types.now c.in-Some.other.element)
     c.requires.parts.element both.ensures.known both.ensures.means
@@ -79,7 +79,7 @@ of_arrays-unwrap-requires t c =
     made_there c.args.types.now mid c.is_table.ensures c.is_table-in-Some.ensures both.ensures.longer c.args.t c.requires.t (m c.args.old) (Array (meaning mid both.both) c.sized.result)
     (array_composite (m c.args.parts.element) (m c.in-Some.other.element) (meaning mid both.both) (m c.args.t) (m c.args.old) c.args.parts.size c.in-Some.other.size c.sized.result
     c.requires.parts.means c.in-Some.ensures.means both.ensures.means c.sized.ensures)
-    c.array_of.new.types c.in_ok-made-in-Some.made c.in_ok-made-in-Some.ensures.ok
+    c.stored_array.new.types c.in_ok-made-in-Some.made c.in_ok-made-in-Some.ensures.ok
 
 pub of_arrays-returns-in_ok-made-in-Some-clause-adds : goal.of_arrays-returns-in_ok-made-in-Some-clause-adds
 of_arrays-returns-in_ok-made-in-Some-clause-adds t c =
@@ -89,7 +89,7 @@ of_arrays-returns-in_ok-made-in-Some-clause-adds t c =
     let other = c.in-Some.ensures in
     let both = c.in_ok-both-in-Some in
     let made = c.in_ok-made-in-Some.ensures in
-    adds_then table c.composite.new.types c.array_of.new.types both.ensures.longer both.ensures.members made.longer made.members
+    adds_then table c.composite.new.types c.stored_array.new.types both.ensures.longer both.ensures.members made.longer made.members
     (made.few
     (few_array table c.is_table.ensures c.requires.few c.args.t c.args.old c.args.parts c.in-Some.other parts other c.requires.t c.requires.old c.requires.equal
     (meaning c.composite.new.types both.both) c.sized.result both.ensures.means c.sized.ensures)
@@ -141,8 +141,8 @@ of_functions-of_params-requires t c =
       ),
     )
 
-pub of_functions-function_of-requires : goal.of_functions-function_of-requires
-of_functions-function_of-requires t c =
+pub of_functions-stored_function-requires : goal.of_functions-stored_function-requires
+of_functions-stored_function-requires t c =
     function_passed c.args.types.now c.composite.new.types c.of_params.new.types c.args.t c.args.old c.in_ok-both-in-Some.both c.in_ok-params-in-Some.params c.args.parts.now c.in-Some.other
     (both_made c.is_table.ensures c.is_table-in-Some.ensures c.is_table-in-Some-2.ensures c.in_ok-both-in-Some.ensures.longer c.in_ok-params-in-Some.ensures.adds.longer c.requires.parts
     (rw c.in-Some.is at c.in_ok-other.ensures) c.in_ok-both-in-Some.ensures.known c.in_ok-both-in-Some.ensures.means c.list.ensures c.list-in-Some.ensures c.in_ok-params-in-Some.ensures.made)
@@ -160,7 +160,7 @@ of_functions-unwrap-requires t c =
     (function_made table c.composite.new.types last c.args.t c.args.old both params parts c.in-Some.other
     (both_made c.is_table.ensures c.is_table-in-Some.ensures c.is_table-in-Some-2.ensures c.in_ok-both-in-Some.ensures.longer c.in_ok-params-in-Some.ensures.adds.longer c.requires.parts
     (rw c.in-Some.is at c.in_ok-other.ensures) c.in_ok-both-in-Some.ensures.known c.in_ok-both-in-Some.ensures.means c.list.ensures c.list-in-Some.ensures c.in_ok-params-in-Some.ensures.made))
-    c.function_of.new.types c.in_ok-made-in-Some.made c.in_ok-made-in-Some.ensures.ok
+    c.stored_function.new.types c.in_ok-made-in-Some.made c.in_ok-made-in-Some.ensures.ok
 
 pub of_functions-returns-in_ok-made-in-Some-clause-made : goal.of_functions-returns-in_ok-made-in-Some-clause-made
 of_functions-returns-in_ok-made-in-Some-clause-made t c =
@@ -169,7 +169,7 @@ of_functions-returns-in_ok-made-in-Some-clause-made t c =
     let both = c.in_ok-both-in-Some.both in
     let params = c.in_ok-params-in-Some.params in
     let parts = c.args.parts.now in
-    made_stands last c.function_of.new.types (function_tree last both params parts.dots) (composite (meaning table c.args.t) (meaning table c.args.old)) c.in_ok-made-in-Some.made c.unwrap.result
+    made_stands last c.stored_function.new.types (function_tree last both params parts.dots) (composite (meaning table c.args.t) (meaning table c.args.old)) c.in_ok-made-in-Some.made c.unwrap.result
     c.in_ok-made-in-Some.ensures.ok c.unwrap.ensures
     (function_made table c.composite.new.types last c.args.t c.args.old both params parts c.in-Some.other
     (both_made c.is_table.ensures c.is_table-in-Some.ensures c.is_table-in-Some-2.ensures c.in_ok-both-in-Some.ensures.longer c.in_ok-params-in-Some.ensures.adds.longer c.requires.parts

@@ -11,7 +11,7 @@ pub overflow_cast-result : goal.overflow_cast-result
 overflow_cast-result c =
     let types = c.args.types.now in
     let form = type_is types c.args.t c.get.result.now c.get.ensures.value ∙ c.in-Struct.is in
-    let few = subst (λ (f : CType). length (fields_of types f) < 65535) form (few_fields types c.get.ensures.table c.args.t c.requires) in
+    let few = subst (λ (f : CType). length (fields_of types f) < 65537) form (few_fields types c.get.ensures.table c.args.t c.requires) in
     let same = length-map (members_of types c.in-Struct.s) (λ (m : StructMember). m.ty) in
     rw c.members.ensures (omega (arith, few, same))
 
@@ -19,12 +19,12 @@ pub overflow_cast-result-in-Function : goal.overflow_cast-result-in-Function
 overflow_cast-result-in-Function c =
     let types = c.args.types.now in
     let form = type_is types c.args.t c.get.result.now c.get.ensures.value ∙ c.in-Function.is in
-    let few = subst (λ (f : CType). length (fields_of types f) < 65535) form (few_fields types c.get.ensures.table c.args.t c.requires) in
+    let few = subst (λ (f : CType). length (fields_of types f) < 65537) form (few_fields types c.get.ensures.table c.args.t c.requires) in
     rw c.list.ensures (omega (arith, few))
 
 pub overflow_add-result : goal.overflow_add-result
 overflow_add-result c =
     let types = c.args.types.now in
     let form = type_is types c.args.t c.get.result.now c.get.ensures.value ∙ c.in-Function.is in
-    let few = subst (λ (f : CType). length (fields_of types f) < 65535) form (few_fields types c.get.ensures.table c.args.t c.requires) in
+    let few = subst (λ (f : CType). length (fields_of types f) < 65537) form (few_fields types c.get.ensures.table c.args.t c.requires) in
     rw c.list.ensures (omega (arith, few))

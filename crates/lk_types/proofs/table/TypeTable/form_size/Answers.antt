@@ -2,7 +2,7 @@ use Rattle.std.proofs.Common.{◌≡◌, ◌∙◌, ◌<◌, true, false, List, 
 use Rattle.std.proofs.lemmas.List.{length-map}
 use Rattle.std.proofs.lemmas.List.Elements.{All-tail}
 use Rattle.lk_types.specs.Building.{IsForm}
-use Rattle.lk_types.specs.Sizes.{Fits, form_size, with_types, with_part, start_size, size_at, is_too_large}
+use Rattle.lk_types.specs.Sizes.{Fits, form_size, with_types, with_part, start_size, size_at, is_over}
 use Rattle.lk_types.specs.Table.{Table, IsKnown}
 use Rattle.lk_types.specs.declared.size.TypeSize.{TypeSize}
 use Rattle.lk_types.proofs.KeptLemmas.{read_got}
@@ -23,7 +23,7 @@ returns-in-Struct c =
     let entry = c.index.result.now in
     let within : c.in-Struct.s < length structs = subst (λ (table : Table). IsForm table c.args.form.now → c.in-Struct.s < length structs) c.self.view_is
     (λ ok. let known = subst (IsForm _) c.in-Struct.is ok in omega (arith, known, length-map structs (λ entry. entry.members))) c.requires in
-    subst (λ (table : Table). (entry.size ≡ form_size table c.args.form.now) × (is_too_large (form_size table c.args.form.now) ≡ false)) c.self.view_is
+    subst (λ (table : Table). (entry.size ≡ form_size table c.args.form.now) × (is_over (form_size table c.args.form.now) ≡ false)) c.self.view_is
     (struct_form_fits inside.types inside.classes structs inside.parts c.self.invariant c.in-Struct.s entry (read_got structs c.in-Struct.s entry within c.index.ensures) c.args.form.now c.in-Struct.is)
 
 pub returns-in-Some : goal.returns-in-Some
@@ -38,6 +38,6 @@ pub returns-in-None : goal.returns-in-None
 returns-in-None c =
     let now = c.args.self.now in
     let ps = c.in-Function.params in
-    ap is_too_large (function_size now c.in-Function.result ps c.in-Function.dots c.args.form.now c.in-Function.is) ∙
+    ap is_over (function_size now c.in-Function.result ps c.in-Function.dots c.args.form.now c.in-Function.is) ∙
     large_stays now ps (with_part start_size (size_at now c.in-Function.result))
-    (subst (λ (p : TypeSize). is_too_large (with_part start_size p) ≡ true) c.size-in-Function.ensures.value c.in-None.ensures)
+    (subst (λ (p : TypeSize). is_over (with_part start_size p) ≡ true) c.size-in-Function.ensures.value c.in-None.ensures)

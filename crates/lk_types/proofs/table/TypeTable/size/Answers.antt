@@ -1,5 +1,5 @@
 use Rattle.std.proofs.Common.{◌≡◌, ◌∙◌, arith, sym, subst, ap}
-use Rattle.lk_types.specs.Sizes.{size_at, is_too_large}
+use Rattle.lk_types.specs.Sizes.{size_at, is_over}
 use Rattle.lk_types.proofs.KeptLemmas.{size_kept, struct_size_kept, struct_within, size_small, at_number, read_got}
 use Rattle.lk_types.proofs.table.TypeTable.size.Goals as goal
 
@@ -28,7 +28,7 @@ returns-in-Some-clause-small c =
     let entry = c.index-in-Some.result.now in
     let at = at_number inside.types c.index.ensures c.at.ensures in
     let within = struct_within inside.types inside.classes structs inside.parts c.self.invariant c.args.t c.at.result.0.now c.at.result.1.now at c.in-Some.s (sym c.in-Some.ensures) in
-    ap is_too_large
+    ap is_over
     (struct_size_kept inside.types inside.classes structs inside.parts c.self.invariant c.args.t c.at.result.0.now c.at.result.1.now at c.in-Some.s (sym c.in-Some.ensures) entry
     (read_got structs c.in-Some.s entry within c.index-in-Some.ensures)) ∙
     size_small inside.types inside.classes structs inside.parts c.self.invariant c.args.t c.at.result.0.now c.at.result.1.now at
@@ -44,5 +44,5 @@ pub returns-in-None-clause-small : goal.returns-in-None-clause-small
 returns-in-None-clause-small c =
     let inside = c.self.inside in
     let at = at_number inside.types c.index.ensures c.at.ensures in
-    ap is_too_large (size_kept inside.types inside.classes inside.structs.items inside.parts c.self.invariant c.args.t c.at.result.0.now c.at.result.1.now at (sym c.in-None.ensures)) ∙
+    ap is_over (size_kept inside.types inside.classes inside.structs.items inside.parts c.self.invariant c.args.t c.at.result.0.now c.at.result.1.now at (sym c.in-None.ensures)) ∙
     size_small inside.types inside.classes inside.structs.items inside.parts c.self.invariant c.args.t c.at.result.0.now c.at.result.1.now at

@@ -1,0 +1,5 @@
+use Rattle.lk_types.proofs.RoomLemmas.{pointers_to_pointers_have_room}
+use Rattle.lk_types.proofs.laws.pointers_to_pointers_have_room.Goals as goal
+
+pub returns : goal.returns
+returns c = pointers_to_pointers_have_room
