@@ -4,12 +4,10 @@ use Rattle.std.proofs.lemmas.Bool.{cases_eq, false≢true}
 use Rattle.std.proofs.lemmas.Option.{same_Some, slice_get_past}
 use Rattle.std.proofs.Math.Nat.{eq-or-lt_of_le}
 use Rattle.std.specs.List.{slice_get, AllZip}
-use Rattle.std.specs.Prelude.{unwrap_or}
-use Rattle.lk_types.specs.Building.{CanComplete, IsLonger, IsPut, with_members}
-use Rattle.lk_types.specs.Building.IsPut.{found, added}
+use Rattle.std.specs.Prelude.{◌↔◌, IsTrue, unwrap_or}
+use Rattle.lk_types.specs.Building.{CanComplete, IsLonger, with_members}
 use Rattle.lk_types.specs.Predeclared.{first_table}
 use Rattle.lk_types.specs.Table.{Table, is_empty, is_open, members_of}
-use Rattle.lk_types.specs.declared.c_type.CType.{CType}
 use Rattle.lk_types.specs.declared.member.StructMember.{StructMember}
 use Rattle.lk_types.proofs.GrowLemmas.{longer_same, longer_then}
 use Rattle.lk_join.specs.Completing.{AreCompleted, AreOpen, GivesMembers, HaveSameMembers, IsCompleted, IsGiven}
@@ -21,13 +19,12 @@ use Rattle.lk_join.proofs.Zips.{zip_weaker}
 pub never_both : (b : Bool) → b ≡ true → b ≡ false → ⊥
 never_both b yes_ no_ = false≢true (sym no_ ∙ yes_)
 
+pub open_from : (b answer : Bool) → IsTrue answer ↔ (b ≡ false) → answer ≡ false → b ≡ true
+open_from true answer both failed = refl
+open_from false answer both failed = absurd (false≢true (sym failed ∙ both.1 refl))
+
 pub open_past : (table : Table) (s : ℕ) → length table.members ≤ s → is_open table s ≡ true
 open_past table s past = ap (λ o. is_empty (unwrap_or o [])) (slice_get_past table.members s past)
-
--- a form that was put completes no struct
-pub put_members : (old new : Table) (form : CType) (t : ℕ) → IsPut old new form t → new.members ≡ old.members
-put_members old new form t (found at same) = ap (λ (table : Table). table.members) same
-put_members old new form t (added absent last is) = is.members
 
 none_begun : (xs : List (List StructMember)) (n : ℕ) → unwrap_or (slice_get (xs ++ [] ∷ []) n) [] ≡ unwrap_or (slice_get xs n) []
 none_begun [] zero = refl
@@ -93,14 +90,14 @@ module _ (types : Table) (structs : List ℕ) where
         by n open_ closed false is = given_later b c n (second.longer.members n is) (first.given n open_ is)
 
     -- a struct gets the members of one of the source
-    module _ (old new : Table) (s here : ℕ) (members listed : List StructMember) (known : s < length types.members) (at : IsHere structs s here) (zip : AllZip (IsMember row) (members_of types s) members)
-        (same : listed ≡ members) (can : CanComplete old here listed) (longer : IsLonger old new) (value : new ≡ with_members old here members) where
+    module _ (old new : Table) (s here : ℕ) (members : List StructMember) (known : s < length types.members) (at : IsHere structs s here) (zip : AllZip (IsMember row) (members_of types s) members)
+        (can : CanComplete old here members) (longer : IsLonger old new) (value : new ≡ with_members old here members) where
       members_here : members_of new here ≡ members
       members_here =
           let there = got old.members here can.known in
           ap (λ (t : Table). members_of t here) value ∙ ap (λ o. unwrap_or o []) (set_here old.members here there.0 members there.1)
 
-      others_stay : (n : ℕ) → (n ≡ here → ⊥) → is_open new n ≡ is_open old n
+      pub others_stay : (n : ℕ) → (n ≡ here → ⊥) → is_open new n ≡ is_open old n
       others_stay n apart = ap (λ (t : Table). is_open t n) value ∙ ap (λ o. is_empty (unwrap_or o [])) (set_there old.members here n members apart)
 
       pub give_gives : GivesMembers types row structs old new
@@ -118,7 +115,7 @@ module _ (types : Table) (structs : List ℕ) where
       }
 
       pub give_completes : IsCompleted types structs new s
-      give_completes = completed_here new s here at (ap is_empty members_here ∙ ap is_empty (sym same) ∙ can.members)
+      give_completes = completed_here new s here at (ap is_empty members_here ∙ can.members)
 
   pub gives_more : (row more : List ℕ) (old new : Table) → GivesMembers types row structs old new → GivesMembers types (row ++ more) structs old new
   gives_more row more old new h = record {

@@ -8,7 +8,7 @@ use Rattle.std.specs.List.{slice_get, AllZip}
 use Rattle.lk_link.specs.Sources.{Units}
 use Rattle.lk_typed.specs.declared.unit.TypedUnit.{TypedUnit}
 use Rattle.lk_types.specs.Building.{IsClosed, IsLonger, IsTable}
-use Rattle.lk_types.specs.Sizes.{is_too_large}
+use Rattle.lk_types.specs.Sizes.{is_over}
 use Rattle.lk_types.specs.Table.{Table, HasKnown, IsKnown, type_at}
 use Rattle.lk_types.specs.Walks.{branches, has_tag, holds_struct, is_void, target}
 use Rattle.lk_types.specs.declared.c_type.CType.{CType}
@@ -78,7 +78,7 @@ pointer_later old new good longer t known has small =
     let same = form_size_by old new good longer (Pointer t)
     (branches_by old new good longer (Pointer t) (λ u is. subst (HasKnown old) is known) (own_closed old new good longer (Pointer t) tt))
     (pointer_parts old t known) in
-    let pointer = has (sym (ap is_too_large same) ∙ small) in
+    let pointer = has (sym (ap is_over same) ∙ small) in
     (pointer.0, get_longer old new longer pointer.0 (Pointer t) pointer.1)
 
 pub keeps_same : (table : Table) → KeepsPointers table table

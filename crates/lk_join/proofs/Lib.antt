@@ -1,4 +1,6 @@
 pub mod Agreed
+pub mod Alike
+pub mod Carrying
 pub mod Chains
 pub mod Completed
 pub mod Counting
@@ -17,6 +19,7 @@ pub mod Relabelling
 pub mod RowNumbers
 pub mod Saying
 pub mod Shaping
+pub mod Sizing
 pub mod Starting
 pub mod Stepping
 pub mod Symmetry

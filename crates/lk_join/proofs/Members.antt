@@ -84,14 +84,14 @@ empty_of : {X : Type 0} (xs : List X) → is_empty xs ≡ true → xs ≡ []
 empty_of [] is = refl
 empty_of (x ∷ xs) is = absurd (false≢true is)
 
-zip_some : {X Y : Type 0} (R : X → Y → Type 0) (xs : List X) (ys : List Y) → AllZip R xs ys → is_empty ys ≡ false → is_empty xs ≡ false
+pub zip_some : {X Y : Type 0} (R : X → Y → Type 0) (xs : List X) (ys : List Y) → AllZip R xs ys → is_empty ys ≡ false → is_empty xs ≡ false
 zip_some R xs [] h some_ = absurd (false≢true (sym some_))
 zip_some R [] (y ∷ ys) h some_ = absurd h
 zip_some R (x ∷ xs) (y ∷ ys) h some_ = refl
 
 module _ (units : Units) where
   -- a struct with members is a struct of a source
-  complete_known : (s : StructOf) → is_empty (members_in units s) ≡ false → IsStruct units s
+  pub complete_known : (s : StructOf) → is_empty (members_in units s) ≡ false → IsStruct units s
   complete_known s = of (slice_get units s.source) refl
     where
       known : (unit : TypedUnit) → is_open unit.types s.number ≡ false → (s.number < length unit.types.members) ⊎ (length unit.types.members ≤ s.number) → s.number < length unit.types.members

@@ -6,6 +6,7 @@ use Rattle.lk_typed.specs.declared.unit.TypedUnit.{TypedUnit}
 use Rattle.lk_types.specs.Building.{IsLonger, types_of}
 use Rattle.lk_types.specs.Sizes.{steps_of}
 use Rattle.lk_types.specs.Table.{Table, is_open, members_of}
+use Rattle.lk_types.specs.declared.c_type.CType.TheVariants.{Array, Struct}
 use Rattle.lk_join.specs.Forms.{IsHere, IsMember}
 
 -- `types` is the table of a source, `structs` has of each of its structs the number in the program, and `row` the same of its first types
@@ -41,6 +42,19 @@ IsCompleted types structs table a = (n : ℕ) → IsHere structs a n → is_open
 -- the same of its first structs
 abbrev pub AreCompleted : (types : Table) → (structs : List ℕ) → Table → (count : ℕ) → Type 0
 AreCompleted types structs table count = (a : ℕ) → a < count → IsCompleted types structs table a
+
+-- the struct that a type of the source is, where it is one
+abbrev pub IsHeld : (types : Table) → (structs : List ℕ) → Table → ℕ → Type 0
+IsHeld types structs table u = (s : ℕ) → slice_get types.types u ≡ Some (Struct s) → IsCompleted types structs table s
+
+-- the struct of which a type of the source is an array, where it is one
+abbrev pub IsElementHeld : (types : Table) → (structs : List ℕ) → Table → ℕ → Type 0
+IsElementHeld types structs table t = (u n : ℕ) → slice_get types.types t ≡ Some (Array u n) → IsHeld types structs table u
+
+-- a struct that the source completes, and the program not yet
+pub record IsToComplete (types : Table) (structs : List ℕ) (table : Table) (s : ℕ) : Type 0 where
+  pub shut : is_open types s ≡ false
+  pub here : (n : ℕ) → IsHere structs s n → is_open table n ≡ true
 
 -- some source gave the members of a struct of the program
 pub record IsGivenBy (units : Units) (structs rows : List (List ℕ)) (table : Table) (n : ℕ) : Type 0 where

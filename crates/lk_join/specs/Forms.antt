@@ -5,7 +5,7 @@ use Rattle.lk_base.specs.declared.kind.Kind.{Kind}
 use Rattle.lk_link.specs.Sources.{Units}
 use Rattle.lk_typed.specs.declared.unit.TypedUnit.{TypedUnit}
 use Rattle.lk_types.specs.Building.{IsLonger}
-use Rattle.lk_types.specs.Sizes.{form_size, is_too_large}
+use Rattle.lk_types.specs.Sizes.{form_size, is_over}
 use Rattle.lk_types.specs.Table.{Table, IsKnown}
 use Rattle.lk_types.specs.declared.c_type.CType.{CType}
 use Rattle.lk_types.specs.declared.c_type.CType.TheVariants.{Void, Int, ThreadId, Mutex, Cond, Pointer, Array, Struct, Function, Opaque}
@@ -48,9 +48,9 @@ pub record AreRowsOf (units : Units) (structs : List (List ℕ)) (table : Table)
   pub each : (s : ℕ) (unit : TypedUnit) (row : List ℕ) → slice_get units s ≡ Some unit → slice_get rows s ≡ Some row →
       (here : List ℕ) × (slice_get structs s ≡ Some here) × ArePutAt table row here unit.types.types
 
--- the table has the pointer to the type, unless that is over the bounds of types
+-- the table has the pointer to the type, unless that is over the bounds of a table
 abbrev pub HasPointer : Table → ℕ → Type 0
-HasPointer table t = is_too_large (form_size table (Pointer t)) ≡ false → (pointer : ℕ) × (slice_get table.types pointer ≡ Some (Pointer t))
+HasPointer table t = is_over (form_size table (Pointer t)) ≡ false → (pointer : ℕ) × (slice_get table.types pointer ≡ Some (Pointer t))
 
 -- a later table that has the members of structs and the pointers which an earlier one has
 pub record KeepsPointers (old new : Table) : Type 0 where

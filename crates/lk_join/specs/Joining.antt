@@ -11,7 +11,7 @@ use Rattle.lk_typed.specs.declared.entity.Linkage.TheVariants as linkage
 use Rattle.lk_typed.specs.declared.whole.Linked.{Linked}
 use Rattle.lk_typed.specs.declared.whole.Whole.{Whole}
 use Rattle.lk_typed.specs.declared.whole.WholeEntity.{WholeEntity}
-use Rattle.lk_types.specs.Sizes.{form_size, is_too_large}
+use Rattle.lk_types.specs.Sizes.{form_size, is_over}
 use Rattle.lk_types.specs.Table.{members_of}
 use Rattle.lk_types.specs.declared.c_type.CType.{CType}
 use Rattle.lk_types.specs.declared.c_type.CType.TheVariants.{Void, Int, ThreadId, Mutex, Cond, Pointer, Array, Struct, Function as FunctionType, Opaque}
@@ -59,8 +59,8 @@ module _ (whole : Whole) where
     pub structs : AreStructs struct_of
     pub has : (s t : ℕ) (form : CType) → slice_get (types_in units_of s) t ≡ Some form → (here : ℕ) × (form_here : CType) ×
         IsTypeHere s t here × (slice_get whole.types.types here ≡ Some form_here) × HasFormHere struct_of s form form_here
-    -- for each type of a source there is the pointer to it, where that is within the bounds of types
-    pub pointers : (s t here : ℕ) → IsTypeHere s t here → is_too_large (form_size whole.types (Pointer here)) ≡ false →
+    -- for each type of a source there is the pointer to it, where that is within the bounds of a table
+    pub pointers : (s t here : ℕ) → IsTypeHere s t here → is_over (form_size whole.types (Pointer here)) ≡ false →
         (pointer : ℕ) × (slice_get whole.types.types pointer ≡ Some (Pointer here))
 
   -- two entities are one in the program: they are the same, or have one name of external linkage

@@ -5,6 +5,7 @@ pub mod Entities
 pub mod Forms
 pub mod Joining
 pub mod Labels
+pub mod Large
 pub mod Numbering
 pub mod Places
 pub mod Program

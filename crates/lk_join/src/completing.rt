@@ -1,37 +1,42 @@
 //! Structs of a source completed in the program.
-ghost use Rattle.std.specs.Prelude.{◌≡◌, ◌<◌, ◌↔◌, All, IfSome, IsTrue, OnOk, false, length};
-ghost use Rattle.lk_types.specs.Building.{CanComplete, IsPartOfObjects, types_of};
-ghost use Rattle.lk_types.specs.Sizes.{fields_size, is_too_large, steps_of};
-ghost use Rattle.lk_types.specs.Table.{IsKnown, is_empty, is_open};
-ghost use Rattle.lk_join.specs.Completing.{AreCompleted, GivesMembers, HasStepsBelow, IsCompleted};
+ghost use Rattle.std.specs.Prelude.{◌≡◌, ◌<◌, ◌↔◌, ℕ, suc, All, IfSome, IsTrue, MatchOption, OnOk, Some, false, length, slice_get};
+ghost use Rattle.lk_types.specs.Sizes.{steps_of};
+ghost use Rattle.lk_types.specs.Table.{IsKnown, is_open, members_of};
+ghost use Rattle.lk_types.specs.declared.c_type.CType.TheVariants.{Array, Struct};
+ghost use Rattle.lk_join.specs.Completing.{AreCompleted, GivesMembers, HasStepsBelow, IsCompleted, IsElementHeld, IsHeld, IsToComplete};
+ghost use Rattle.lk_join.specs.Large.{IsDoneBefore, IsJoining, IsTypeTable, KeepsOpen, struct_size};
 
 use crate::forms::Source;
-use lk_base::{MOST_TYPE_STEPS, NoMemory};
-use lk_types::{CType, StructMember, TypeId, TypeTable};
+use lk_base::NoMemory;
+use lk_types::{CType, MOST_TABLE_STEPS, TypeId, TypeTable};
+
+/// What holds in each table of types.
+pub(crate) fn is_type_table(table: &TypeTable)
+    ensures { IsTypeTable table.now }
+{
+    table.is_table();
+    table.structs_are_sized();
+    table.elements_are_ordered();
+}
 
 /// The number of the struct, where a type of the table is one. Its members have fewer steps than the type.
 fn struct_of(types: &TypeTable, t: TypeId) -> Option<u32>
     requires { IsKnown types.now t }
-    ensures { IfSome result (HasStepsBelow types.now (steps_of types.now t)) }
+    ensures steps { IfSome result (HasStepsBelow types.now (steps_of types.now t)) }
+    ensures exact { MatchOption result
+        ((s : ℕ) → slice_get types.now.types t ≡ Some (Struct s) → ⊥)
+        (λ s. slice_get types.now.types t ≡ Some (Struct s)) }
 {
-    match types.get(t) {
-        CType::Struct(s) => Some(*s),
-        CType::Void
-        | CType::Int(_)
-        | CType::ThreadId
-        | CType::Mutex
-        | CType::Cond
-        | CType::Pointer(_)
-        | CType::Array(_, _)
-        | CType::Function { .. }
-        | CType::Opaque(_) => None,
-    }
+    types.get(t).struct_number()
 }
 
 /// The type of which a type is an array, where it is one.
 fn element_of(types: &TypeTable, t: TypeId) -> Option<TypeId>
     requires { IsKnown types.now t }
-    ensures { IfSome result (IsKnown types.now) }
+    ensures known { IfSome result (IsKnown types.now) }
+    ensures exact { MatchOption result
+        ((u n : ℕ) → slice_get types.now.types t ≡ Some (Array u n) → ⊥)
+        (λ u. (n : ℕ) × (slice_get types.now.types t ≡ Some (Array u n))) }
 {
     match types.get(t) {
         CType::Array(element, _) => Some(*element),
@@ -66,67 +71,34 @@ fn is_open(table: &TypeTable, s: u32) -> bool
     table.members(s).is_empty()
 }
 
-/// Whether the types of these members have numbers in the program.
-fn are_here(row: &[TypeId], members: &[StructMember]) -> bool
-    ensures { IsTrue result ↔ All (λ member. member.ty < length row.now) members.now }
-{
-    members.iter().all(|member| member.ty.index() < row.len())
-}
-
-/// Whether there are no members.
-fn are_none(members: &[StructMember]) -> bool
-    ensures { result ≡ is_empty members.now }
-{
-    members.is_empty()
-}
-
-/// Whether a struct with these members is within the bounds of types.
-fn are_small(table: &TypeTable, members: &[StructMember]) -> bool
-    requires { All (λ member. IsPartOfObjects table.now member.ty) members.now }
-    ensures { IsTrue result ↔ (is_too_large (fields_size table.now (types_of members.now)) ≡ false) }
-{
-    match table.members_size(members) {
-        Some(_) => true,
-        None => false,
-    }
-}
-
-/// Whether a struct of a table can be given these members.
-fn can_complete(table: &TypeTable, s: u32, members: &[StructMember]) -> bool
-    ensures { IsTrue result ↔ CanComplete table.now s members.now }
-{
-    s < table.structs()
-        && is_open(table, s)
-        && !are_none(members)
-        && table.are_members(members)
-        && are_small(table, members)
-}
-
 impl Source<'_> {
-    /// Gives a struct of the program the members of one of the source. `NoMemory` where it can't have them, which doesn't
-    /// come: it has none yet, and their types have their numbers and are complete, as they are in the source.
+    /// Gives a struct of the program the members of one of the source. It can have them: it has none yet, and their types
+    /// have their numbers, and are complete and as large as they are in the source.
     fn give_members(&self, row: &[TypeId], s: u32, table: &mut TypeTable) -> Result<(), NoMemory>
-        requires { s < length self.now.types.now.members }
+        requires joining { IsJoining self.now.types.now row.now self.now.structs.now table.old }
+        requires before { IsDoneBefore self.now.types.now (length row.now) s }
+        requires here { IsToComplete self.now.types.now self.now.structs.now table.old s }
+        requires held { All (λ member. IsHeld self.now.types.now self.now.structs.now table.old member.ty)
+            (members_of self.now.types.now s) }
         ensures gives { OnOk result
             (GivesMembers self.now.types.now row.now self.now.structs.now table.old table.new) }
+        ensures joining { OnOk result (IsJoining self.now.types.now row.now self.now.structs.now table.new) }
         ensures completed { OnOk result (IsCompleted self.now.types.now self.now.structs.now table.new s) }
+        ensures stays { OnOk result (KeepsOpen self.now.types.now self.now.structs.now
+            (suc (struct_size self.now.types.now s).steps) table.old table.new) }
     {
         let here = self.struct_here(s);
-        if !are_here(row, self.types.members(s)) {
-            return Err(NoMemory);
-        }
         let members = self.members_here(row, s)?;
-        if !can_complete(table, here, members.list()) {
-            return Err(NoMemory);
-        }
         table.complete_struct(here, members);
+        is_type_table(table);
         Ok(())
     }
 
     /// Whether the program has members of a struct of the source, or the source has none.
     fn is_completed(&self, s: u32, table: &TypeTable) -> bool
         requires { s < length self.now.types.now.members }
-        ensures { IsTrue result → IsCompleted self.now.types.now self.now.structs.now table.now s }
+        ensures done { IsTrue result → IsCompleted self.now.types.now self.now.structs.now table.now s }
+        ensures lacks { result ≡ false → IsToComplete self.now.types.now self.now.structs.now table.now s }
     {
         if is_open(self.types, s) {
             return true;
@@ -143,10 +115,16 @@ impl Source<'_> {
         steps: u32,
         table: &mut TypeTable,
     ) -> Result<(), NoMemory>
-        requires { HasStepsBelow self.now.types.now steps s }
+        requires joining { IsJoining self.now.types.now row.now self.now.structs.now table.old }
+        requires steps { HasStepsBelow self.now.types.now steps s }
+        requires before { is_open self.now.types.now s ≡ false →
+            IsDoneBefore self.now.types.now (length row.now) s }
         ensures gives { OnOk result
             (GivesMembers self.now.types.now row.now self.now.structs.now table.old table.new) }
+        ensures joining { OnOk result (IsJoining self.now.types.now row.now self.now.structs.now table.new) }
         ensures completed { OnOk result (IsCompleted self.now.types.now self.now.structs.now table.new s) }
+        ensures stays { OnOk result (KeepsOpen self.now.types.now self.now.structs.now
+            (suc (struct_size self.now.types.now s).steps) table.old table.new) }
     {
         if self.is_completed(s, table) {
             return Ok(());
@@ -170,11 +148,14 @@ impl Source<'_> {
         t: TypeId,
         table: &mut TypeTable,
     ) -> Result<(), NoMemory>
-        requires { IsKnown self.now.types.now t }
-        ensures { OnOk result
+        requires known { IsKnown self.now.types.now t }
+        requires before { length row.now ≡ t }
+        requires joining { IsJoining self.now.types.now row.now self.now.structs.now table.old }
+        ensures gives { OnOk result
             (GivesMembers self.now.types.now row.now self.now.structs.now table.old table.new) }
+        ensures joining { OnOk result (IsJoining self.now.types.now row.now self.now.structs.now table.new) }
+        ensures held { OnOk result (IsElementHeld self.now.types.now self.now.structs.now table.new t) }
     {
-        self.types.is_table();
         let element = match element_of(self.types, t) {
             Some(element) => element,
             None => return Ok(()),
@@ -183,20 +164,22 @@ impl Source<'_> {
             Some(s) => s,
             None => return Ok(()),
         };
-        self.complete(row, s, MOST_TYPE_STEPS, table)?;
+        self.complete(row, s, MOST_TABLE_STEPS, table)?;
         Ok(())
     }
 
     /// Completes the structs in the program that the source completes.
     pub(crate) fn complete_all(&self, row: &[TypeId], table: &mut TypeTable) -> Result<(), NoMemory>
+        requires whole { length row.now ≡ length self.now.types.now.types }
+        requires joining { IsJoining self.now.types.now row.now self.now.structs.now table.old }
         ensures gives { OnOk result
             (GivesMembers self.now.types.now row.now self.now.structs.now table.old table.new) }
+        ensures joining { OnOk result (IsJoining self.now.types.now row.now self.now.structs.now table.new) }
         ensures completed { OnOk result (AreCompleted self.now.types.now self.now.structs.now table.new
             (length self.now.types.now.members)) }
     {
-        self.types.is_table();
         for s in 0..self.types.structs() {
-            self.complete(row, s, MOST_TYPE_STEPS + 1, table)?;
+            self.complete(row, s, MOST_TABLE_STEPS + 1, table)?;
         }
         Ok(())
     }

@@ -5,6 +5,7 @@ ghost use Rattle.lk_link.specs.Sources.{HasKnownMembers};
 ghost use Rattle.lk_types.specs.Building.{IsMadeOf};
 ghost use Rattle.lk_types.specs.Table.{members_of};
 ghost use Rattle.lk_join.specs.Forms.{HasForm, IsHere, IsMember};
+ghost use Rattle.lk_join.specs.Large.{AreAsLarge};
 
 use lk_base::{NoMemory, Seq};
 use lk_types::{CType, StructMember, TypeId, TypeIds, TypeTable};
@@ -20,6 +21,7 @@ pub(crate) struct Source<'a> {
     ghost all_structs: { length structs.now ≡ length types.now.members },
     ghost few_structs: { All (λ number. number < 2 ^ 32) structs.now },
     ghost all_members: { HasKnownMembers types.now },
+    ghost as_large: { AreAsLarge types.now structs.now types.now structs.now },
 }
 
 /// The program's number of a type of a source: one of the first, which have one.

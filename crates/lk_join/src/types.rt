@@ -1,12 +1,15 @@
 //! The program's table of types, made of those of the sources.
-ghost use Rattle.std.specs.Prelude.{◌≡◌, ◌≤◌, ◌<◌, ◌^◌, ◌+◌, All, IfOk, OnOk, Some, length, slice_get};
+ghost use Rattle.std.specs.Prelude.{◌≡◌, ◌≤◌, ◌<◌, ◌^◌, ◌+◌, ◌++◌, ◌∷◌, [], All, IfOk, OnOk, Some, false, length, slice_get};
 ghost use Rattle.lk_join.specs.Classes.{AreNumbers};
 ghost use Rattle.lk_join.specs.Completing.{AreCompleted, AreOpen, GivesMembers, HasMembers, HaveSameMembers};
-ghost use Rattle.lk_join.specs.Forms.{ArePutAt, AreRowsOf, HasPointer, IsPutAt, KeepsPointers};
+ghost use Rattle.lk_join.specs.Forms.{ArePutAt, AreRowsOf, HasPointer, KeepsPointers};
+ghost use Rattle.lk_join.specs.Large.{AreAsLargeHere, HaveTypeTables, IsJoining};
 ghost use Rattle.lk_link.specs.Sources.{AreSources};
-ghost use Rattle.lk_types.specs.Building.{IsLonger, IsTable};
-ghost use Rattle.lk_types.specs.Table.{IsKnown, type_at};
+ghost use Rattle.lk_types.specs.Building.{IsForm, IsLonger, IsTable};
+ghost use Rattle.lk_types.specs.Sizes.{form_size, is_over};
+ghost use Rattle.lk_types.specs.Table.{IsKnown};
 
+use crate::completing::is_type_table;
 use crate::forms::Source;
 use crate::numbers::Numbers;
 use lk_base::{NoMemory, Seq};
@@ -21,23 +24,19 @@ pub(crate) struct Types {
     pub(crate) rows: Vec<Seq<TypeId>>,
 }
 
-/// Puts a form to a table. `NoMemory` where it can't be put, which doesn't come: it is a form of a source, and within the
-/// bounds of types there.
+/// Puts a form to a table. `NoMemory` over 32 bits.
 fn put(table: &mut TypeTable, form: CType) -> Result<TypeId, NoMemory>
+    requires form { IsForm table.old form }
+    requires small { is_over (form_size table.old form) ≡ false }
     ensures known { IfOk result (λ t. slice_get table.new.types t ≡ Some form) }
     ensures longer { OnOk result (IsLonger table.old table.new) }
     ensures members { OnOk result (table.new.members ≡ table.old.members) }
 {
-    if !table.is_form(&form) || table.count() == u32::MAX {
+    if table.count() == u32::MAX {
         return Err(NoMemory);
     }
-    match table.form_size(&form) {
-        Some(_) => {
-            let t = table.put(form)?;
-            Ok(t)
-        }
-        None => Err(NoMemory),
-    }
+    let t = table.put(form)?;
+    Ok(t)
 }
 
 /// Begins so many structs in a table. `NoMemory` over 32 bits.
@@ -60,21 +59,25 @@ impl Source<'_> {
     fn put_type(&self, row: &[TypeId], t: TypeId, table: &mut TypeTable) -> Result<TypeId, NoMemory>
         requires known { IsKnown self.now.types.now t }
         requires before { length row.now ≡ t }
-        ensures put { IfOk result
-            (IsPutAt table.new row.now self.now.structs.now (type_at self.now.types.now t)) }
+        requires joining { IsJoining self.now.types.now row.now self.now.structs.now table.old }
+        ensures joining { IfOk result (λ here. IsJoining self.now.types.now (row.now ++ here ∷ [])
+            self.now.structs.now table.new) }
         ensures gives { OnOk result
             (GivesMembers self.now.types.now row.now self.now.structs.now table.old table.new) }
     {
         self.complete_element(row, t, table)?;
         let form = self.form_here(row, self.types.get(t))?;
         let here = put(table, form)?;
+        is_type_table(table);
         Ok(here)
     }
 
     /// Puts the types of the source to the program's. Answers their numbers there.
     fn put_types(&self, table: &mut TypeTable) -> Result<Vec<TypeId>, NoMemory>
-        ensures put { IfOk result (λ row.
-            ArePutAt table.new row.items self.now.structs.now self.now.types.now.types) }
+        requires { IsJoining self.now.types.now [] self.now.structs.now table.old }
+        ensures joining { IfOk result (λ row.
+            IsJoining self.now.types.now row.items self.now.structs.now table.new) }
+        ensures whole { IfOk result (λ row. length row.items ≡ length self.now.types.now.types) }
         ensures gives { IfOk result (λ row.
             GivesMembers self.now.types.now row.items self.now.structs.now table.old table.new) }
     {
@@ -88,6 +91,8 @@ impl Source<'_> {
 
     /// Puts the types of the source to the program's, and completes there what it completes. Answers the types' numbers.
     fn join(&self, table: &mut TypeTable) -> Result<Seq<TypeId>, NoMemory>
+        requires { IsJoining self.now.types.now [] self.now.structs.now table.old }
+        ensures large { OnOk result (AreAsLargeHere self.now.types.now self.now.structs.now table.new) }
         ensures put { IfOk result (λ row.
             ArePutAt table.new row self.now.structs.now self.now.types.now.types) }
         ensures gives { IfOk result (λ row.
@@ -101,7 +106,7 @@ impl Source<'_> {
     }
 }
 
-/// Puts the pointer to a type to a table, where it is within the bounds of types.
+/// Puts the pointer to a type to a table, where it is within the bounds of a table.
 fn put_pointer(t: TypeId, table: &mut TypeTable) -> Result<(), NoMemory>
     requires { IsKnown table.old t }
     ensures put { OnOk result (HasPointer table.new t) }
@@ -118,7 +123,7 @@ fn put_pointer(t: TypeId, table: &mut TypeTable) -> Result<(), NoMemory>
     }
 }
 
-/// Puts the pointers to these types to a table, where they are within the bounds of types.
+/// Puts the pointers to these types to a table, where they are within the bounds of a table.
 fn put_pointers(row: &[TypeId], table: &mut TypeTable) -> Result<(), NoMemory>
     requires { All (IsKnown table.old) row.now }
     ensures put { OnOk result (All (HasPointer table.new) row.now) }
@@ -128,6 +133,15 @@ fn put_pointers(row: &[TypeId], table: &mut TypeTable) -> Result<(), NoMemory>
         put_pointer(*t, table)?;
     }
     Ok(())
+}
+
+/// What holds in each table of types holds in those of the sources.
+fn are_type_tables(units: &[TypedUnit])
+    ensures { HaveTypeTables units.now }
+{
+    for unit in units {
+        is_type_table(&unit.types);
+    }
 }
 
 /// Puts the types of the sources to a table. Answers of each type of each source its number there.
@@ -140,6 +154,8 @@ fn join_rows(
     requires sources { AreSources units.now }
     requires numbers { AreNumbers units.now numbers.now.rows numbers.now.count }
     requires few { numbers.now.count < 2 ^ 32 }
+    requires tables { HaveTypeTables units.now }
+    requires within { numbers.now.count ≤ length table.old.members }
     requires incomplete { AreOpen table.old }
     ensures put { IfOk result (λ rows.
         AreRowsOf units.now numbers.now.rows table.new rows.items (length units.now)) }
@@ -154,13 +170,14 @@ fn join_rows(
             types: &units[number].types,
             structs: structs[number].list(),
         };
+        is_type_table(table);
         let row = source.join(table)?;
         rows.push(row)?;
     }
     Ok(rows)
 }
 
-/// Puts the pointers to the types of all sources to a table, where they are within the bounds of types.
+/// Puts the pointers to the types of all sources to a table, where they are within the bounds of a table.
 fn put_all_pointers(rows: &[Seq<TypeId>], table: &mut TypeTable) -> Result<(), NoMemory>
     requires { All (All (IsKnown table.old)) rows.now }
     ensures put { OnOk result (All (All (HasPointer table.new)) rows.now) }
@@ -192,6 +209,7 @@ pub(crate) fn join_types(
 {
     let mut table = TypeTable::new(alloc)?;
     begin_structs(numbers.count, &mut table)?;
+    are_type_tables(units);
     let rows = join_rows(alloc, units, numbers, &mut table)?;
     put_all_pointers(rows.as_slice(), &mut table)?;
     table.is_table();

@@ -9,6 +9,9 @@ use Rattle.lk_join.proofs.types.join_types.Goals as goal
 pub join_rows-requires-clause-incomplete : goal.join_rows-requires-clause-incomplete
 join_rows-requires-clause-incomplete c = begun_open c.in_ok-table.table c.begin_structs.new.table c.in_ok-table.ensures c.in_ok-begin_structs.ensures.same
 
+pub join_rows-requires-clause-within : goal.join_rows-requires-clause-within
+join_rows-requires-clause-within c = let begun = c.in_ok-begin_structs.ensures.count in omega (arith, begun)
+
 pub put_all_pointers-requires : goal.put_all_pointers-requires
 put_all_pointers-requires c =
     let table = c.join_rows.new.table in
