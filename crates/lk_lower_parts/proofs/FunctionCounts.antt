@@ -140,6 +140,19 @@ firsts_begin : (n : ℕ) (sources : List Linked) → get_or (firsts n sources) 0
 firsts_begin n [] = refl
 firsts_begin n (one ∷ sources) = refl
 
+-- those of the next source stand behind those of a source, and behind the last one is the count
+firsts_next : (sources : List Linked) (n s : ℕ) (linked : Linked) → slice_get sources s ≡ Some linked → get_or (firsts n sources) (suc s) 0 ≡ get_or (firsts n sources) s 0 + length linked.unit.bodies
+firsts_next [] n s linked at = absurd (none-some linked at)
+firsts_next (one ∷ sources) n zero linked at = firsts_begin (n + length one.unit.bodies) sources ∙ ap (λ (l : Linked). n + length l.unit.bodies) (same_Some one linked at)
+firsts_next (one ∷ sources) n (suc s) linked at = firsts_next sources (n + length one.unit.bodies) s linked at
+
+firsts_past : (sources : List Linked) (n : ℕ) → get_or (firsts n sources) (length sources) 0 ≡ n + bodies_of sources
+firsts_past [] n = at_first n
+firsts_past (one ∷ sources) n = firsts_past sources (n + length one.unit.bodies) ∙ regroup (length one.unit.bodies) (bodies_of sources)
+  where
+    regroup : (m k : ℕ) → (n + m) + k ≡ n + (m + k)
+    regroup m k = omega arith
+
 -- the rows of the first sources
 abbrev pub Rows : List Linked → ℕ → List (List ℕ) → Type 0
 Rows sources k rows = (s : ℕ) (linked : Linked) → s < k → slice_get sources s ≡ Some linked →
@@ -214,3 +227,22 @@ all_numbered sources i next first rows found end so_far count_so_far rows_many r
 
     here : (s : ℕ) (linked : Linked) → slice_get sources s ≡ Some linked → s < i
     here s linked at = let h = inside sources s linked at in omega (arith, h, end)
+
+-- ---- what the numbers of functions say
+
+module _ (sources : List Linked) (found : FunctionNumbers) (are : AreFunctionNumbers sources found) where
+  pub none_before : get_or found.first 0 0 ≡ 0
+  none_before = ap (λ all. get_or all 0 0) are.first ∙ firsts_begin 0 sources
+
+  pub next_first : (s : ℕ) (linked : Linked) → slice_get sources s ≡ Some linked → get_or found.first (s + 1) 0 ≡ get_or found.first s 0 + length linked.unit.bodies
+  next_first s linked at = subst (λ (all : List ℕ). get_or all (s + 1) 0 ≡ get_or all s 0 + length linked.unit.bodies) (sym are.first)
+      (ap (λ n. get_or (firsts 0 sources) n 0) (add-one s) ∙ firsts_next sources 0 s linked at)
+
+  pub all_before : (s : ℕ) → s ≡ length sources → get_or found.first s 0 ≡ found.count
+  all_before s past = ap (λ n. get_or found.first n 0) past ∙ (ap (λ all. get_or all (length sources) 0) are.first ∙ (firsts_past sources 0 ∙ (from_zero (bodies_of sources) ∙ sym are.count)))
+    where
+      from_zero : (n : ℕ) → 0 + n ≡ n
+      from_zero n = omega arith
+
+  pub below_count : (s b : ℕ) (linked : Linked) → slice_get sources s ≡ Some linked → b < length linked.unit.bodies → get_or found.first s 0 + b < found.count
+  below_count s b linked at within = subst (λ (all : List ℕ). get_or all s 0 + b < found.count) (sym are.first) (let h = below_all sources 0 s b linked at within in omega (arith, h, are.count))

@@ -6,8 +6,10 @@ use Rattle.std.proofs.lemmas.Bool.{cases_lt}
 use Rattle.std.proofs.lemmas.Option.{none-some, same_Some, slice_get_within, slice_get-get_or}
 use Rattle.lk_facts.specs.declared.root.Root.{Root}
 use Rattle.lk_lower_expr.specs.Programs.{IsBody}
+use Rattle.lk_lower_parts.proofs.FunctionCounts.{next_first}
 use Rattle.lk_lower_parts.proofs.Rooted.{later_before}
 use Rattle.lk_lower_parts.proofs.RootsOf.{at_contained, contains_at}
+use Rattle.lk_lower_parts.specs.FunctionNumbers.{AreFunctionNumbers}
 use Rattle.lk_lower_parts.specs.Gathers.{AddsSource, Gathered, IsBegun, argument_roots, node_of, root_of, slot_nodes, source_in, types_of}
 use Rattle.lk_lower_parts.specs.Tables.{HasMore}
 use Rattle.lk_lower_parts.specs.Wanted.{AreAmong, AreLater, all_roots, slots_in}
@@ -200,6 +202,13 @@ module _ (whole : Whole) (functions : FunctionNumbers) (points : List (List ℕ)
       last same =
           let here = same_linked t linked same is.source in
           subst (λ m. HasSlots m b linked body) (sym same) (subst (λ l. HasSlots s b l body) here (slots_here b body (subst (λ (l : Linked). slice_get l.unit.bodies b ≡ Some body) (sym here) is.at)))
+
+  -- the slots are those of the functions of the sources so far
+  pub slots_behind : AreFunctionNumbers whole.sources functions → length new.slots.items ≡ get_or functions.first (s + 1) 0
+  slots_behind are = length_is ∙ sym (next_first whole.sources functions are s adds.linked adds.source)
+    where
+      length_is : length new.slots.items ≡ get_or functions.first s 0 + length adds.linked.unit.bodies
+      length_is = omega (arith, ap length adds.slots ∙ length-append old.slots.items (map types_of adds.lists), length_map types_of adds.lists, adds.are_slots.as_many, adds.behind)
 
   pub gathered_more : Gathered whole functions points arguments (s + 1) later new
   gathered_more = record {

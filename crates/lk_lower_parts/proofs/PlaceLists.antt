@@ -56,7 +56,7 @@ take_drop zero xs = refl
 take_drop (suc k) [] = refl
 take_drop (suc k) (x ∷ xs) = ap (λ ys. x ∷ ys) (take_drop k xs)
 
-length_take : {X : Type 0} (k : ℕ) (xs : List X) → length (take k xs) ≤ k
+pub length_take : {X : Type 0} (k : ℕ) (xs : List X) → length (take k xs) ≤ k
 length_take zero xs = omega arith
 length_take (suc k) [] = omega arith
 length_take (suc k) (x ∷ xs) = let h = length_take k xs in omega arith

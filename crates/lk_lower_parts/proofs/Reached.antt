@@ -1,5 +1,5 @@
 -- What is within the Start of a type is reached from it by Element and Field, and what stands below a node by its form.
-use Rattle.std.proofs.Common.{ap, sym, subst, ◌∙◌, ◌≡◌, ◌<◌, ◌⊎◌, inl, inr, ℕ, Bool, true, false, List, [], length, slice_get, unwrap_or, Option, Some, None, refl}
+use Rattle.std.proofs.Common.{arith, ap, sym, subst, ◌∙◌, ◌≡◌, ◌<◌, ◌⊎◌, inl, inr, ℕ, Bool, true, false, List, [], length, slice_get, unwrap_or, Option, Some, None, refl}
 use Rattle.std.specs.Prelude.{not, ◌&&◌, if◌then◌else◌}
 use Rattle.std.specs.Option.{option_map}
 use Rattle.std.proofs.lemmas.Bool.{false≢true}
@@ -7,12 +7,15 @@ use Rattle.std.proofs.lemmas.Option.{none-some, same_Some}
 use Rattle.std.proofs.lemmas.Option.{slice_get_within}
 use Rattle.lk_facts.specs.LabelRules.{IsStart, IsWithin, Steps, form_of, is_function, leads_inside}
 use Rattle.lk_facts.specs.LabelRules.IsWithin.{start as within_start, part as within_part}
-use Rattle.lk_lower_parts.specs.Within.{Reaches}
+use Rattle.lk_facts.proofs.Sets.{All-got}
+use Rattle.lk_lower_parts.proofs.FunctionCounts.{at_index}
+use Rattle.lk_lower_parts.specs.Within.{HasLower, HaveLower, Reaches, steps_below}
 use Rattle.lk_lower_parts.specs.Within.Reaches.{itself, by_element, by_field}
 use Rattle.lk_types.proofs.PathLemmas.{equal_nodes_have_equal_ids}
 use Rattle.lk_types.specs.Nodes.{Node, IsNode, node_of, first, step, along, element_of, has_part, is_void_tag}
+use Rattle.lk_types.specs.Sizes.{HasLowerParts, steps_of}
 use Rattle.lk_types.specs.Table.{Table, fields_of, least_of}
-use Rattle.lk_types.specs.Walks.{field}
+use Rattle.lk_types.specs.Walks.{element, field}
 use Rattle.lk_types.specs.declared.c_type.CType.{CType}
 use Rattle.lk_types.specs.declared.c_type.CType.TheVariants.{Void, Int, ThreadId, Mutex, Cond, Pointer, Array, Struct, Function, Opaque}
 use Rattle.lk_types.specs.declared.node.Base.{Base}
@@ -132,3 +135,21 @@ module _ (table : Table) where
   reached_member plain itself = inl refl
   reached_member plain (by_element m l to on) = absurd (no_element m l plain to)
   reached_member plain (by_field m l k isnt to on) = inr (k, l, field_below m l k to, to, on)
+
+  -- ---- below a node lie more steps than below its parts
+
+  pub array_lower : (m : NodeId) (form : CType) (t n : ℕ) → form_of table m ≡ form → form ≡ Array t n → HasLowerParts table (node_of table m).type form → HasLower table m Element
+  array_lower m form t n was array lower =
+      (along (node_of table m) (element t), ap (λ f. option_map (along (node_of table m)) (element_of f)) (was ∙ array), subst (HasLowerParts table (node_of table m).type) array lower)
+
+  pub members_lower : (m : NodeId) (form : CType) (s count : ℕ) → form_of table m ≡ form → form ≡ Struct s → count ≡ length (fields_of table (Struct s)) → HasLowerParts table (node_of table m).type form → HaveLower table m count
+  members_lower m form s count was struct counts lower k within =
+      let at = at_index (fields_of table (Struct s)) k (omega (arith, within, counts)) in (
+        along (node_of table m) (field k at.0),
+        ap (λ f. option_map (along (node_of table m)) (option_map (field k) (slice_get (fields_of table f) k))) (was ∙ struct) ∙ ap (λ o. option_map (along (node_of table m)) (option_map (field k) o)) at.1,
+        All-got (λ u. steps_of table u < steps_below table m) (fields_of table (Struct s)) k at.0 (subst (HasLowerParts table (node_of table m).type) struct lower) at.1,
+      )
+
+  -- the part to which a step leads
+  pub lower_there : (m l : NodeId) (sel : Sel) (to : Node) → Some (node_of table l) ≡ step table (node_of table m) sel → step table (node_of table m) sel ≡ Some to → steps_of table to.type < steps_below table m → steps_below table l < steps_below table m
+  lower_there m l sel to leads is lower = subst (λ (n : Node). steps_of table n.type < steps_below table m) (sym (same_Some (node_of table l) to (leads ∙ is))) lower

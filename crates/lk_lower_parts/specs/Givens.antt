@@ -55,10 +55,10 @@ is_defined given here = is_some (defined_of given.whole.now here)
 pub record HasTables (given : Given) (s : ℕ) (names : SourceNames) : Type 0 where
   pub linked : Linked
   pub at : slice_get given.whole.now.sources s ≡ Some linked
-  pub bases : slice_get given.points.now s ≡ Some names.bases
-  pub by_node : slice_get given.by_node.now s ≡ Some names.by_node
+  pub bases : names.bases ≡ get_or given.points.now s []
+  pub by_node : names.by_node ≡ get_or given.by_node.now s []
   pub types : names.types ≡ linked.types
-  pub pointers : slice_get given.pointers.now s ≡ Some names.pointers
+  pub pointers : names.pointers ≡ get_or given.pointers.now s []
   pub objects : names.objects ≡ map (object_here given) linked.entities
   pub functions : names.functions ≡ map (function_here given) linked.entities
   pub defined : names.defined ≡ map (is_defined given) linked.entities

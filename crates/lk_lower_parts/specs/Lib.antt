@@ -11,4 +11,5 @@ pub mod Sources
 pub mod Tables
 pub mod TextOrder
 pub mod Wanted
+pub mod Wholes
 pub mod Within

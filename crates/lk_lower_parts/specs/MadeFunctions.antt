@@ -5,6 +5,8 @@ use Rattle.lk_facts.specs.declared.root.Holder.{Holder}
 use Rattle.lk_facts.specs.declared.root.Holder.TheVariants as holder
 use Rattle.lk_lower_expr.specs.Lowering.{declaration_of}
 use Rattle.lk_lower_expr.specs.Programs.{IsBody}
+use Rattle.lk_lower_parts.specs.FunctionNumbers.{AreFunctionNumbers}
+use Rattle.lk_lower_parts.specs.Wholes.{IsWhole}
 use Rattle.lk_lower_parts.specs.declared.names.Given.{Given}
 use Rattle.lk_typed.specs.declared.entity.Declaration.{Declaration}
 use Rattle.lk_typed.specs.declared.entity.Entity.{Entity}
@@ -61,11 +63,18 @@ module _ (whole : Whole) (s : ℕ) (linked : Linked) (points by_node : List ℕ)
   AddsMade body function old new = (is : Function) × (new ≡ old ++ (is ∷ [])) × (types : List ℕ) × (slice_get slots function ≡ Some types) × IsMade whole s linked body function points by_node types is
 
 module _ (given : Given) (slots : List (List ℕ)) where
+  -- each function of the program has its number, and types of slots
+  pub record HaveSlots : Type 0 where
+    pub whole : IsWhole given.whole.now
+    pub numbers : AreFunctionNumbers given.whole.now.sources given.functions.now
+    pub as_many : length slots ≡ given.functions.now.count
+
   -- the functions of the source `s` are put behind those of the sources before it
   pub record AddsFunctions (s : ℕ) (old new : List Function) : Type 0 where
     pub linked : Linked
     pub source : slice_get given.whole.now.sources s ≡ Some linked
     pub behind : length old ≡ get_or given.functions.now.first s 0
+    pub as_many : length new ≡ length old + length linked.unit.bodies
     pub kept : (n : ℕ) (is : Function) → slice_get old n ≡ Some is → slice_get new n ≡ Some is
     pub each : (b : ℕ) (body : Body) → slice_get linked.unit.bodies b ≡ Some body →
         StandsMade given.whole.now s linked (get_or given.points.now s []) (get_or given.by_node.now s []) slots body (length old + b) new

@@ -1,5 +1,5 @@
 -- The cells of the roots, as far as they are found. Only the private calls of this crate speak of them.
-use Rattle.std.specs.Prelude.{◌≡◌, ◌<◌, ◌≤◌, ◌+◌, ◌⊎◌, ℕ, Bool, true, false, List, Some, Contains, length, slice_get}
+use Rattle.std.specs.Prelude.{◌≡◌, ◌<◌, ◌≤◌, ◌+◌, ◌⊎◌, ℕ, All, Bool, true, false, List, Some, Contains, length, slice_get}
 use Rattle.lk_facts.specs.LabelRules.{IsWithin, Steps, form_of, is_function}
 use Rattle.lk_facts.specs.declared.place.Place.{Place}
 use Rattle.lk_facts.specs.declared.root.Root.{Root}
@@ -9,6 +9,8 @@ use Rattle.lk_lower_parts.specs.TextOrder.{Ascend}
 use Rattle.lk_lower_parts.specs.declared.places.Cells.{Cells}
 use Rattle.lk_lower_parts.specs.declared.places.PartOf.{PartOf}
 use Rattle.lk_types.specs.Objects.{is_mutex, is_value}
+use Rattle.lk_types.specs.Nodes.{Node, node_of, step}
+use Rattle.lk_types.specs.Sizes.{steps_of}
 use Rattle.lk_types.specs.Table.{Table}
 use Rattle.lk_types.specs.declared.c_type.CType.{CType}
 use Rattle.lk_types.specs.declared.node.NodeId.{NodeId}
@@ -38,7 +40,23 @@ HasRoot order r = (file line col : ℕ) × Contains order (file, line, col, r)
 abbrev pub HaveRoots : List (ℕ × ℕ × ℕ × ℕ) → ℕ → Type 0
 HaveRoots order count = (r : ℕ) → r < count → HasRoot order r
 
+-- and no others
+abbrev pub AreRoots : List (ℕ × ℕ × ℕ × ℕ) → ℕ → Type 0
+AreRoots order count = All (λ one. one.3 < count) order
+
 module _ (table : Table) where
+  -- how many steps at most lie below a node
+  abbrev pub steps_below : NodeId → ℕ
+  steps_below n = steps_of table (node_of table n).type
+
+  -- the step leads to a part, below which lie fewer steps
+  abbrev pub HasLower : NodeId → Sel → Type 0
+  HasLower m sel = (to : Node) × (step table (node_of table m) sel ≡ Some to) × (steps_of table to.type < steps_below m)
+
+  -- each of so many members is such a part
+  abbrev pub HaveLower : NodeId → ℕ → Type 0
+  HaveLower m count = (k : ℕ) → k < count → HasLower m (Field k)
+
   -- from the node m the node n is reached by Element and Field
   pub data Reaches (n : NodeId) : NodeId → Type 0 where
     itself : Reaches n n

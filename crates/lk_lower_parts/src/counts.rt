@@ -1,10 +1,11 @@
 //! The numbers of the program's functions, and the declarations and definitions of entities.
-ghost use Rattle.std.specs.Prelude.{◌≡◌, ◌<◌, ◌+◌, IfOk, OnOk, length, set};
+ghost use Rattle.std.specs.Prelude.{◌≡◌, ◌<◌, ◌+◌, IfOk, Some, length, set, slice_get};
 ghost use Rattle.std.specs.List.{find};
 ghost use Rattle.std.specs.Option.{option_copied};
 ghost use Rattle.lk_lower_expr.specs.Lowering as lowering;
 ghost use Rattle.lk_lower_parts.specs.FunctionNumbers.{AreFunctionNumbers, AreOfEntities};
 ghost use Rattle.lk_lower_parts.specs.Sources.{defined_by, defined_of};
+ghost use Rattle.lk_lower_parts.specs.Wholes.{HaveEntities, IsDeclaredHere, IsWhole};
 
 use lk_base::{NoMemory, Seq};
 use lk_typed::{Declaration, Defines, Entity, Linked, Whole};
@@ -40,22 +41,18 @@ pub(crate) fn behind(next: u32, count: u32) -> Result<u32, NoMemory>
     next.checked_add(count).ok_or(NoMemory)
 }
 
-/// Gives an entity its function. Each body is that of an entity.
-fn give(row: &mut Vec<u32>, entity: u32, function: u32) -> Result<(), NoMemory>
-    ensures given { OnOk result (row.new.items ≡ set row.old.items entity function) }
-    ensures inside { OnOk result (entity < length row.old.items) }
+/// Gives an entity its function.
+fn give(row: &mut Vec<u32>, entity: u32, function: u32)
+    requires { entity < length row.old.items }
+    ensures { row.new.items ≡ set row.old.items entity function }
 {
-    let e = entity as usize;
-    if e >= row.len() {
-        return Err(NoMemory);
-    }
-    row[e] = function;
-    Ok(())
+    row[entity as usize] = function;
 }
 
 /// The functions of the entities of a source, where that of its first body has a number. Of several bodies of an entity
 /// the first counts, which is given last.
 fn of_source(alloc: Global, linked: &Linked, first: u32) -> Result<Seq<u32>, NoMemory>
+    requires { HaveEntities linked.now }
     ensures { IfOk result (AreOfEntities first (first + length linked.now.unit.bodies)
         linked.now.unit.bodies) }
 {
@@ -65,13 +62,14 @@ fn of_source(alloc: Global, linked: &Linked, first: u32) -> Result<Seq<u32>, NoM
     for k in 0..bodies.len() {
         let b = bodies.len() - 1 - k;
         let function = behind(first, count_of(b)?)?;
-        give(&mut row, bodies[b].entity, function)?;
+        give(&mut row, bodies[b].entity, function);
     }
     Ok(Seq::new(row))
 }
 
 /// The numbers of the program's functions.
 pub fn number_functions(alloc: Global, whole: &Whole) -> Result<FunctionNumbers, NoMemory>
+    requires { IsWhole whole.now }
     ensures { IfOk result (AreFunctionNumbers whole.now.sources) }
 {
     let mut first = Vec::new(alloc);
@@ -145,6 +143,20 @@ pub fn declaration_of(entity: &Entity) -> Option<&Declaration>
     match (whole_among(list), tentative_among(list)) {
         (Some(declaration), _) | (None, Some(declaration)) => Some(declaration),
         (None, None) => list.first(),
+    }
+}
+
+/// The entity of a source, with its declaration that counts.
+pub(crate) fn declared_at(linked: &Linked, e: u32) -> (&Entity, &Declaration)
+    requires { IsDeclaredHere linked.now e }
+    ensures at { slice_get linked.now.unit.entities e ≡ Some result.0.now }
+    ensures by { lowering.declaration_of result.0.now ≡ Some result.1.now }
+{
+    let entities = linked.unit.entities.list();
+    let entity = &entities[e as usize];
+    match declaration_of(entity) {
+        Some(by) => (entity, by),
+        None => unreachable!(),
     }
 }
 

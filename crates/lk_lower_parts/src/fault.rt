@@ -4,7 +4,7 @@ use lk_base::NoMemory;
 use std::alloc::AllocFailed;
 
 /// Why a program gets no points.
-#[derive(Clone, Copy, Debug, PartialEq, Eq)]
+#[derive(Clone, Copy, PartialEq, Eq)]
 pub enum LowerFault {
     /// It would have more than 65,536 points.
     TooManyPoints,

@@ -1,16 +1,15 @@
 //! The functions of the program.
-ghost use Rattle.std.specs.Prelude.{◌≡◌, ◌+◌, Some, IfOk, OnOk, get_or, length, map, slice_get, take};
-ghost use Rattle.lk_lower_expr.specs.Lowering as lowering;
-ghost use Rattle.lk_lower_parts.specs.MadeFunctions.{AddsFunctions, AddsMade, AreMade, GivesType, IsMade, IsOwn, holder_in, holder_with};
+ghost use Rattle.std.specs.Prelude.{◌≡◌, ◌<◌, ◌+◌, Some, IfOk, OnOk, get_or, length, map, slice_get, take};
+ghost use Rattle.lk_lower_parts.specs.MadeFunctions.{AddsFunctions, AddsMade, AreMade, GivesType, HaveSlots, IsMade, IsOwn, holder_in, holder_with};
+ghost use Rattle.lk_lower_parts.specs.Wholes.{IsEntityOf, IsKeptHere};
+ghost use Rattle.lk_types.specs.Table.{IsKnown};
 
-use crate::counts::{behind, count_of, declaration_of};
-use crate::names::Given;
+use crate::counts::{behind, count_of, declared_at};
+use crate::names::{Given, number_at};
 use crate::roots::row_of;
-use crate::start::{first_of, source_of};
-use crate::types::form;
 use lk_base::{NoMemory, Seq};
 use lk_facts::{Function, Holder};
-use lk_typed::{Body, Declaration, Entity, Linked, Local, Whole, WholeEntity};
+use lk_typed::{Body, Linked, Local, Whole, WholeEntity};
 use lk_types::{CType, TypeId, TypeTable};
 use std::alloc::Global;
 
@@ -27,9 +26,10 @@ fn holder(local: &Local, function: u32, number: u32) -> Holder
 
 /// The type of the result of a function. Each body is that of a function.
 fn result_of(types: &TypeTable, t: TypeId) -> Result<TypeId, NoMemory>
+    requires { IsKnown types.now t }
     ensures { IfOk result (GivesType types.now t) }
 {
-    match form(types, t)? {
+    match types.get(t) {
         CType::Function { result, .. } => Ok(*result),
         CType::Void
         | CType::Int(_)
@@ -43,21 +43,11 @@ fn result_of(types: &TypeTable, t: TypeId) -> Result<TypeId, NoMemory>
     }
 }
 
-/// What stands at a place in a list. Each node that is asked for has its number there.
-fn at(list: &[u32], place: u32) -> Result<u32, NoMemory>
-    ensures { IfOk result (λ number. number ≡ get_or list.now place 0) }
-{
-    match list.get(place as usize) {
-        Some(number) => Ok(*number),
-        None => Err(NoMemory),
-    }
-}
-
 /// The point that is a step of a node.
 fn point(points: &[u32], node: u32, step: u32) -> Result<u32, NoMemory>
     ensures { IfOk result (λ point. point ≡ get_or points.now node 0 + step) }
 {
-    behind(at(points, node)?, step)
+    behind(number_at(points, node), step)
 }
 
 /// The parameters of a body, which are the first of its locals.
@@ -70,41 +60,6 @@ fn parameters_of(body: &Body) -> &[Local]
         &locals[..count]
     } else {
         locals
-    }
-}
-
-/// The entity of a source. Each entity that is asked for is there.
-fn entity_at(linked: &Linked, e: u32) -> Result<&Entity, NoMemory>
-    ensures { IfOk result (λ entity. slice_get linked.now.unit.entities e ≡ Some entity.now) }
-{
-    linked.unit.entities.get(e as usize).ok_or(NoMemory)
-}
-
-/// The program's entity of an entity of a source. Each entity has one.
-fn entity_here<'a>(
-    whole: &'a Whole,
-    linked: &Linked,
-    e: u32,
-) -> Result<(u32, &'a WholeEntity), NoMemory>
-    ensures numbered { IfOk result (λ here. slice_get linked.now.entities e ≡ Some here.0) }
-    ensures is { IfOk result (λ here. slice_get whole.now.entities here.0 ≡ Some here.1.now) }
-{
-    let Some(number) = linked.entities.get(e as usize) else {
-        return Err(NoMemory);
-    };
-    match whole.entities.get(*number as usize) {
-        Some(here) => Ok((*number, here)),
-        None => Err(NoMemory),
-    }
-}
-
-/// The declaration that counts. Each entity with a body has one.
-fn counted(entity: &Entity) -> Result<&Declaration, NoMemory>
-    ensures { IfOk result (λ by. lowering.declaration_of entity.now ≡ Some by.now) }
-{
-    match declaration_of(entity) {
-        Some(by) => Ok(by),
-        None => Err(NoMemory),
     }
 }
 
@@ -130,34 +85,36 @@ impl Made<'_> {
     {
         let mut parameters = Vec::new(alloc);
         for local in parameters_of(self.body) {
-            let number = at(self.by_node, local.ordinal)?;
+            let number = number_at(self.by_node, local.ordinal);
             parameters.push(holder(local, self.number, number))?;
         }
         Ok(Seq::new(parameters))
     }
 
-    /// The program's entity of its own. No two sources define an entity, and no source has two bodies of one.
-    fn own<'w>(&self, whole: &'w Whole) -> Result<&'w WholeEntity, NoMemory>
-        ensures { IfOk result (λ here. IsOwn whole.now self.now.linked.now self.now.source
-            self.now.body.now.entity here.now) }
+    /// The program's entity of its own.
+    fn own<'w>(&self, whole: &'w Whole) -> &'w WholeEntity
+        requires { IsKeptHere whole.now self.now.source self.now.linked.now self.now.body.now.entity }
+        ensures own { IsOwn whole.now self.now.linked.now self.now.source
+            self.now.body.now.entity result.now }
+        ensures known { IsKnown whole.now.types result.now.ty }
     {
-        let (_, here) = entity_here(whole, self.linked, self.body.entity)?;
-        match here.defined {
-            Some((source, e)) if source == self.source && e == self.body.entity => Ok(here),
-            Some(_) | None => Err(NoMemory),
-        }
+        let numbers = self.linked.entities.list();
+        let entities = whole.entities.list();
+        let number = numbers[self.body.entity as usize];
+        &entities[number as usize]
     }
 
     /// The function, of which the slots have these types. It has no site yet.
     fn function(&self, given: &Given<'_>, slots: Seq<TypeId>) -> Result<Function, NoMemory>
+        requires { IsEntityOf given.now.whole.now self.now.source self.now.linked.now
+            self.now.body.now.entity }
         ensures { IfOk result (IsMade given.now.whole.now self.now.source self.now.linked.now
             self.now.body.now self.now.number self.now.points.now self.now.by_node.now slots) }
     {
-        let here = self.own(given.whole)?;
+        let here = self.own(given.whole);
         let result = result_of(&given.whole.types, here.ty)?;
-        let entity = entity_at(self.linked, self.body.entity)?;
-        let by = counted(entity)?;
-        let root = at(self.by_node, by.ordinal)?;
+        let (entity, by) = declared_at(self.linked, self.body.entity);
+        let root = number_at(self.by_node, by.ordinal);
         let entry = point(self.points, self.body.ordinal, 0)?;
         let exit = point(self.points, self.body.ordinal, 2)?;
         let parameters = self.parameters(given.alloc)?;
@@ -181,6 +138,9 @@ impl Made<'_> {
         slots: &[Seq<TypeId>],
         functions: &mut Vec<Function>,
     ) -> Result<(), NoMemory>
+        requires entity { IsEntityOf given.now.whole.now self.now.source self.now.linked.now
+            self.now.body.now.entity }
+        requires slots { self.now.number < length slots.now }
         ensures { OnOk result (AddsMade given.now.whole.now self.now.source self.now.linked.now
             self.now.points.now self.now.by_node.now slots.now self.now.body.now self.now.number
             functions.old.items functions.new.items) }
@@ -192,43 +152,33 @@ impl Made<'_> {
     }
 }
 
-/// The types of the slots of a function, once more. Each function has such a list.
+/// The types of the slots of a function, once more.
 fn types_of(alloc: Global, slots: &[Seq<TypeId>], function: u32) -> Result<Seq<TypeId>, NoMemory>
+    requires { function < length slots.now }
     ensures { IfOk result (λ types. slice_get slots.now function ≡ Some types) }
 {
-    match slots.get(function as usize) {
-        Some(types) => Ok(Seq::new(Vec::from_slice(alloc, types.list())?)),
-        None => Err(NoMemory),
-    }
-}
-
-/// That there are so many functions: those of a source stand behind those of the sources before it, and all are counted.
-fn are_so_many(functions: &Vec<Function>, count: u32) -> Result<(), NoMemory>
-    ensures { OnOk result (length functions.now.items ≡ count) }
-{
-    if functions.len() == count as usize {
-        Ok(())
-    } else {
-        Err(NoMemory)
-    }
+    let types = &slots[function as usize];
+    Ok(Seq::new(Vec::from_slice(alloc, types.list())?))
 }
 
 impl Given<'_> {
-    /// Adds the functions of a source, of which the slots are among those of all functions.
+    /// Adds the functions of a source, of which the slots are among those of all functions, behind those of the sources
+    /// before it.
     fn push_functions(
         &self,
         source: u32,
         slots: &[Seq<TypeId>],
         functions: &mut Vec<Function>,
     ) -> Result<(), NoMemory>
+        requires slots { HaveSlots self.now slots.now }
+        requires within { source < length self.now.whole.now.sources }
+        requires behind { length functions.old.items ≡ get_or self.now.functions.now.first source 0 }
         ensures { OnOk result (AddsFunctions self.now slots.now source
             functions.old.items functions.new.items) }
     {
-        let linked = source_of(self.whole, source)?;
-        let first = first_of(self.functions, source)?;
-        are_so_many(functions, first)?;
-        let points = row_of(self.points, source)?;
-        let by_node = row_of(self.by_node, source)?;
+        let linked = self.linked(source as usize);
+        let points = row_of(self.points, source as usize);
+        let by_node = row_of(self.by_node, source as usize);
         for body in linked.unit.bodies.list() {
             let made = Made {
                 linked,
@@ -245,13 +195,13 @@ impl Given<'_> {
 
     /// The functions of the program, of which the slots have these types. None has a site yet.
     pub fn all_functions(&self, slots: &[Seq<TypeId>]) -> Result<Vec<Function>, NoMemory>
+        requires { HaveSlots self.now slots.now }
         ensures { IfOk result (λ functions. AreMade self.now slots.now functions.items) }
     {
         let mut functions = Vec::new(self.alloc);
         for source in 0..count_of(self.whole.sources.len())? {
             self.push_functions(source, slots, &mut functions)?;
         }
-        are_so_many(&functions, self.functions.count)?;
         Ok(functions)
     }
 }

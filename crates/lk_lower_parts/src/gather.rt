@@ -1,6 +1,7 @@
 //! What the nodes of all sources have of their own, with its numbers.
-ghost use Rattle.std.specs.Prelude.{◌≡◌, IfOk, OnOk, length};
-ghost use Rattle.lk_lower_parts.specs.Gathers.{AddsSource, AreNumbered, AreTheirTypes, count_arguments};
+ghost use Rattle.std.specs.Prelude.{◌≡◌, ◌<◌, IfOk, OnOk, get_or, length};
+ghost use Rattle.lk_lower_parts.specs.FunctionNumbers.{AreFunctionNumbers};
+ghost use Rattle.lk_lower_parts.specs.Gathers.{AddsSource, AreNumbered, AreTheirTypes, HaveKnownTypes, count_arguments};
 ghost use Rattle.lk_lower_parts.specs.Tables.{HasMore};
 
 use crate::counts::{FunctionNumbers, count_of};
@@ -33,18 +34,8 @@ fn count_arguments(main: Main) -> usize
     if main.has_parameters { 2 } else { 0 }
 }
 
-/// That the functions before a source are those of which there are slots. They are numbered in the order of the sources.
-fn stand_behind(gathering: &Gathering, first: u32) -> Result<(), NoMemory>
-    ensures { OnOk result (length gathering.now.slots.items ≡ first) }
-{
-    if gathering.slots.len() == first as usize {
-        Ok(())
-    } else {
-        Err(NoMemory)
-    }
-}
-
-/// Adds the roots and slots of a source. Types that roots need are put to `types`.
+/// Adds the roots and slots of a source: those of its functions behind those of the functions before them. Types that
+/// roots need are put to `types`.
 fn gather_source(
     alloc: Global,
     whole: &Whole,
@@ -54,12 +45,13 @@ fn gather_source(
     types: &mut TypeTable,
     gathering: &mut Gathering,
 ) -> Result<(), NoMemory>
+    requires within { source < length whole.now.sources }
+    requires behind { length gathering.old.slots.items ≡ get_or functions.now.first source 0 }
     ensures added { OnOk result (AddsSource whole.now functions.now points.now source types.new
         gathering.old gathering.new) }
     ensures more { OnOk result (HasMore types.old types.new) }
 {
-    let at = source_at(alloc, whole, source, functions, points)?;
-    stand_behind(gathering, at.first)?;
+    let at = source_at(alloc, whole, source, functions, points);
     let parts = at.parts(types)?;
     gathering.number(alloc, source, parts)
 }
@@ -75,8 +67,11 @@ pub fn number_roots_and_slots(
     points: &[Seq<u32>],
     types: &mut TypeTable,
 ) -> Result<Numbered, NoMemory>
+    requires { AreFunctionNumbers whole.now.sources functions.now }
     ensures numbered { IfOk result
         (AreNumbered whole.now functions.now main points.now types.new) }
+    ensures slots { IfOk result (λ found. length found.slots.items ≡ functions.now.count) }
+    ensures typed { IfOk result (λ found. HaveKnownTypes (length types.new.types) found.roots.items) }
     ensures more { OnOk result (HasMore types.old types.new) }
 {
     let arguments = arguments(main, types)?;

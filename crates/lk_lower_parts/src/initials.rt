@@ -1,11 +1,12 @@
 //! What objects of static storage begin with.
 
-ghost use Rattle.std.specs.Prelude.{◌≡◌, ◌++◌, IfOk, OnOk};
+ghost use Rattle.std.specs.Prelude.{◌≡◌, ◌<◌, ◌++◌, IfOk, OnOk, length};
 ghost use Rattle.lk_facts.specs.declared.initial.InitialValue.TheVariants as begins;
 ghost use Rattle.lk_lower_parts.specs.Givens.{AddsSource, AreInitials, initial_by, object_by, value_by};
 
 use crate::counts::definition_of;
 use crate::names::{Given, number_at};
+use crate::roots::row_of;
 use lk_base::{CellStep, NoMemory, Seq};
 use lk_facts::{Initial, InitialValue};
 use lk_typed::{Linked, StaticObject, StaticPart, StaticValue};
@@ -95,10 +96,11 @@ impl Given<'_> {
 
     /// Adds what the objects of a source begin with.
     fn push_objects(&self, source: usize, out: &mut Vec<Initial>) -> Result<(), NoMemory>
+        requires { source < length self.now.whole.now.sources }
         ensures { OnOk result (AddsSource self.now source out.old.items out.new.items) }
     {
-        let linked = self.linked(source)?;
-        let by_node = self.by_node.get(source).ok_or(NoMemory)?.list();
+        let linked = self.linked(source);
+        let by_node = row_of(self.by_node, source);
         for object in linked.unit.objects.list() {
             self.push_object(linked, by_node, object, out)?;
         }

@@ -1,9 +1,11 @@
 //! What the numbers of a source stand for in the program.
-ghost use Rattle.std.specs.Prelude.{◌≡◌, ◌<◌, ◌^◌, All, IfOk, get_or, map, slice_get, Some};
+ghost use Rattle.std.specs.Prelude.{◌≡◌, ◌<◌, ◌^◌, [], All, IfOk, get_or, length, map, slice_get, Some};
 ghost use Rattle.lk_lower_expr.specs.Naming.{AreFew};
 ghost use Rattle.lk_lower_parts.specs.Givens.{HasTables, at_node, behind_source, function_by, function_here, function_in, is_defined, object_here, root_by, root_in};
 
 use crate::counts::{FunctionNumbers, declaration_of, definition_here};
+use crate::roots::row_of;
+use crate::start::{first_of, source_of};
 use lk_base::{NoMemory, Seq};
 use lk_lower_expr::SourceNames;
 use lk_typed::{Linked, Whole};
@@ -39,7 +41,7 @@ fn copied_types(alloc: Global, list: &[TypeId]) -> Result<Seq<TypeId>, NoMemory>
 }
 
 /// What stands at a place in a list; another number past its end.
-fn number_or(list: &[u32], place: usize, other: u32) -> u32
+pub(crate) fn number_or(list: &[u32], place: usize, other: u32) -> u32
     ensures { result ≡ get_or list.now place other }
 {
     match list.get(place) {
@@ -55,27 +57,20 @@ pub(crate) fn number_at(by_node: &[u32], node: u32) -> u32
     number_or(by_node, node as usize, 0)
 }
 
-/// The first points of the nodes of a source. None has a number from 2 ^ 31 on, since no program has more than 65,536
-/// points.
-fn few(alloc: Global, points: &[u32]) -> Result<Seq<u32>, NoMemory>
-    ensures { IfOk result (λ few. few ≡ points.now × All (λ base. base < 2 ^ 31) few) }
-{
-    let mut few = Vec::new(alloc);
-    for point in points {
-        if *point >= 1 << 31 {
-            return Err(NoMemory);
-        }
-        few.push(*point)?;
-    }
-    Ok(Seq::new(few))
-}
-
 impl<'a> Given<'a> {
     /// The source of this place.
-    pub(crate) fn linked(&self, source: usize) -> Result<&'a Linked, NoMemory>
-        ensures { IfOk result (λ linked. slice_get self.now.whole.now.sources source ≡ Some linked.now) }
+    pub fn linked(&self, source: usize) -> &'a Linked
+        requires { source < length self.now.whole.now.sources }
+        ensures { slice_get self.now.whole.now.sources source ≡ Some result.now }
     {
-        self.whole.sources.get(source).ok_or(NoMemory)
+        source_of(self.whole, source)
+    }
+
+    /// The number of the function of the first body of a source; 0 past the last one.
+    pub fn first(&self, source: usize) -> u32
+        ensures { result ≡ get_or self.now.functions.now.first source 0 }
+    {
+        first_of(self.functions, source)
     }
 
     /// The root of a declared node of a source; 0 past the last one.
@@ -175,20 +170,29 @@ impl<'a> Given<'a> {
         Ok(Seq::new(defined))
     }
 
+    /// The pointers to the types of a source; none past the last one.
+    fn pointers_to(&self, source: usize) -> &'a [TypeId]
+        ensures { result.now ≡ get_or self.now.pointers.now source [] }
+    {
+        match self.pointers.get(source) {
+            Some(row) => row.list(),
+            None => &[],
+        }
+    }
+
     /// What the numbers of the source of this place stand for.
     pub fn names(&self, source: usize) -> Result<SourceNames, NoMemory>
+        requires within { source < length self.now.whole.now.sources }
+        requires small { All (λ base. base < 2 ^ 31) (get_or self.now.points.now source []) }
         ensures few { IfOk result AreFew }
         ensures tables { IfOk result (HasTables self.now source) }
     {
-        let linked = self.linked(source)?;
-        let points = self.points.get(source).ok_or(NoMemory)?.list();
-        let by_node = self.by_node.get(source).ok_or(NoMemory)?.list();
-        let pointers = self.pointers.get(source).ok_or(NoMemory)?.list();
+        let linked = self.linked(source);
         Ok(SourceNames {
-            bases: few(self.alloc, points)?,
-            by_node: copied(self.alloc, by_node)?,
+            bases: copied(self.alloc, row_of(self.points, source))?,
+            by_node: copied(self.alloc, row_of(self.by_node, source))?,
             types: copied_types(self.alloc, linked.types.list())?,
-            pointers: copied_types(self.alloc, pointers)?,
+            pointers: copied_types(self.alloc, self.pointers_to(source))?,
             objects: self.objects(linked)?,
             functions: self.functions(linked)?,
             defined: self.defined(linked)?,

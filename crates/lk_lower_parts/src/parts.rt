@@ -1,5 +1,5 @@
 //! The Parts of `void`.
-ghost use Rattle.std.specs.Prelude.{◌≡◌, IfOk, OnOk};
+ghost use Rattle.std.specs.Prelude.{◌≡◌, IfOk, OnOk, length};
 ghost use Rattle.lk_lower_parts.specs.Parts as spec;
 ghost use Rattle.lk_lower_parts.specs.Parts.{AreMarkedParts, AreVoidPartsOf, IsWith, by_conversion, given_of, is_void_type, target_of};
 ghost use Rattle.lk_types.specs.Table.{least_of};
@@ -120,7 +120,9 @@ fn push_part(
     seen: &mut Vec<bool>,
     parts: &mut Vec<TypeId>,
 ) -> Result<(), NoMemory>
-    requires { AreMarkedParts seen.old.items parts.old.items }
+    requires long { length seen.old.items ≡ length types.now.types }
+    requires marked { AreMarkedParts seen.old.items parts.old.items }
+    ensures long { OnOk result (length seen.new.items ≡ length types.now.types) }
     ensures marked { OnOk result (AreMarkedParts seen.new.items parts.new.items) }
     ensures with { OnOk result (IsWith (least_of types.now t) parts.old.items parts.new.items) }
 {
@@ -128,9 +130,6 @@ fn push_part(
         return Err(NoMemory);
     }
     let least = types.least_alike(t);
-    if least.index() >= seen.len() {
-        return Err(NoMemory);
-    }
     if !seen[least.index()] {
         seen[least.index()] = true;
         parts.push(least)?;

@@ -1,9 +1,10 @@
 //! The locations and lock places of the program.
-ghost use Rattle.std.specs.Prelude.{◌≡◌, ◌≢◌, ◌↔◌, ◌<◌, ◌≤◌, ◌++◌, ◌∷◌, [], All, Err, IfOk, IsTrue, OnOk, Some, length, slice_get};
+ghost use Rattle.std.specs.Prelude.{◌≡◌, ◌≢◌, ◌↔◌, ◌<◌, ◌≤◌, ◌+◌, ◌++◌, ◌∷◌, [], All, Err, IfOk, IsTrue, OnOk, length};
 ghost use Rattle.lk_facts.specs.Places.{AreDifferent, IsMissing};
 ghost use Rattle.lk_facts.specs.Program.{place_of};
 ghost use Rattle.lk_lower_parts.specs.Cells.{ArePlacesOf, HasMorePlacesOf, IsPlaceIn};
-ghost use Rattle.lk_lower_parts.specs.Within.{AddsCells, AreCells, AreInOrder, HaveRoots, IsInInner, IsInMembers, IsInObject, IsInPart, IsInRoot, count_of_cells, has_cells};
+ghost use Rattle.lk_lower_parts.specs.Gathers.{HaveKnownTypes};
+ghost use Rattle.lk_lower_parts.specs.Within.{AddsCells, AreCells, AreInOrder, AreRoots, HasLower, HaveLower, HaveRoots, IsInInner, IsInMembers, IsInObject, IsInPart, IsInRoot, count_of_cells, has_cells};
 ghost use Rattle.lk_lower_parts.specs.declared.fault.LowerFault.TheVariants.{TooManyPlaces, TooManyPoints};
 ghost use Rattle.lk_types.specs.Nodes.{IsNode, IsSel};
 ghost use Rattle.lk_types.specs.Table.{fields_of};
@@ -12,7 +13,7 @@ ghost use Rattle.lk_types.specs.declared.c_type.CType.TheVariants.{Struct};
 use crate::counts::{behind, count_of};
 use crate::fault::LowerFault;
 use crate::text::are_in_order;
-use lk_base::{MOST_LABELS, MOST_TYPE_STEPS, NoMemory, Spot};
+use lk_base::{MOST_LABELS, NoMemory, Spot};
 use lk_facts::{Place, Places, Root, RootKind};
 use lk_types::{CType, NodeId, Sel, TypeTable};
 use std::alloc::Global;
@@ -48,8 +49,6 @@ struct PartOf {
     root: u32,
     /// The node that the part is in the root's type.
     node: NodeId,
-    /// How many parts at most lie inside one another from here on.
-    left: u32,
 }
 
 /// Adds the place of a part.
@@ -93,26 +92,23 @@ impl Cells {
         push_place(part, &mut self.locks)
     }
 
-    /// Adds the cells of the part to which a step leads. No type has more parts inside one another than its steps.
+    /// Adds the cells of the part to which a step leads.
     #[cycle(adds)]
     fn push_inner(&mut self, types: &TypeTable, part: &PartOf, sel: Sel) -> Result<(), NoMemory>
         requires node { IsNode types.now part.now.node }
         requires sel { IsSel types.now sel }
+        requires lower { HasLower types.now part.now.node sel }
         ensures { OnOk result (AddsCells types.now (IsInInner types.now part.now sel) self.old self.new) }
     {
-        if part.left == 0 {
-            return Err(NoMemory);
-        }
         match types.step_node(part.node, sel) {
             Some(NodeId { base, number }) => {
                 let inner = PartOf {
                     root: part.root,
                     node: NodeId { base, number },
-                    left: part.left - 1,
                 };
                 self.push(types, &inner)
             }
-            None => Err(NoMemory),
+            None => unreachable!(),
         }
     }
 
@@ -120,6 +116,7 @@ impl Cells {
     #[cycle(adds)]
     fn push_members(&mut self, types: &TypeTable, part: &PartOf, count: u32) -> Result<(), NoMemory>
         requires node { IsNode types.now part.now.node }
+        requires lower { HaveLower types.now part.now.node count }
         ensures { OnOk result
             (AddsCells types.now (IsInMembers types.now part.now count) self.old self.new) }
     {
@@ -148,13 +145,11 @@ impl Cells {
     }
 }
 
-/// How many members a struct has. Each that is asked for is in the table.
+/// How many members a struct has.
 fn count_members(types: &TypeTable, s: u32) -> Result<u32, NoMemory>
+    requires { s < length types.now.members }
     ensures { IfOk result (λ count. count ≡ length (fields_of types.now (Struct s))) }
 {
-    if s >= types.structs() {
-        return Err(NoMemory);
-    }
     count_of(types.members(s).len())
 }
 
@@ -163,7 +158,8 @@ type InText = (u32, u32, u32, u32);
 
 /// The roots with their places in the text.
 fn in_text(alloc: Global, roots: &[Root]) -> Result<Vec<InText>, NoMemory>
-    ensures { IfOk result (λ order. HaveRoots order.items (length roots.now)) }
+    ensures have { IfOk result (λ order. HaveRoots order.items (length roots.now)) }
+    ensures only { IfOk result (λ order. AreRoots order.items (length roots.now)) }
 {
     let mut order = Vec::new(alloc);
     let mut number = 0;
@@ -177,47 +173,40 @@ fn in_text(alloc: Global, roots: &[Root]) -> Result<Vec<InText>, NoMemory>
 
 /// The roots in the order of their places in the text, those of one place in that of their numbers.
 fn in_order(alloc: Global, roots: &[Root]) -> Result<Vec<InText>, NoMemory>
-    ensures { IfOk result (λ order. HaveRoots order.items (length roots.now)) }
+    ensures have { IfOk result (λ order. HaveRoots order.items (length roots.now)) }
+    ensures only { IfOk result (λ order. AreRoots order.items (length roots.now)) }
 {
     let mut order = in_text(alloc, roots)?;
     order.sort()?;
     Ok(order)
 }
 
-/// The root with a number.
-fn root_at(roots: &[Root], root: u32) -> Result<&Root, NoMemory>
-    ensures { IfOk result (λ object. slice_get roots.now root ≡ Some object.now) }
-{
-    roots.get(root as usize).ok_or(NoMemory)
-}
-
-/// Adds the cells of a root, where they can be written. Its type is in the table.
+/// Adds the cells of a root, where they can be written.
 fn push_root(
     types: &TypeTable,
     roots: &[Root],
     root: u32,
     cells: &mut Cells,
 ) -> Result<(), NoMemory>
+    requires within { root < length roots.now }
+    requires typed { HaveKnownTypes (length types.now.types) roots.now }
     ensures { OnOk result
         (AddsCells types.now (IsInRoot types.now roots.now root) cells.old cells.new) }
 {
-    let object = root_at(roots, root)?;
+    let object = &roots[root as usize];
     if !has_cells(object.kind) {
         return Ok(());
-    }
-    if object.ty.0 >= types.count() {
-        return Err(NoMemory);
     }
     let whole = PartOf {
         root,
         node: types.start_node(object.ty),
-        left: MOST_TYPE_STEPS,
     };
     cells.push(types, &whole)
 }
 
 /// The cells of all roots, root by root as these stand in the text.
 fn all_cells(alloc: Global, types: &TypeTable, roots: &[Root]) -> Result<Cells, NoMemory>
+    requires { HaveKnownTypes (length types.now.types) roots.now }
     ensures { IfOk result (AreCells types.now (IsInObject types.now roots.now)) }
 {
     let order = in_order(alloc, roots)?;
@@ -233,6 +222,7 @@ fn all_cells(alloc: Global, types: &TypeTable, roots: &[Root]) -> Result<Cells, 
 
 /// The cells of all roots. They are found in the order of their places.
 fn cells_of(alloc: Global, types: &TypeTable, roots: &[Root]) -> Result<Cells, NoMemory>
+    requires { HaveKnownTypes (length types.now.types) roots.now }
     ensures cells { IfOk result (AreCells types.now (IsInObject types.now roots.now)) }
     ensures order { IfOk result (AreInOrder roots.now) }
 {
@@ -242,21 +232,20 @@ fn cells_of(alloc: Global, types: &TypeTable, roots: &[Root]) -> Result<Cells, N
     Ok(cells)
 }
 
-/// Puts a place behind others. They are never so many that there is no room.
+/// Puts a place behind others.
 fn put(place: Place, places: &mut Places) -> Result<(), NoMemory>
-    requires { IsMissing places.old place }
+    requires missing { IsMissing places.old place }
+    requires room { length places.old < 65536 }
     ensures { OnOk result (places.new ≡ places.old ++ place ∷ []) }
 {
-    if places.len() >= MOST_LABELS as usize {
-        return Err(NoMemory);
-    }
     places.put(place.root, place.node)?;
     Ok(())
 }
 
 /// Puts places behind others.
 fn put_all(list: &[Place], places: &mut Places) -> Result<(), NoMemory>
-    requires { AreDifferent (places.old ++ list.now) }
+    requires different { AreDifferent (places.old ++ list.now) }
+    requires room { length places.old + length list.now ≤ 65536 }
     ensures { OnOk result (places.new ≡ places.old ++ list.now) }
 {
     for place in list {
@@ -267,7 +256,8 @@ fn put_all(list: &[Place], places: &mut Places) -> Result<(), NoMemory>
 
 /// The places of cells: first of those with values, then of the mutexes.
 fn places_of(alloc: Global, cells: &Cells) -> Result<Places, NoMemory>
-    requires { AreDifferent (cells.now.values.items ++ cells.now.locks.items) }
+    requires different { AreDifferent (cells.now.values.items ++ cells.now.locks.items) }
+    requires room { count_of_cells cells.now ≤ 65536 }
     ensures { IfOk result (λ places. places ≡ cells.now.values.items ++ cells.now.locks.items) }
 {
     let mut places = Places::new(alloc);
@@ -288,6 +278,7 @@ pub struct AllPlaces {
 ///
 /// `TooManyPlaces` comes exactly where there are more than 65,536 of both together, unless memory ends first.
 pub fn all_places(alloc: Global, types: &TypeTable, roots: &[Root]) -> Result<AllPlaces, LowerFault>
+    requires { HaveKnownTypes (length types.now.types) roots.now }
     ensures nodes { IfOk result (λ found. All (IsPlaceIn types.now) found.places) }
     ensures places { IfOk result (λ found. ArePlacesOf types.now roots.now found.places found.locations) }
     ensures few { IfOk result (λ found. length found.places ≤ 65536) }

@@ -1,5 +1,5 @@
 //! The roots and slots of a source, each at its node.
-ghost use Rattle.std.specs.Prelude.{◌≡◌, ◌+◌, ◌++◌, ◌∷◌, [], List, Some, IfOk, OnOk, get_or};
+ghost use Rattle.std.specs.Prelude.{◌≡◌, ◌<◌, ◌+◌, ◌++◌, ◌∷◌, [], List, Some, IfOk, OnOk, get_or, length};
 ghost use Rattle.std.specs.Option.{option_copied};
 ghost use Rattle.lk_lower_expr.specs.Owned as rules;
 ghost use Rattle.lk_lower_expr.specs.Programs as programs;
@@ -57,13 +57,13 @@ pub struct SourceAt<'a> {
     pub points: &'a [u32],
 }
 
-/// The row of a source. Each source that is asked for has one.
-pub(crate) fn row_of(rows: &[Seq<u32>], source: u32) -> Result<&[u32], NoMemory>
-    ensures { IfOk result (λ row. row.now ≡ get_or rows.now source []) }
+/// The row of a source; an empty one past the last.
+pub(crate) fn row_of(rows: &[Seq<u32>], source: usize) -> &[u32]
+    ensures { result.now ≡ get_or rows.now source [] }
 {
-    match rows.get(source as usize) {
-        Some(row) => Ok(row.list()),
-        None => Err(NoMemory),
+    match rows.get(source) {
+        Some(row) => row.list(),
+        None => &[],
     }
 }
 
@@ -74,20 +74,21 @@ pub fn source_at<'a>(
     source: u32,
     functions: &FunctionNumbers,
     points: &'a [Seq<u32>],
-) -> Result<SourceAt<'a>, NoMemory>
-    ensures { IfOk result (IsSourceOf whole.now functions.now points.now source) }
+) -> SourceAt<'a>
+    requires { source < length whole.now.sources }
+    ensures { IsSourceOf whole.now functions.now points.now source result }
 {
-    let linked = source_of(whole, source)?;
-    let first = first_of(functions, source)?;
-    let points = row_of(points, source)?;
-    Ok(SourceAt {
+    let linked = source_of(whole, source as usize);
+    let first = first_of(functions, source as usize);
+    let points = row_of(points, source as usize);
+    SourceAt {
         alloc,
         whole,
         linked,
         source,
         first,
         points,
-    })
+    }
 }
 
 /// An object of external linkage is a global, each other one of static storage is static.
@@ -110,11 +111,14 @@ fn closed(alloc: Global, bytes: &[u8]) -> Result<Seq<u8>, NoMemory>
 }
 
 impl<'a> SourceAt<'a> {
-    /// The program's number of a type.
-    fn type_here(&self, t: TypeId) -> Result<TypeId, NoMemory>
-        ensures { IfOk result (λ here. here ≡ type_in (seen self.now) t) }
+    /// The program's number of a type; 0 past the last one.
+    fn type_here(&self, t: TypeId) -> TypeId
+        ensures { result ≡ type_in (seen self.now) t }
     {
-        self.linked.types.get(t.0 as usize).copied().ok_or(NoMemory)
+        match self.linked.types.list().get(t.0 as usize) {
+            Some(here) => *here,
+            None => TypeId(0),
+        }
     }
 
     /// The function of a body.
@@ -242,12 +246,9 @@ impl<'a> SourceAt<'a> {
         let Some(here) = self.defined_here(body.entity) else {
             return Ok(());
         };
-        let entity = self
-            .linked
-            .unit
-            .entities
-            .get(body.entity as usize)
-            .ok_or(NoMemory)?;
+        let Some(entity) = self.linked.unit.entities.get(body.entity as usize) else {
+            return Ok(());
+        };
         let Some(by) = declaration_of(entity) else {
             return Ok(());
         };
@@ -278,7 +279,7 @@ impl<'a> SourceAt<'a> {
         ensures slots { OnOk result (slots.new.items ≡
             slots.old.items ++ slot_by (seen self.now) local.now.is_slot local.now) }
     {
-        let ty = self.type_here(local.ty)?;
+        let ty = self.type_here(local.ty);
         let ordinal = local.ordinal;
         if local.is_slot {
             slots.push(NodeSlot { ordinal, ty })?;
@@ -297,7 +298,7 @@ impl<'a> SourceAt<'a> {
             ordinal: node.ordinal,
             root: Root {
                 kind: RootKind::Text,
-                ty: self.type_here(node.ty)?,
+                ty: self.type_here(node.ty),
                 spot: node.spot,
                 name: Name::empty(self.alloc),
                 function: None,
@@ -337,7 +338,7 @@ impl<'a> SourceAt<'a> {
             here ≡ allocated (seen self.now) forms one ty) }
         ensures more { OnOk result (HasMore types.old types.new) }
     {
-        let here = self.type_here(ty)?;
+        let here = self.type_here(ty);
         if one {
             Ok(here)
         } else {
@@ -368,7 +369,7 @@ impl<'a> SourceAt<'a> {
                 roots.push(self.heap_root(*node, ty, *one, function)?)?;
             }
             Owned::Hidden(node) => {
-                let ty = self.type_here(node.ty)?;
+                let ty = self.type_here(node.ty);
                 let ordinal = node.ordinal;
                 slots.push(NodeSlot { ordinal, ty })?;
             }

@@ -1,14 +1,16 @@
 //! The function `main`.
 
-ghost use Rattle.std.specs.Prelude.{◌≡◌, IfOk, Some, get_or, slice_get, true};
-ghost use Rattle.lk_lower_expr.specs.Lowering.{declaration_of};
+ghost use Rattle.std.specs.Prelude.{◌≡◌, ◌<◌, IfOk, Some, get_or, length, slice_get};
 ghost use Rattle.lk_lower_parts.specs.Mains.{IsMainOf, spot_of_main};
 ghost use Rattle.lk_lower_parts.specs.Sources.{defined_of};
-ghost use Rattle.lk_typed.specs.declared.entity.Entity.{Entity};
+ghost use Rattle.lk_lower_parts.specs.Wholes.{HasMain, IsMainAt};
 
-use crate::counts::{FunctionNumbers, behind, count_of, declaration_of, definition_here};
+use crate::counts::{
+    FunctionNumbers, behind, count_of, declaration_of, declared_at, definition_here,
+};
+use crate::names::number_or;
 use lk_base::{NoMemory, Spot};
-use lk_typed::{Body, Declaration, Linked, Whole};
+use lk_typed::{Body, Linked, Whole};
 
 /// The function `main` of a program.
 #[derive(Clone, Copy)]
@@ -21,7 +23,7 @@ pub struct Main {
     pub has_parameters: bool,
 }
 
-/// The body of an entity with its place in its source.
+/// The body of an entity with its place in its source. A function that a source defines has one.
 fn body_of(linked: &Linked, entity: u32) -> Result<(u32, &Body), NoMemory>
     ensures at { IfOk result (λ found. slice_get linked.now.unit.bodies found.0 ≡ Some found.1.now) }
     ensures of { IfOk result (λ found. found.1.now.entity ≡ entity) }
@@ -47,66 +49,43 @@ pub fn main_spot(whole: &Whole) -> Option<Spot>
     Some(declared.spot)
 }
 
-/// Whether the entity of a source is the program's `main`.
-fn is_main(whole: &Whole, linked: &Linked, e: u32) -> bool
-    ensures { result ≡ true → slice_get linked.now.entities e ≡ Some whole.now.main }
-{
-    match linked.entities.get(e as usize) {
-        Some(here) => *here == whole.main,
-        None => false,
-    }
-}
-
 /// The source that defines `main`, and the entity's number there.
-fn definition_of_main(whole: &Whole) -> Result<(u32, u32), NoMemory>
-    ensures { IfOk result (λ definition. defined_of whole.now whole.now.main ≡ Some definition) }
+fn definition_of_main(whole: &Whole) -> (u32, u32)
+    requires { HasMain whole.now }
+    ensures defined { defined_of whole.now whole.now.main ≡ Some result }
+    ensures there { IsMainAt whole.now result.0 result.1 }
 {
     match definition_here(whole, whole.main) {
-        Some(definition) => Ok(definition),
-        None => Err(NoMemory),
+        Some(definition) => definition,
+        None => unreachable!(),
     }
 }
 
-/// The source of this place. Each source that is asked for is there.
-pub(crate) fn source_of(whole: &Whole, source: u32) -> Result<&Linked, NoMemory>
-    ensures { IfOk result (λ linked. slice_get whole.now.sources source ≡ Some linked.now) }
+/// The source of this place.
+pub(crate) fn source_of(whole: &Whole, source: usize) -> &Linked
+    requires { source < length whole.now.sources }
+    ensures { slice_get whole.now.sources source ≡ Some result.now }
 {
-    whole.sources.get(source as usize).ok_or(NoMemory)
+    &whole.sources.list()[source]
 }
 
-/// The number of the function of the first body of a source. Each source that is asked for has it.
-pub(crate) fn first_of(functions: &FunctionNumbers, source: u32) -> Result<u32, NoMemory>
-    ensures { IfOk result (λ first. first ≡ get_or functions.now.first source 0) }
+/// The number of the function of the first body of a source; 0 past the last one.
+pub(crate) fn first_of(functions: &FunctionNumbers, source: usize) -> u32
+    ensures { result ≡ get_or functions.now.first source 0 }
 {
-    match functions.first.get(source as usize) {
-        Some(first) => Ok(*first),
-        None => Err(NoMemory),
-    }
-}
-
-/// The declaration that counts of an entity of a source. Each entity that is asked for has one.
-fn declared(linked: &Linked, e: u32) -> Result<&Declaration, NoMemory>
-    ensures { IfOk result (λ by. (entity : Entity)
-        × (slice_get linked.now.unit.entities e ≡ Some entity) × (declaration_of entity ≡ Some by.now)) }
-{
-    match linked.unit.entities.get(e as usize) {
-        Some(entity) => declaration_of(entity).ok_or(NoMemory),
-        None => Err(NoMemory),
-    }
+    number_or(functions.first.list(), source, 0)
 }
 
 /// The function `main` of the program.
 pub fn main_of(whole: &Whole, functions: &FunctionNumbers) -> Result<Main, NoMemory>
+    requires { HasMain whole.now }
     ensures { IfOk result (IsMainOf whole.now functions.now) }
 {
-    let (source, e) = definition_of_main(whole)?;
-    let linked = source_of(whole, source)?;
-    if !is_main(whole, linked, e) {
-        return Err(NoMemory);
-    }
-    let first = first_of(functions, source)?;
+    let (source, e) = definition_of_main(whole);
+    let linked = source_of(whole, source as usize);
+    let first = first_of(functions, source as usize);
     let (b, body) = body_of(linked, e)?;
-    let by = declared(linked, e)?;
+    let (_, by) = declared_at(linked, e);
     let function = behind(first, b)?;
     Ok(Main {
         function,

@@ -6,6 +6,7 @@ pub mod AlikeStatements
 pub mod AlikeTrees
 pub mod Coding
 pub mod Counted
+pub mod Defined
 pub mod Ending
 pub mod FewPoints
 pub mod Laying
@@ -23,3 +24,4 @@ pub mod Steps
 pub mod Sums
 pub mod TableNames
 pub mod TablesOf
+pub mod Wholes

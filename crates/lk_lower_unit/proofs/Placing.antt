@@ -2,19 +2,23 @@
 use Rattle.std.proofs.Common.{arith, ap, sym, subst, ◌∙◌, ◌≡◌, ◌<◌, ◌≤◌, ◌+◌, ◌++◌, inl, inr, ℕ, zero, suc, List, [], ◌∷◌, length, get_or, map, set, slice_get, Option, None, Some, refl, append_assoc, length-set}
 use Rattle.std.specs.List.{Contains}
 use Rattle.std.proofs.lemmas.Bool.{cases_lt}
-use Rattle.std.proofs.lemmas.List.Elements.{Contains-push_cases}
-use Rattle.std.proofs.lemmas.Option.{none-some, same_Some, slice_get_within}
+use Rattle.std.proofs.lemmas.List.{length-replicate}
+use Rattle.std.proofs.lemmas.List.Elements.{All-from_get_or, Contains-push_cases}
+use Rattle.std.proofs.lemmas.Option.{get_or_from_slice_get, none-some, same_Some, slice_get_within}
+use Rattle.std.specs.Prelude.{◌^◌, All, IsSome, replicate}
+use Rattle.lk_facts.specs.declared.function.Function.{Function}
 use Rattle.lk_facts.specs.declared.point.Point.{Point}
 use Rattle.lk_facts.specs.declared.program.Program.{Program}
 use Rattle.lk_lower_expr.specs.Lowering.{StandsIn, of_body, of_static}
 use Rattle.lk_lower_expr.specs.Naming.{at_of}
 use Rattle.lk_lower_expr.specs.declared.names.SourceNames.{SourceNames}
 use Rattle.lk_lower_expr.specs.declared.step.Step.{Step}
-use Rattle.lk_lower_parts.specs.Givens.{HasTables}
+use Rattle.lk_lower_parts.proofs.PlaceLists.{all_of}
+use Rattle.lk_lower_parts.specs.Givens.{HasTables, at_node}
 use Rattle.lk_lower_parts.specs.declared.names.Given.{Given}
 use Rattle.lk_lower_unit.proofs.TablesOf.{function_there, tables_are}
 use Rattle.lk_lower_unit.specs.Bodies.{IsSameSource}
-use Rattle.lk_lower_unit.specs.Placed.{AreAllPlaced, AreFound, ArePlaced, ArePutBeside, AreStepsOf, PlacesAll, PlacesOne, PlacesSource, StandsAt, numbers_of, point_of}
+use Rattle.lk_lower_unit.specs.Placed.{AreAllPlaced, AreCounted, AreFound, ArePlaced, ArePutBeside, AreStepsOf, HasNumber, PlacesAll, PlacesOne, PlacesSource, StandsAt, numbers_of, point_of}
 use Rattle.lk_lower_unit.specs.Tables.{IsNumbered}
 use Rattle.lk_lower_unit.specs.declared.standing.StandingStep.{StandingStep}
 use Rattle.lk_types.specs.Table.{Table}
@@ -68,27 +72,65 @@ one_done names all rest next one old new begins places was = (was.0 ++ (one ∷ 
 none_done : (names : SourceNames) (all : List StandingStep) (points : List (Option Point)) → DoneBefore names all all points
 none_done names all points = ([], refl, λ one there. absurd (omega (arith, there.1)))
 
+-- ---- a program with so many functions
+
+abbrev no_function : Function
+no_function = record { name = []; root = 0; entry = 0; exit = 0; parameters = []; slots = []; result = 0; value_site = None }
+
+abbrev no_types : Table
+no_types = record { types = []; members = []; parts = []; least = [] }
+
+abbrev program_with : ℕ → Program
+program_with n = record { points = []; functions = replicate n no_function; roots = []; types = no_types; places = []; locations = 0; initials = []; main = 0; sites = 0 }
+
 -- ---- one source
 
-pub places_source : (given : Given) (table : Table) (s : ℕ) (names later : SourceNames) (steps : List StandingStep) (old new : List (Option Point)) → AreFound given table → HasTables given s names → AreStepsOf given table s names steps → IsSameSource names later →
-    PlacesAll later steps old new → PlacesSource given table s old new
-places_source given table s names later steps old new found tables are same places = record {
-  beside = places.beside;
-  placed = λ program o k is function counted stands.
-      let in_all = (are.2 given.whole.now (numbers_of given table) program s (numbered program counted)).each o k is function stands in
-      subst (λ n. slice_get new n ≡ Some (Some (point_of is function))) (ap (λ bases. get_or bases o 0 + k) same.bases ∙ (tables_are given table found s are.0 names are.1 tables).point o k) (places.there _ in_all);
-}
-  where
-    numbered : (program : Program) → given.functions.now.count ≡ length program.functions → IsNumbered given.whole.now (numbers_of given table) program s are.0.unit (numbers_of given table).node (get_or given.functions.now.first s 0) given.functions.now.count names
-    numbered program counted = record {
-      linked = are.0;
-      at = are.1;
-      is = refl;
-      tables = tables_are given table found s are.0 names are.1 tables;
-      nodes = refl;
-      functions = λ b. sym (function_there given table found s b (slice_get_within given.whole.now.sources s are.0 are.1));
-      no_function = counted;
-    }
+module _ (given : Given) (table : Table) (s : ℕ) (names later : SourceNames) (steps : List StandingStep) (found : AreFound given table) (tables : HasTables given s names) (are : AreStepsOf given table s names steps) (same : IsSameSource names later) where
+  numbered : (program : Program) → given.functions.now.count ≡ length program.functions → IsNumbered given.whole.now (numbers_of given table) program s are.0.unit (numbers_of given table).node (get_or given.functions.now.first s 0) given.functions.now.count names
+  numbered program counted = record {
+    linked = are.0;
+    at = are.1;
+    is = refl;
+    tables = tables_are given table found s are.0 names are.1 tables;
+    nodes = refl;
+    functions = λ b. sym (function_there given table found s b (slice_get_within given.whole.now.sources s are.0 are.1));
+    no_function = counted;
+  }
+
+  -- the number of a step by the names
+  number_is : (o k : ℕ) → at_of later o k ≡ (numbers_of given table).point s o k
+  number_is o k = ap (λ bases. get_or bases o 0 + k) same.bases ∙ (tables_are given table found s are.0 names are.1 tables).point o k
+
+  pub places_source : (old new : List (Option Point)) → PlacesAll later steps old new → PlacesSource given table s old new
+  places_source old new places = record {
+    beside = places.beside;
+    placed = λ program o k is function counted stands.
+        let in_all = (are.2 given.whole.now (numbers_of given table) program s (numbered program counted)).each o k is function stands in
+        subst (λ n. slice_get new n ≡ Some (Some (point_of is function))) (number_is o k) (places.there _ in_all);
+  }
+
+  -- each step has one of the numbers that are counted
+  pub steps_numbered : (count : ℕ) → AreCounted given table count → All (HasNumber later count) steps
+  steps_numbered count counted = all_of (HasNumber later count) steps has
+    where
+      program : Program
+      program = program_with given.functions.now.count
+
+      below : (one : StandingStep) → Contains steps one → (numbers_of given table).point s one.step.node one.step.step < 0 + count
+      below one there =
+          (counted.order program).below s one.step.node one.step.step
+          (one.step.is, one.function, (are.2 given.whole.now (numbers_of given table) program s (numbered program (sym (length-replicate given.functions.now.count no_function)))).only one there)
+
+      small : (k : ℕ) → k < 65536 → k < 2 ^ 31
+      small k few = omega (arith, few)
+
+      has : (one : StandingStep) → Contains steps one → HasNumber later count one
+      has one there =
+          let less : at_node given.points.now s one.step.node + one.step.step < 0 + count = below one there in
+          record {
+            few = small one.step.step (omega (arith, less, counted.few));
+            within = subst (λ n. n < count) (sym (number_is one.step.node one.step.step)) (omega (arith, less));
+          }
 
 -- ---- all sources
 
@@ -124,3 +166,23 @@ all_placed given table count s points all past many placed known = record {
   where
     there : (program : Program) (t o k : ℕ) (is : Step) (function : ℕ) → StandsIn given.whole.now (numbers_of given table) program t o k is function → t < s
     there program t o k is function stands = let h = stands_inside given table program t o k is function stands in omega (arith, h, past)
+
+-- where each step stands at its number, each number is that of a point
+pub all_known : (given : Given) (table : Table) (count s : ℕ) (points : List (Option Point)) → AreCounted given table count → length given.whole.now.sources ≤ s → length points ≡ count → ((t : ℕ) → t < s → ArePlaced given table t points) →
+    All IsSome points
+all_known given table count s points counted past many placed = All-from_get_or IsSome points None some
+  where
+    program : Program
+    program = program_with given.functions.now.count
+
+    some : (n : ℕ) → n < length points → IsSome (get_or points n None)
+    some n within =
+        let found = (counted.order program).onto n (omega (arith, within, many)) in
+        let stands = found.3.2 in
+        let here = stands_inside given table program found.0 found.1 found.2 found.3.0 found.3.1 stands in
+        let at = placed found.0 (omega (arith, here, past)) program found.1 found.2 found.3.0 found.3.1 (sym (length-replicate given.functions.now.count no_function)) stands in
+        let there = subst (λ m. slice_get points m ≡ Some (Some (point_of found.3.0 found.3.1))) (found.4 ∙ from_zero n) at in
+        subst IsSome (sym (get_or_from_slice_get points n (Some (point_of found.3.0 found.3.1)) None there)) refl
+      where
+        from_zero : (n : ℕ) → 0 + n ≡ n
+        from_zero n = omega arith

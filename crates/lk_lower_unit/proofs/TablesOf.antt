@@ -93,7 +93,7 @@ module _ (given : Given) (table : Table) (found : AreFound given table) where
     same = same_Some tables.linked linked (sym tables.at ∙ at)
 
     pointer_row : ArePointersTo table linked.types source.pointers
-    pointer_row = subst (ArePointersTo table linked.types) (get_or_from_slice_get given.pointers.now s source.pointers [] tables.pointers) (found.pointers.each s linked at)
+    pointer_row = subst (ArePointersTo table linked.types) (sym tables.pointers) (found.pointers.each s linked at)
 
     pointer_at : (t : ℕ) (type : Option ℕ) → slice_get linked.types t ≡ type → get_or source.pointers t 0 ≡ option_map_or (pointer_in table.types) type 0
     pointer_at t None is = get_or_past source.pointers t 0 (let h = past_end linked.types t is in omega (arith, h, pointer_row.as_many))
@@ -115,9 +115,9 @@ module _ (given : Given) (table : Table) (found : AreFound given table) where
 
     pub tables_are : AreTables whole numbers s linked source
     tables_are = record {
-      point = λ o k. ap (λ row. get_or row o 0 + k) (sym (get_or_from_slice_get given.points.now s source.bases [] tables.bases));
-      root = λ o. ap (λ row. get_or row o 0) (sym (get_or_from_slice_get given.by_node.now s source.by_node [] tables.by_node));
-      slot = λ o. ap (λ row. get_or row o 0) (sym (get_or_from_slice_get given.by_node.now s source.by_node [] tables.by_node));
+      point = λ o k. ap (λ row. get_or row o 0 + k) tables.bases;
+      root = λ o. ap (λ row. get_or row o 0) tables.by_node;
+      slot = λ o. ap (λ row. get_or row o 0) tables.by_node;
       types = tables.types ∙ ap (λ (l : Linked). l.types) same;
       pointers = λ t. pointer_at t (slice_get linked.types t) refl;
       objects = λ e. ap (λ row. get_or row e 0) (tables.objects ∙ ap (λ (l : Linked). map (object_here given) l.entities) same) ∙ (mapped_or (object_here given) linked.entities e 0 ∙ (object_at e (slice_get linked.entities e) ∙

@@ -9,3 +9,4 @@ pub mod Prefixes
 pub mod Stands
 pub mod StepCounts
 pub mod Tables
+pub mod Wholes

@@ -1,12 +1,12 @@
 -- Points that are put at their numbers. Only the private calls of this crate speak of them.
-use Rattle.std.specs.Prelude.{◌≡◌, ◌↔◌, ◌+◌, ℕ, nat_eq, nat_lt, Bool, true, false, List, [], ◌∷◌, Option, None, Some, length, slice_get, get_or, if◌then◌else◌}
+use Rattle.std.specs.Prelude.{◌≡◌, ◌↔◌, ◌<◌, ◌≤◌, ◌+◌, ◌^◌, ℕ, nat_eq, nat_lt, All, Bool, true, false, List, [], ◌∷◌, Option, None, Some, length, slice_get, get_or, if◌then◌else◌}
 use Rattle.std.specs.List.{Contains}
 use Rattle.lk_facts.specs.Live.{IsReached}
 use Rattle.lk_facts.specs.declared.function.Function.{Function}
 use Rattle.lk_facts.specs.declared.point.Point.{Point}
 use Rattle.lk_facts.specs.declared.program.Program.{Program}
 use Rattle.lk_lower_expr.specs.Cells.{cell_node}
-use Rattle.lk_lower_expr.specs.Lowering.{Numbers, StandsIn, place_in}
+use Rattle.lk_lower_expr.specs.Lowering.{Counts, Numbers, StandsIn, place_in}
 use Rattle.lk_lower_expr.specs.Naming.{at_of}
 use Rattle.lk_lower_expr.specs.declared.names.SourceNames.{SourceNames}
 use Rattle.lk_lower_expr.specs.declared.step.Step.{Step}
@@ -16,6 +16,7 @@ use Rattle.lk_lower_parts.specs.Tables.{ArePointerRows}
 use Rattle.lk_lower_parts.specs.Wanted.{AreDifferent}
 use Rattle.lk_lower_parts.specs.declared.counts.FunctionNumbers.{FunctionNumbers}
 use Rattle.lk_lower_parts.specs.declared.names.Given.{Given}
+use Rattle.lk_lower_unit.specs.PointNumbers.{HasStep}
 use Rattle.lk_lower_unit.specs.Tables.{StandInPrograms}
 use Rattle.lk_lower_unit.specs.declared.standing.StandingStep.{StandingStep}
 use Rattle.lk_typed.specs.declared.whole.Linked.{Linked}
@@ -67,6 +68,13 @@ pub record AreFound (given : Given) (table : Table) : Type 0 where
   pub functions : AreFunctionNumbers given.whole.now.sources given.functions.now
   pub pointers : ArePointerRows table given.whole.now.sources given.pointers.now
   pub different : AreDifferent table.types
+  -- so the names of each source are few
+  pub small : (s : ℕ) → All (λ base. base < 2 ^ 31) (get_or given.points.now s [])
+
+-- so many points have numbers, whatever else is in the program
+pub record AreCounted (given : Given) (table : Table) (count : ℕ) : Type 0 where
+  pub order : (program : Program) → Counts (HasStep given.whole.now (numbers_of given table) program) 0 count (numbers_of given table).point
+  pub few : count ≤ 65536
 
 -- ---- points
 
@@ -77,6 +85,11 @@ point_of is function = record { action = is.does; value = is.gives; next = is.ne
 -- the points that stand at numbers stay there
 abbrev pub AreKept : List (Option Point) → List (Option Point) → Type 0
 AreKept old new = (n : ℕ) (point : Point) → slice_get old n ≡ Some (Some point) → slice_get new n ≡ Some (Some point)
+
+-- the step has one of so many numbers
+pub record HasNumber (names : SourceNames) (count : ℕ) (one : StandingStep) : Type 0 where
+  pub few : one.step.step < 2 ^ 31
+  pub within : at_of names one.step.node one.step.step < count
 
 -- the point of the step stands at its number
 abbrev pub StandsAt : SourceNames → StandingStep → List (Option Point) → Type 0

@@ -4,7 +4,7 @@ use lk_base::NoMemory;
 use std::alloc::AllocFailed;
 
 /// Why things get no numbers.
-#[derive(Clone, Copy, Debug, PartialEq, Eq)]
+#[derive(Clone, Copy, PartialEq, Eq)]
 pub enum CountFault {
     /// There are too many of them.
     TooMany,

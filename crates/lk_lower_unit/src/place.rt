@@ -1,8 +1,8 @@
 //! The points of sources, each at its number.
-ghost use Rattle.std.specs.Prelude.{◌≡◌, ◌<◌, IfOk, OnOk, None, Some, get_or, length, map, slice_get};
+ghost use Rattle.std.specs.Prelude.{◌≡◌, ◌<◌, All, IfOk, IsSome, OnOk, None, Some, length, map, slice_get};
 ghost use Rattle.lk_lower_expr.specs.Naming.{AreFew};
 ghost use Rattle.lk_lower_unit.specs.Bodies.{IsSameSource};
-ghost use Rattle.lk_lower_unit.specs.Placed.{AreAllPlaced, AreFound, AreStepsOf, PlacesAll, PlacesOne, PlacesSource};
+ghost use Rattle.lk_lower_unit.specs.Placed.{AreAllPlaced, AreCounted, AreFound, AreStepsOf, HasNumber, PlacesAll, PlacesOne, PlacesSource};
 ghost use Rattle.lk_lower_unit.specs.Placed as spec;
 
 use crate::nodes::Nodes;
@@ -12,7 +12,6 @@ use lk_base::{CellStep, NoMemory};
 use lk_facts::Point;
 use lk_lower_expr::{NamedStep, SourceNames, Step, cell_node};
 use lk_lower_parts::Given;
-use lk_typed::Linked;
 use lk_types::{NodeId, TypeId, TypeTable};
 use std::alloc::Global;
 
@@ -66,31 +65,29 @@ fn unknown(alloc: Global, count: u32) -> Result<Vec<Option<Point>>, NoMemory>
 
 /// That no point stands at a number yet. Each number is that of one step.
 fn is_free(points: &Vec<Option<Point>>, number: usize) -> Result<(), NoMemory>
-    ensures inside { OnOk result (number < length points.now.items) }
-    ensures free { OnOk result (slice_get points.now.items number ≡ Some None) }
+    requires { number < length points.now.items }
+    ensures { OnOk result (slice_get points.now.items number ≡ Some None) }
 {
-    match points.get(number) {
-        Some(None) => Ok(()),
-        Some(Some(_)) | None => Err(NoMemory),
+    match &points[number] {
+        None => Ok(()),
+        Some(_) => Err(NoMemory),
     }
 }
 
-/// Puts the point of a step at its number. No node has so many steps that one has a number from 2 ^ 31 on.
+/// Puts the point of a step at its number.
 fn place_step(
     names: &SourceNames,
     one: StandingStep,
     points: &mut Vec<Option<Point>>,
 ) -> Result<(), NoMemory>
-    requires { AreFew names.now }
+    requires few { AreFew names.now }
+    requires step { HasNumber names.now (length points.old.items) one }
     ensures { OnOk result (PlacesOne names.now one points.old.items points.new.items) }
 {
     let StandingStep {
         step: NamedStep { node, step, is },
         function,
     } = one;
-    if step >= 1 << 31 {
-        return Err(NoMemory);
-    }
     let number = names.at(node, step) as usize;
     is_free(points, number)?;
     points[number] = Some(point_of(is, function));
@@ -103,7 +100,8 @@ fn place(
     steps: Vec<StandingStep>,
     points: &mut Vec<Option<Point>>,
 ) -> Result<(), NoMemory>
-    requires { AreFew names.now }
+    requires few { AreFew names.now }
+    requires steps { All (HasNumber names.now (length points.old.items)) steps.items }
     ensures { OnOk result (PlacesAll names.now steps.items points.old.items points.new.items) }
 {
     for one in steps {
@@ -114,33 +112,17 @@ fn place(
 
 /// The points, each of which is known.
 fn known(alloc: Global, points: Vec<Option<Point>>) -> Result<Vec<Point>, NoMemory>
+    requires { All IsSome points.items }
     ensures { IfOk result (λ all. map Some all.items ≡ points.items) }
 {
     let mut all = Vec::new(alloc);
     for point in points {
         match point {
             Some(point) => all.push(point)?,
-            None => return Err(NoMemory),
+            None => unreachable!(),
         }
     }
     Ok(all)
-}
-
-/// A source. Each source that is asked for is there.
-fn source_at<'a>(given: &Given<'a>, source: usize) -> Result<&'a Linked, NoMemory>
-    ensures { IfOk result (λ linked. slice_get given.now.whole.now.sources source ≡ Some linked.now) }
-{
-    given.whole.sources.get(source).ok_or(NoMemory)
-}
-
-/// The number of the function of the first body of a source. Each source that is asked for has it.
-fn first_at(given: &Given<'_>, source: usize) -> Result<u32, NoMemory>
-    ensures { IfOk result (λ first. first ≡ get_or given.now.functions.now.first source 0) }
-{
-    match given.functions.first.get(source) {
-        Some(first) => Ok(*first),
-        None => Err(NoMemory),
-    }
 }
 
 /// The steps of a source, by the numbers of its nodes.
@@ -150,32 +132,34 @@ fn steps_of(
     source: usize,
     names: &mut SourceNames,
 ) -> Result<Vec<StandingStep>, NoMemory>
-    requires { AreFew names.old }
+    requires few { AreFew names.old }
+    requires within { source < length given.now.whole.now.sources }
     ensures few { AreFew names.new }
     ensures steps { IfOk result (λ steps. AreStepsOf given.now types.now source names.old steps.items) }
     ensures kept { IsSameSource names.old names.new }
 {
-    let linked = source_at(given, source)?;
-    let first = first_at(given, source)?;
+    let linked = given.linked(source);
     let nodes = ProgramNodes { types };
     let lowering = UnitLowering {
         alloc: given.alloc,
         unit: &linked.unit,
         nodes: &nodes,
-        first,
+        first: given.first(source),
         none: given.functions.count,
     };
     lowering.steps(names)
 }
 
-/// Puts the points of a source at their numbers.
+/// Puts the points of a source at their numbers, where there are so many points.
 fn place_source(
     given: &Given<'_>,
     types: &TypeTable,
     source: usize,
     points: &mut Vec<Option<Point>>,
 ) -> Result<(), NoMemory>
-    requires { AreFound given.now types.now }
+    requires found { AreFound given.now types.now }
+    requires counted { AreCounted given.now types.now (length points.old.items) }
+    requires within { source < length given.now.whole.now.sources }
     ensures { OnOk result (PlacesSource given.now types.now source points.old.items points.new.items) }
 {
     let mut names = given.names(source)?;
@@ -189,7 +173,8 @@ pub(crate) fn all_points(
     types: &TypeTable,
     count: u32,
 ) -> Result<Vec<Point>, NoMemory>
-    requires { AreFound given.now types.now }
+    requires found { AreFound given.now types.now }
+    requires counted { AreCounted given.now types.now count }
     ensures { IfOk result (λ points. AreAllPlaced given.now types.now count points.items) }
 {
     let mut points = unknown(given.alloc, count)?;

@@ -6,10 +6,14 @@ ghost use Rattle.lk_lower_expr.specs.Programs.{HasMorePlaces, IsMadeOf};
 ghost use Rattle.lk_lower_parts.specs.Cells.{IsPlaceIn};
 ghost use Rattle.lk_lower_parts.specs.declared.fault.LowerFault.TheVariants.{TooManyPlaces, TooManyPoints};
 ghost use Rattle.lk_lower_parts.specs.FunctionNumbers.{AreFunctionNumbers};
+ghost use Rattle.lk_lower_parts.specs.Gathers.{HaveKnownTypes};
+ghost use Rattle.lk_lower_parts.specs.MadeFunctions.{HaveSlots};
+ghost use Rattle.lk_lower_parts.specs.Wholes.{IsWhole};
 ghost use Rattle.lk_lower_unit.specs.Lowers.{ArePlaceNodes, IsTested};
 ghost use Rattle.lk_lower_unit.specs.Made.{HasMorePartedPlaces, HasVoidParts, IsCode, IsProgramOf, IsRest};
-ghost use Rattle.lk_lower_unit.specs.Placed.{AreAlive, AreFound, AreLive};
+ghost use Rattle.lk_lower_unit.specs.Placed.{AreAlive, AreCounted, AreFound, AreLive};
 ghost use Rattle.lk_lower_unit.specs.PointNumbers.{ArePointNumbers, HasMorePoints};
+ghost use Rattle.lk_lower_unit.specs.Wholes.{IsOfSources};
 
 use crate::bases::Bases;
 use crate::fault::CountFault;
@@ -142,6 +146,7 @@ fn rest_of(
     roots: Vec<Root>,
     types: TypeTable,
 ) -> Result<Rest, LowerFault>
+    requires { HaveKnownTypes (length types.types) roots.items }
     ensures nodes { IfOk result (λ rest. All (IsPlaceIn rest.types) rest.places.places) }
     ensures rest { IfOk result (IsRest given.now roots.items types) }
     ensures parts { IfOk result (λ rest. HasVoidParts types points.now rest.types) }
@@ -174,7 +179,9 @@ fn code_of(
     slots: Vec<Seq<TypeId>>,
     count: u32,
 ) -> Result<Code, NoMemory>
-    requires { AreFound given.now types.now }
+    requires found { AreFound given.now types.now }
+    requires counted { AreCounted given.now types.now count }
+    requires slots { HaveSlots given.now slots.items }
     ensures { IfOk result (IsCode given.now types.now slots.items count) }
 {
     let mut points = all_points(given, types, count)?;
@@ -233,7 +240,10 @@ fn program_of(
     roots: Vec<Root>,
     types: TypeTable,
 ) -> Result<Points, LowerFault>
-    requires { AreFound given.now types }
+    requires found { AreFound given.now types }
+    requires counted { AreCounted given.now types count }
+    requires slots { HaveSlots given.now slots.items }
+    requires typed { HaveKnownTypes (length types.types) roots.items }
     ensures nodes { IfOk result ArePlaceNodes }
     ensures made { IfOk result (IsProgramOf given.now types main count slots.items roots.items) }
     ensures lowered { IfOk result IsLowered }
@@ -253,6 +263,7 @@ fn assemble(
     bases: &Bases,
     functions: &FunctionNumbers,
 ) -> Result<Points, LowerFault>
+    requires whole { IsWhole whole.now }
     requires points { ArePointNumbers whole.now bases.now }
     requires functions { AreFunctionNumbers whole.now.sources functions.now }
     ensures nodes { IfOk result ArePlaceNodes }
@@ -282,11 +293,13 @@ fn assemble(
     program_of(&given, main, bases.count, slots, roots, types)
 }
 
-/// The points of a program, with its functions, roots, places and types, and what its storage begins with.
+/// The points of a program, with its functions, roots, places and types, and what its storage begins with. The program is
+/// put together of typed trees of sources.
 ///
 /// `TooManyPoints` comes exactly where it would have more than 65,536 points, unless memory ends first; `TooManyPlaces`
 /// only where that isn't so and its locations and lock places together are more than 65,536.
 pub fn lower(alloc: Global, whole: &Whole) -> Result<Points, LowerFault>
+    requires { IsOfSources whole.now }
     ensures nodes { IfOk result ArePlaceNodes }
     ensures made { IfOk result (IsMadeOf whole.now) }
     ensures lowered { IfOk result IsLowered }

@@ -2,6 +2,7 @@
 ghost use Rattle.std.specs.Prelude.{◌<◌, All, IfOk, length, map};
 ghost use Rattle.lk_facts.specs.Lowered.{IsLowered};
 ghost use Rattle.lk_graph.specs.Single.{ArePlaceNodes};
+ghost use Rattle.lk_lower_unit.specs.Wholes.{IsOfSources};
 ghost use Rattle.lk_program.specs.Program.{StandIn};
 ghost use Rattle.lk_report.specs.Names.{CanBeNamed};
 ghost use Rattle.lk_report.specs.Report.{IsVerdictThere};
@@ -88,6 +89,7 @@ fn judge_points(
 
 /// What the program that sources make comes to. Each location and lock place is a label.
 fn judge_whole(alloc: Global, files: &Files, whole: &Whole) -> Result<Answer, NoMemory>
+    requires of_sources { IsOfSources whole.now }
     requires some { 0 < length files.now }
     requires main { HasMainIn files.now whole.now }
     requires stand { StandIn (length files.now) (map (λ linked. linked.unit) whole.now.sources) }

@@ -1,8 +1,18 @@
-use Rattle.std.proofs.Common.{◌∙◌, ap, ◌≡◌, ◌+◌, ◌++◌, [], ◌∷◌, drop, arith, length, refl, rules, subst, sym}
+use Rattle.std.proofs.Common.{◌∙◌, ap, ◌≡◌, ◌+◌, ◌++◌, [], ◌∷◌, Some, drop, arith, length, refl, rules, slice_get, subst, sym}
+use Rattle.std.proofs.lemmas.Option.{slice_get_read, slice_get_within}
 use Rattle.lk_lower_parts.proofs.Adding.{one_longer}
 use Rattle.lk_lower_parts.proofs.FunctionCounts.{all_numbered, count_more, first_more, rows_more}
 use Rattle.lk_lower_parts.specs.FunctionNumbers.{AreFunctionNumbers, bodies_of, firsts}
 use Rattle.lk_lower_parts.proofs.counts.number_functions.Goals as goal
+
+pub of_source-requires : goal.of_source-requires
+of_source-requires c = λ b body at_b.
+    let sources = c.args.whole.now.sources in
+    let i = c.loop-linked.linked-index in
+    let x = c.linked-item.result in
+    let at : slice_get sources i ≡ Some x = subst (λ all. slice_get all i ≡ Some x) c.list-linked-items.ensures (slice_get_read c.list-linked-items.result.now _ i x refl c.loop-linked-test.true c.linked-item.is) in
+    let declared = (c.requires.bodies i b x body at at_b).declared in
+    slice_get_within x.unit.entities body.entity declared.entity declared.at
 
 pub loop-linked-preserved : goal.loop-linked-preserved
 loop-linked-preserved c =

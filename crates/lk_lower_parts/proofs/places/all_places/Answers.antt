@@ -4,8 +4,11 @@ use Rattle.lk_lower_parts.proofs.places.all_places.Goals as goal
 use Rattle.lk_lower_parts.specs.Cells.{IsPlaceIn}
 use Rattle.lk_lower_parts.specs.Within.{count_of_cells}
 
-pub places_of-requires : goal.places_of-requires
-places_of-requires c = cells_different c.args.types.now c.args.roots.now c.in_ok-cells.cells c.in_ok-cells.ensures.cells c.in_ok-cells.ensures.order
+pub places_of-requires-clause-different : goal.places_of-requires-clause-different
+places_of-requires-clause-different c = cells_different c.args.types.now c.args.roots.now c.in_ok-cells.cells c.in_ok-cells.ensures.cells c.in_ok-cells.ensures.order
+
+pub places_of-requires-clause-room : goal.places_of-requires-clause-room
+places_of-requires-clause-room c = not_full c.is_full.result 65536 (count_of_cells c.in_ok-cells.cells) c.if-is_full.false c.is_full.ensures
 
 pub returns-clause-nodes : goal.returns-clause-nodes
 returns-clause-nodes c = subst (All (IsPlaceIn c.args.types.now)) (sym c.in_ok-places.ensures) (cell_nodes c.args.types.now c.args.roots.now c.in_ok-cells.cells c.in_ok-cells.ensures.cells)

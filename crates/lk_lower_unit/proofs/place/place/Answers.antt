@@ -1,6 +1,19 @@
-use Rattle.std.proofs.Common.{◌≡◌, ◌∷◌, rules}
+use Rattle.std.proofs.Common.{arith, ap, refl, subst, sym, ◌∙◌, ◌≡◌, ◌++◌, ◌∷◌, length, rules}
+use Rattle.std.proofs.lemmas.List.Elements.{All-contains, Contains-append_right}
+use Rattle.std.specs.List.{Contains}
 use Rattle.lk_lower_unit.proofs.Placing.{one_done, then_kept}
+use Rattle.lk_lower_unit.specs.Placed.{HasNumber}
 use Rattle.lk_lower_unit.proofs.place.place.Goals as goal
+
+pub place_step-requires-clause-step : goal.place_step-requires-clause-step
+place_step-requires-clause-step c =
+    let all = c.args.steps.items in
+    let done = c.loop-one.invariant.done in
+    let next = c.next.new.self.rest.items in
+    let begins : c.loop-one.one-iterator.rest.items ≡ c.in-Some.one ∷ next = search rules in
+    let there : Contains all c.in-Some.one = subst (λ xs. Contains xs c.in-Some.one) (ap (λ xs. done.0 ++ xs) (sym begins) ∙ done.1) (Contains-append_right done.0 (c.in-Some.one ∷ next) c.in-Some.one (0, omega arith, refl)) in
+    subst (λ n. HasNumber c.args.names.now n c.in-Some.one) (sym c.loop-one.invariant.beside.as_many)
+    (All-contains (HasNumber c.args.names.now (length c.args.points.now.items)) all c.in-Some.one c.requires.steps there)
 
 pub loop-one-preserved : goal.loop-one-preserved
 loop-one-preserved c =

@@ -1,6 +1,10 @@
-use Rattle.std.proofs.Common.{refl, rules}
+use Rattle.std.proofs.Common.{refl, rules, subst, sym}
+use Rattle.lk_lower_parts.specs.MadeFunctions.{HaveSlots}
 use Rattle.lk_lower_unit.proofs.Coding.{is_code}
 use Rattle.lk_lower_unit.proofs.programs.code_of.Goals as goal
+
+pub all_functions-requires : goal.all_functions-requires
+all_functions-requires c = subst (HaveSlots c.args.given.now) (sym c.deref.ensures.value) c.requires.slots
 
 pub returns : goal.returns
 returns c =

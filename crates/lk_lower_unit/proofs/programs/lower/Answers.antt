@@ -1,8 +1,15 @@
 use Rattle.std.proofs.lemmas.Result.{IfOk-weaker}
 use Rattle.lk_lower_unit.proofs.FewPoints.{no_more}
+use Rattle.lk_lower_unit.proofs.Wholes.{whole_is}
 use Rattle.lk_lower_unit.specs.Lowers.{ArePlaceNodes}
 use Rattle.lk_lower_unit.specs.PointNumbers.{HasMorePoints}
 use Rattle.lk_lower_unit.proofs.programs.lower.Goals as goal
+
+pub number_functions-requires : goal.number_functions-requires
+number_functions-requires c = whole_is c.args.whole.now c.requires
+
+pub assemble-requires-clause-whole : goal.assemble-requires-clause-whole
+assemble-requires-clause-whole c = whole_is c.args.whole.now c.requires
 
 pub returns-clause-few : goal.returns-clause-few
 returns-clause-few c =

@@ -1,10 +1,32 @@
 use Rattle.std.proofs.Common.{◌<◌, length, map, sym, subst}
-use Rattle.lk_program.specs.Program.{StandIn}
+use Rattle.std.proofs.lemmas.List.Elements.{All-map}
+use Rattle.lk_lower_unit.proofs.Wholes.{whole_is}
+use Rattle.lk_lower_unit.specs.Wholes.{IsNumbered, IsOfSources}
+use Rattle.lk_program.proofs.Places.{all_numbered}
+use Rattle.lk_program.specs.Program.{IsProgram, StandIn}
+use Rattle.lk_sources.specs.Accepting.{AreChecked, units_of}
+use Rattle.lk_sources.specs.declared.accepting.Accepted.{Accepted}
+use Rattle.lk_sources.specs.declared.checking.AcceptedSource.{AcceptedSource}
 use Rattle.lk_typed.specs.declared.whole.Linked.{Linked}
+use Rattle.lk_typed.specs.declared.whole.Whole.{Whole}
 use Rattle.lk_top.specs.Answer.{JudgesWhole}
 use Rattle.lk_top.proofs.AnswerLemmas.{of_fault, of_whole}
 use Rattle.lk_top.proofs.MainSpot.{main_stands}
 use Rattle.lk_top.proofs.analysis.analyse.Goals as goal
+
+-- the program is put together of typed trees of accepted sources
+of_sources : (accepted : Accepted) (whole : Whole) → AreChecked accepted → IsProgram accepted.externs.items (units_of accepted.sources.items) whole → IsOfSources whole
+of_sources accepted whole checked is = record {
+  externs = accepted.externs.items;
+  trees = units_of accepted.sources.items;
+  numbers = All-map IsNumbered (λ (s : AcceptedSource). s.parsed.unit) accepted.sources.items (all_numbered (length accepted.files) accepted.sources.items checked.placed);
+  units = is.units;
+  typed = is.typed;
+  linked = is.linked;
+}
+
+pub judge_whole-requires-clause-of_sources : goal.judge_whole-requires-clause-of_sources
+judge_whole-requires-clause-of_sources c = of_sources c.args.accepted c.in-Ok.program.whole c.requires.checked c.in-Ok.ensures.ok.is
 
 pub judge_whole-requires-clause-some : goal.judge_whole-requires-clause-some
 judge_whole-requires-clause-some c = let made = c.in-Ok.ensures.ok in subst (λ files. 0 < length files) (sym made.files) made.some
@@ -12,11 +34,10 @@ judge_whole-requires-clause-some c = let made = c.in-Ok.ensures.ok in subst (λ 
 pub judge_whole-requires-clause-main : goal.judge_whole-requires-clause-main
 judge_whole-requires-clause-main c =
     let made = c.in-Ok.ensures.ok in
-    let is = made.is in
     let accepted = c.args.accepted in
-    let main = main_stands is.units accepted.externs.items c.in-Ok.program.whole is.linked in
-    let stand = subst (StandIn (length accepted.files)) is.linked.joined.sources made.stand in
-    (main.0, main.1, subst (λ files. main.0.file < length files) (sym made.files) (main.2 (λ spot. spot.file < length accepted.files) stand))
+    let whole = c.in-Ok.program.whole in
+    let main = main_stands whole (whole_is whole (of_sources accepted whole c.requires.checked made.is)).main in
+    (main.0, main.1, subst (λ files. main.0.file < length files) (sym made.files) (main.2 (λ spot. spot.file < length accepted.files) made.stand))
 
 pub judge_whole-requires-clause-stand : goal.judge_whole-requires-clause-stand
 judge_whole-requires-clause-stand c =
