@@ -1,5 +1,5 @@
 #!/usr/bin/env python3
-"""Lists what stands in the data of `conformance` and `traces` and belongs to no case: sources that no line names, and outputs or steps of no case.
+"""Lists what stands in the data of `conformance` and belongs to no case: sources that no line names, and outputs or steps of no case.
 
 usage: bench/cases.py
 
@@ -8,25 +8,18 @@ It ends with status 1 where there is any.
 import os
 import sys
 
-CRATES = os.path.join(os.path.dirname(os.path.dirname(os.path.abspath(__file__))), "crates")
+DATA = os.path.join(os.path.dirname(os.path.dirname(os.path.abspath(__file__))), "crates", "conformance", "data")
 
 
-def listed(data, used_by):
-    """Prints what is wrong in a folder of data, where these are the files of a case, and answers whether anything is."""
-    with open(f"{data}/cases.txt", encoding="utf-8") as text:
+def files_of(list_file, of_line):
+    """The names of the cases in a list, and the files that they have beside it."""
+    folder = os.path.dirname(list_file)
+    with open(os.path.join(DATA, list_file), encoding="utf-8") as text:
         lines = [line.split() for line in text if line.strip() and not line.startswith("#")]
-    used = {"cases.txt"}
+    files = {list_file}
     for name, *words in lines:
-        used.update(used_by(name, words))
-    files = {os.path.relpath(os.path.join(folder, name), data) for folder, _, names in os.walk(data) for name in names}
-    unused = sorted(files - used)
-    for file in unused:
-        print(f"no case has {file}")
-    names = [name for name, *_ in lines]
-    twice = sorted({name for name in names if names.count(name) > 1})
-    for name in twice:
-        print(f"two cases are named {name}")
-    return bool(unused or twice)
+        files.update(os.path.join(folder, file) for file in of_line(name, words))
+    return [name for name, *_ in lines], files
 
 
 def of_case(name, words):
@@ -38,8 +31,16 @@ def of_trace(name, words):
 
 
 def main():
-    wrong = [listed(f"{CRATES}/conformance/data", of_case), listed(f"{CRATES}/traces/data", of_trace)]
-    return 1 if any(wrong) else 0
+    commands, used = files_of("cases.txt", of_case)
+    traces, others = files_of("traces/traces.txt", of_trace)
+    files = {os.path.relpath(os.path.join(folder, name), DATA) for folder, _, names in os.walk(DATA) for name in names}
+    unused = sorted(files - used - others)
+    for file in unused:
+        print(f"no case has {file}")
+    twice = sorted({name for names in (commands, traces) for name in names if names.count(name) > 1})
+    for name in twice:
+        print(f"two cases are named {name}")
+    return 1 if unused or twice else 0
 
 
 if __name__ == "__main__":

@@ -1,8 +1,7 @@
-//! `traces`: runs small C programs step by step by their meaning, and compares what each step answers with what is expected.
+//! Small programs, run step by step by their meaning.
 //!
-//! The file `cases.txt` lists the traces, one a line: a name, and the arguments of `main`. The source is NAME.c. NAME.steps has its
-//! schedule, a line for each step, and for each question between two steps. In both files a line that is empty or begins with `#` is
-//! for the reader.
+//! The file `traces/traces.txt` lists the traces, one a line: a name, and the arguments of `main`. The source is `traces/NAME.c`, and
+//! `traces/NAME.steps` has its schedule, a line for each step, and for each question between two steps.
 //!
 //! A step is `THREAD WORD ANSWER`: the thread, the word that makes its free choices, and the answer that is expected. The answers are:
 //!
@@ -22,7 +21,6 @@
 //! - `none`, where they don't race.
 //!
 //! Objects are numbered in the order of their births: first the strings of the arguments and the objects of static storage.
-#![tactic(auto)]
 
 mod analysed;
 mod answer;
@@ -32,15 +30,12 @@ mod schedule;
 mod source;
 mod words;
 
-use crate::running::run_trace;
+use crate::traces::running::run_trace;
 use anyhow::{Context, Result};
-use lk_cases::is_case;
-use std::fs;
-use std::process::ExitCode;
 use std::rt::Files;
 
 /// Runs the trace of a line of the list, prints the steps that differ, and answers whether none does.
-fn passes<R: Files + AllocGlobal + Print>(rt: &R, line: &str) -> Result<bool> {
+pub(crate) fn passes<R: Files + AllocGlobal + Print>(rt: &R, line: &str) -> Result<bool> {
     let mut words = line.split_whitespace();
     let name = words.next().context("a line without a name")?;
     let mut args = Vec::new(rt.alloc());
@@ -48,26 +43,4 @@ fn passes<R: Files + AllocGlobal + Print>(rt: &R, line: &str) -> Result<bool> {
         args.push(Vec::from_slice(rt.alloc(), word.as_bytes())?)?;
     }
     run_trace(rt, name, &args).context(format_args!("the trace {name}"))
-}
-
-/// Runs all traces of the list, prints how many passed, and answers whether all did.
-fn run_all<R: Files + AllocGlobal + Print>(rt: &R) -> Result<bool> {
-    let list = fs::read_to_string(rt, "cases.txt").context("reading cases.txt")?;
-    let mut answers = Vec::new(rt.alloc());
-    for line in list.as_str().lines().filter(|line| is_case(line)) {
-        answers.push(passes(rt, line)?)?;
-    }
-    let passed = answers.iter().filter(|passes| **passes).count();
-    let failed = answers.len() - passed;
-    println!(rt; "{passed} passed, {failed} failed")?;
-    Ok(failed == 0)
-}
-
-fn main(rt: HostRuntime) -> Result<ExitCode> {
-    let all_passed = run_all(&rt)?;
-    Ok(if all_passed {
-        ExitCode::SUCCESS
-    } else {
-        ExitCode::FAILURE
-    })
 }

@@ -1,8 +1,8 @@
 //! The answers to the lines of a schedule, as texts.
 
-use crate::analysed::Analysed;
-use crate::race::Race;
-use crate::words::{action_word, cause_word};
+use crate::traces::analysed::Analysed;
+use crate::traces::race::Race;
+use crate::traces::words::{action_word, cause_word};
 use lk_base::{CellStep, NoMemory, Spot};
 use lk_cells::State;
 use lk_facts::Points;

@@ -1,10 +1,10 @@
 //! The steps of a trace.
 
-use crate::analysed::{Analysed, analyse};
-use crate::answer::{race_text, step_text};
-use crate::race::race_of;
-use crate::schedule::{Asked, parse_line};
-use crate::source::points_of;
+use crate::traces::analysed::{Analysed, analyse};
+use crate::traces::answer::{race_text, step_text};
+use crate::traces::race::race_of;
+use crate::traces::schedule::{Asked, parse_line};
+use crate::traces::source::points_of;
 use anyhow::{Context, Result};
 use lk_base::{NoMemory, Seq};
 use lk_birth::start;
@@ -116,19 +116,19 @@ fn come_so<R: AllocGlobal + Print>(
     Ok(all)
 }
 
-/// Runs a trace, prints the steps that differ, and answers whether none does.
-pub(crate) fn run_trace<R: Files + AllocGlobal + Print>(
-    rt: &R,
-    name: &str,
-    args: &[Vec<u8>],
-) -> Result<bool> {
+/// The program of a trace, with what the analysis knows of it.
+fn program_of(rt: &(impl Files + AllocGlobal), name: &str) -> Result<Analysed> {
     let alloc = rt.alloc();
-    let source = format!(in alloc; "{name}.c")?;
+    let source = format!(in alloc; "traces/{name}.c")?;
     let points = points_of(rt, source.as_str())?.context("no program")?;
-    let program = analyse(alloc, points)?.context("no labels")?;
-    let steps = fs::read_to_string(rt, format!(in alloc; "{name}.steps")?.as_str())?;
-    let mut state = first_state(alloc, &program.points, args)?;
-    come_so(rt, name, &program, &mut state, steps.as_str())
+    analyse(alloc, points)?.context("no labels")
+}
+
+/// The schedule of a trace.
+fn schedule_of(rt: &(impl Files + AllocGlobal), name: &str) -> Result<String> {
+    let file = format!(in rt.alloc(); "traces/{name}.steps")?;
+    let steps = fs::read_to_string(rt, file.as_str())?;
+    Ok(steps)
 }
 
 /// The first state, where main has these arguments.
@@ -137,4 +137,27 @@ fn first_state(alloc: Global, points: &Points, args: &[Vec<u8>]) -> Result<State
         return Err(NoMemory);
     }
     start(alloc, points, args)
+}
+
+/// Runs a program from its first state on by a schedule, prints the steps that differ, and answers whether none does.
+fn runs_so<R: AllocGlobal + Print>(
+    rt: &R,
+    name: &str,
+    program: &Analysed,
+    args: &[Vec<u8>],
+    steps: &str,
+) -> Result<bool> {
+    let mut state = first_state(rt.alloc(), &program.points, args)?;
+    come_so(rt, name, program, &mut state, steps)
+}
+
+/// Runs a trace, prints the steps that differ, and answers whether none does.
+pub(crate) fn run_trace<R: Files + AllocGlobal + Print>(
+    rt: &R,
+    name: &str,
+    args: &[Vec<u8>],
+) -> Result<bool> {
+    let program = program_of(rt, name)?;
+    let steps = schedule_of(rt, name)?;
+    runs_so(rt, name, &program, args, steps.as_str())
 }

@@ -1,5 +1,6 @@
 //! The points of a source.
-ghost use Rattle.std.specs.Prelude.{length};
+ghost use Rattle.std.specs.Prelude.{IfOk, IfSome, length};
+ghost use Rattle.lk_lower_unit.specs.Wholes.{IsOfSources};
 ghost use Rattle.lk_sources.specs.Accepting.{AreChecked};
 ghost use Rattle.lk_sources.specs.Readable.{AreFew, IsReadable};
 
@@ -26,6 +27,7 @@ fn check_words(alloc: Global, file: &str) -> Result<Vec<String>, NoMemory> {
 fn whole_of(alloc: Global, accepted: Accepted) -> Option<Whole>
     requires checked { AreChecked accepted }
     requires few { AreFew (length accepted.sources.items) }
+    ensures { IfSome result IsOfSources }
 {
     match program_of(alloc, accepted) {
         Ok(Program { files: _, whole }) => Some(whole),
@@ -37,6 +39,7 @@ fn whole_of(alloc: Global, accepted: Accepted) -> Option<Whole>
 fn program_in(alloc: Global, text: Texts) -> Option<Whole>
     requires readable { IsReadable text }
     requires few { AreFew (length text.sources) }
+    ensures { IfSome result IsOfSources }
 {
     match accept(alloc, text) {
         Ok(accepted) => whole_of(alloc, accepted),
@@ -45,7 +48,9 @@ fn program_in(alloc: Global, text: Texts) -> Option<Whole>
 }
 
 /// The program in a file, or none.
-fn program_at(rt: &(impl Files + AllocGlobal), file: &str) -> Result<Option<Whole>, NoMemory> {
+fn program_at(rt: &(impl Files + AllocGlobal), file: &str) -> Result<Option<Whole>, NoMemory>
+    ensures { IfOk result (λ found. IfSome found IsOfSources) }
+{
     let words = check_words(rt.alloc(), file)?;
     let check = match command(rt.alloc(), &words) {
         Ok(check) => check,
