@@ -5,7 +5,7 @@ ghost use Rattle.lk_arith.specs.Operators as spec;
 use lk_base::Kind;
 
 /// A binary operator of C99 6.5 that computes on two values. `&&` and `||` are none: they are control.
-#[derive(Clone, Copy, Debug, PartialEq, Eq)]
+#[derive(Clone, Copy, PartialEq, Eq)]
 pub enum Op {
     /// `*`.
     Multiply,
@@ -42,7 +42,7 @@ pub enum Op {
 }
 
 /// A unary operator of C99 6.5.3.3 that computes on a value.
-#[derive(Clone, Copy, Debug, PartialEq, Eq)]
+#[derive(Clone, Copy, PartialEq, Eq)]
 pub enum UnaryOp {
     /// `+`, which gives its operand.
     Plus,
@@ -55,7 +55,7 @@ pub enum UnaryOp {
 }
 
 /// Why C calls an operation on integers undefined.
-#[derive(Clone, Copy, Debug, PartialEq, Eq)]
+#[derive(Clone, Copy, PartialEq, Eq)]
 pub enum Undefined {
     /// A signed kind doesn't have the result (C99 6.5, 5), or not the quotient of a remainder.
     Overflow,

@@ -13,7 +13,7 @@ use lk_rise::ItemAt;
 use std::alloc::Global;
 
 /// What of an item of a point tells with which others it is in conflict.
-#[derive(Clone, Copy, Debug, PartialEq, Eq, Hash)]
+#[derive(Clone, Copy, PartialEq, Eq, Hash)]
 pub(crate) struct Kind {
     /// The point.
     pub point: u32,

@@ -3,7 +3,7 @@
 use std::marker::Model;
 
 /// The number of a label: what a pointer may point to, at one level of one type.
-#[derive(Clone, Copy, Debug, PartialEq, Eq, Hash)]
+#[derive(Clone, Copy, PartialEq, Eq, Hash)]
 pub struct Label(pub u32);
 
 impl Model for Label {
@@ -17,7 +17,7 @@ impl Model for Label {
 }
 
 /// The number of a site: a live call or creation, or a function that is used as a value.
-#[derive(Clone, Copy, Debug, PartialEq, Eq, Hash)]
+#[derive(Clone, Copy, PartialEq, Eq, Hash)]
 pub struct Site(pub u32);
 
 impl Model for Site {
@@ -31,7 +31,7 @@ impl Model for Site {
 }
 
 /// What an edge passes: a site is entered by a call or creation, and left by a return.
-#[derive(Clone, Copy, Debug, PartialEq, Eq, Hash)]
+#[derive(Clone, Copy, PartialEq, Eq, Hash)]
 pub enum Mark {
     /// Within one function.
     Plain,
@@ -42,7 +42,7 @@ pub enum Mark {
 }
 
 /// An edge: what is at `from` may be at `to`.
-#[derive(Clone, Copy, Debug, PartialEq, Eq, Hash)]
+#[derive(Clone, Copy, PartialEq, Eq, Hash)]
 pub struct Edge {
     /// Where the edge begins.
     pub from: Label,

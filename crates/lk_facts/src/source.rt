@@ -3,7 +3,7 @@
 use crate::way::Way;
 
 /// Where an item of a point comes from.
-#[derive(Clone, Copy, Debug, PartialEq, Eq)]
+#[derive(Clone, Copy, PartialEq, Eq)]
 pub enum Source {
     /// It is the point's own access.
     OwnAccess,

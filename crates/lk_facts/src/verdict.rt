@@ -4,7 +4,7 @@ use lk_base::Seq;
 use lk_sets::IdSet;
 
 /// Whether the accesses of a location may race.
-#[derive(Clone, Copy, Debug, PartialEq, Eq)]
+#[derive(Clone, Copy, PartialEq, Eq)]
 pub enum VerdictState {
     /// Some lock is held at each racing access.
     Guarded,
@@ -15,7 +15,7 @@ pub enum VerdictState {
 }
 
 /// A racing access of a location, and the locks that are held there.
-#[derive(Debug, Drop)]
+#[derive(Drop)]
 pub struct Racing {
     /// The control point.
     pub access: u32,
@@ -24,7 +24,7 @@ pub struct Racing {
 }
 
 /// The verdict of a location.
-#[derive(Debug, Drop)]
+#[derive(Drop)]
 pub struct Verdict {
     pub location: u32,
     pub state: VerdictState,

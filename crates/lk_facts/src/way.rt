@@ -3,7 +3,7 @@
 use crate::edge::Site;
 
 /// A way into a function.
-#[derive(Clone, Copy, Debug, PartialEq, Eq)]
+#[derive(Clone, Copy, PartialEq, Eq)]
 pub enum Way {
     /// By a call or creation of the function, whose site it is.
     Through(Site),

@@ -16,7 +16,7 @@ use lk_sets::IdSet;
 use std::alloc::Global;
 
 /// A live call or creation, by the function that it is a step of and the one that it goes into.
-#[derive(Clone, Copy, Debug)]
+#[derive(Clone, Copy)]
 pub(crate) struct Entering {
     /// The function that it is a step of.
     pub above: u32,

@@ -10,7 +10,7 @@ use lk_facts::Points;
 use std::alloc::Global;
 
 /// Which successors of a point control may go on to.
-#[derive(Clone, Copy, Debug, PartialEq, Eq)]
+#[derive(Clone, Copy, PartialEq, Eq)]
 pub(crate) enum Steps {
     /// Each one.
     All,

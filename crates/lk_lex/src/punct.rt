@@ -4,7 +4,7 @@ ghost use Rattle.lk_lex.specs.Punctuators as spec;
 ghost use Rattle.lk_lex.specs.Punctuators.{spelling};
 
 /// A punctuator (C99 6.4.6) other than `#`, `##` and the digraphs.
-#[derive(Clone, Copy, Debug, PartialEq, Eq)]
+#[derive(Clone, Copy, PartialEq, Eq)]
 pub enum Punct {
     /// `[`
     OpenBracket,

@@ -5,7 +5,7 @@ use crate::punct::Punct;
 use lk_base::{Kind, Spot};
 
 /// What a token is.
-#[derive(Clone, Copy, Debug, PartialEq, Eq)]
+#[derive(Clone, Copy, PartialEq, Eq)]
 pub enum TokenKind {
     /// A word that is no keyword.
     Word,

@@ -10,7 +10,7 @@ use lk_facts::{Edge, Label, Mark, Site};
 use std::alloc::Global;
 
 /// Which way an edge passes a site.
-#[derive(Clone, Copy, Debug, PartialEq, Eq)]
+#[derive(Clone, Copy, PartialEq, Eq)]
 pub enum Side {
     /// Into it: by an Enter.
     Into,
@@ -19,7 +19,7 @@ pub enum Side {
 }
 
 /// An edge that passes a site.
-#[derive(Clone, Copy, Debug, PartialEq, Eq)]
+#[derive(Clone, Copy, PartialEq, Eq)]
 pub struct Passage {
     /// The site that it passes.
     pub site: Site,

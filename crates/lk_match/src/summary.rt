@@ -17,7 +17,7 @@ use lk_sets::BitRows;
 use std::alloc::Global;
 
 /// A summary edge: a Plain edge, or a call and return at one site with the level between them inside (LOCKSMITH).
-#[derive(Clone, Copy, Debug, PartialEq, Eq)]
+#[derive(Clone, Copy, PartialEq, Eq)]
 pub struct SummaryEdge {
     /// Where it begins.
     pub from: Label,

@@ -6,7 +6,7 @@ ghost use Rattle.lk_parse_expr.specs.Heads as spec;
 use lk_base::{Name, Seq};
 
 /// Whether a declarator has a name, where it stands.
-#[derive(Clone, Copy, Debug, PartialEq, Eq)]
+#[derive(Clone, Copy, PartialEq, Eq)]
 pub enum Naming {
     /// It has one: in a declaration and in a member.
     Named,

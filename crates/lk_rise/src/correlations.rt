@@ -13,7 +13,7 @@ use std::alloc::Global;
 use std::marker::Model;
 
 /// An access that a function makes, itself or in what it runs or starts: an item or a racing item, by numbers alone.
-#[derive(Clone, Copy, Debug, PartialEq, Eq, Hash)]
+#[derive(Clone, Copy, PartialEq, Eq, Hash)]
 pub struct Correlation {
     /// The function.
     pub function: u32,

@@ -28,7 +28,7 @@ use std::alloc::Global;
 use std::marker::Model;
 
 /// An item of a point: what it accesses, itself or in what it runs or starts.
-#[derive(Clone, Copy, Debug, PartialEq, Eq)]
+#[derive(Clone, Copy, PartialEq, Eq)]
 pub struct ItemAt {
     /// The point.
     pub point: u32,

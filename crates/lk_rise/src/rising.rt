@@ -16,7 +16,7 @@ use lk_sets::IdSet;
 use std::alloc::Global;
 
 /// What the subject of an item is to the function above.
-#[derive(Clone, Copy, Debug, PartialEq, Eq)]
+#[derive(Clone, Copy, PartialEq, Eq)]
 pub enum Subjects {
     /// The subject is a label, and above it is each label that this one may be outside.
     AsOutside,

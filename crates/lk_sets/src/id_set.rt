@@ -9,7 +9,7 @@ use std::cmp::Ordering;
 use std::marker::Model;
 
 /// A set of numbers. A contract sees it as the list of its numbers in ascending order, each once.
-#[derive(Debug, Drop)]
+#[derive(Drop)]
 pub struct IdSet {
     ids: Vec<u32>,
 }

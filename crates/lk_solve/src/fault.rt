@@ -4,7 +4,7 @@ use lk_base::NoMemory;
 use lk_label::LabelFault;
 
 /// Why a program gets no verdicts.
-#[derive(Clone, Copy, Debug, PartialEq, Eq)]
+#[derive(Clone, Copy, PartialEq, Eq)]
 pub enum SolveFault {
     /// It has more than 65,536 labels.
     TooManyLabels,

@@ -1,7 +1,7 @@
 //! The operators of expressions.
 
 /// A binary operator of the ten levels from `||` to `*` (C99 6.5.5 to 6.5.14).
-#[derive(Clone, Copy, Debug, PartialEq, Eq)]
+#[derive(Clone, Copy, PartialEq, Eq)]
 pub enum BinaryOperator {
     /// `||`
     Or,
@@ -42,7 +42,7 @@ pub enum BinaryOperator {
 }
 
 /// An operator of assignment (C99 6.5.16).
-#[derive(Clone, Copy, Debug, PartialEq, Eq)]
+#[derive(Clone, Copy, PartialEq, Eq)]
 pub enum AssignOperator {
     /// `=`
     Plain,
@@ -69,7 +69,7 @@ pub enum AssignOperator {
 }
 
 /// An operator that counts its operand up or down (C99 6.5.2.4, 6.5.3.1).
-#[derive(Clone, Copy, Debug, PartialEq, Eq)]
+#[derive(Clone, Copy, PartialEq, Eq)]
 pub enum StepOperator {
     /// `++`
     Increment,
@@ -78,7 +78,7 @@ pub enum StepOperator {
 }
 
 /// A unary operator before its operand (C99 6.5.3.2, 6.5.3.3).
-#[derive(Clone, Copy, Debug, PartialEq, Eq)]
+#[derive(Clone, Copy, PartialEq, Eq)]
 pub enum PrefixOperator {
     /// `&`
     Address,

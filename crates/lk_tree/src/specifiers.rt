@@ -1,7 +1,7 @@
 //! The plain words among the specifiers of a declaration.
 
 /// A storage class (C99 6.7.1).
-#[derive(Clone, Copy, Debug, PartialEq, Eq)]
+#[derive(Clone, Copy, PartialEq, Eq)]
 pub enum Storage {
     /// `typedef`
     Typedef,
@@ -16,7 +16,7 @@ pub enum Storage {
 }
 
 /// A qualifier (C99 6.7.3).
-#[derive(Clone, Copy, Debug, PartialEq, Eq)]
+#[derive(Clone, Copy, PartialEq, Eq)]
 pub enum Qualifier {
     /// `const`
     Const,
@@ -27,7 +27,7 @@ pub enum Qualifier {
 }
 
 /// A word of a type (C99 6.7.2).
-#[derive(Clone, Copy, Debug, PartialEq, Eq)]
+#[derive(Clone, Copy, PartialEq, Eq)]
 pub enum TypeWord {
     /// `void`
     Void,

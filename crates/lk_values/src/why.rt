@@ -3,7 +3,7 @@ ghost use Rattle.std.specs.Prelude.{◌≡◌};
 ghost use Rattle.lk_values.specs.Causes.{rank, ◌or◌, ◌when◌};
 
 /// Why a step is undefined (C99 3.4.3). Where several causes hold, the first in this order is answered.
-#[derive(Clone, Copy, Debug, PartialEq, Eq)]
+#[derive(Clone, Copy, PartialEq, Eq)]
 pub enum Why {
     /// A signed result isn't a value of its type (C99 6.5, 5).
     Overflow,
