@@ -88,17 +88,48 @@ fn all_externals(mut walk: Elaborator, list: &[Decl]) -> Result<Elaborator, NoMe
     made.and(Ok(walk))
 }
 
-/// The typed tree of these parts.
-fn unit_of(
-    types: SourceTypes,
-    entities: Entities,
+/// What is made of a source beside its types and entities, and what was found of it.
+#[derive(Drop)]
+struct Rest {
     records: Records,
     objects: Seq<StaticObject>,
     bodies: Seq<Body>,
-) -> Result<TypedUnit, NoMemory>
-    ensures { IfOk result (IsUnitOf types entities records objects bodies) }
+}
+
+/// What was made of a source, in parts.
+fn in_parts(walk: Elaborator) -> (SourceTypes, Entities, Rest)
+    ensures types { result.0 ≡ walk.types }
+    ensures entities { result.1 ≡ walk.entities }
+    ensures records { result.2.records ≡ walk.records }
+    ensures objects { result.2.objects ≡ walk.objects.items }
+    ensures bodies { result.2.bodies ≡ walk.bodies.items }
 {
-    let Finished { types, entities } = finish(types, entities, &records)?;
+    let Elaborator {
+        types,
+        records,
+        entities,
+        objects,
+        bodies,
+        ..
+    } = walk;
+    let rest = Rest {
+        records,
+        objects: Seq::new(objects),
+        bodies: Seq::new(bodies),
+    };
+    (types, entities, rest)
+}
+
+/// The typed tree of these parts.
+fn unit_of(types: SourceTypes, entities: Entities, rest: Rest) -> Result<TypedUnit, NoMemory>
+    ensures { IfOk result (IsUnitOf types entities rest.records rest.objects rest.bodies) }
+{
+    let Finished { types, entities } = finish(types, entities, &rest.records)?;
+    let Rest {
+        records,
+        objects,
+        bodies,
+    } = rest;
     Ok(TypedUnit {
         types,
         structs: Seq::new(records.tags()),
@@ -112,22 +143,8 @@ fn unit_of(
 fn typed_unit(walk: Elaborator) -> Result<TypedUnit, NoMemory>
     ensures { IfOk result (IsTreeOf walk) }
 {
-    let Elaborator {
-        types,
-        records,
-        entities,
-        objects,
-        bodies,
-        ..
-    } = walk;
-    let typed = unit_of(
-        types,
-        entities,
-        records,
-        Seq::new(objects),
-        Seq::new(bodies),
-    )?;
-    Ok(typed)
+    let (types, entities, rest) = in_parts(walk);
+    unit_of(types, entities, rest)
 }
 
 /// Whether a struct is complete, or was never defined.
