@@ -372,8 +372,9 @@ impl<
     {
         let spot = cursor.spot();
         let name = cursor.word()?;
+        let head = Head::Bare(name.copy()?);
         let value = self.value(cursor)?;
-        cursor.declare(name.copy()?, false)?;
+        let (name, value) = cursor.declared((name, value), head, false)?;
         Ok(Found {
             tree: Item {
                 spot,
