@@ -100,100 +100,73 @@ fn judge_form(checker: &mut Checker, e: &Expr, stands: Stands) -> Result<Found, 
     match &e.form {
         ExprForm::Comma(left, right) => {
             let (a, b) = judge_two(checker, left.get(), right.get(), in_size)?;
-            let found = checker.settle_comma(e, &a, &b)?;
-            Ok(found)
+            checker.settle_comma(e, &a, &b)
         }
         ExprForm::Assign(op, left, right) => {
             let (a, b) = judge_sides(checker, *op, left.get(), right.get(), in_size)?;
-            let found = checker.settle_assign(e, *op, &a, &b)?;
-            Ok(found)
+            checker.settle_assign(e, *op, &a, &b)
         }
         ExprForm::Choice(condition, taken, other) => {
             let c = judge_operand(checker, condition.get(), in_size)?;
             let (a, b) = judge_two(checker, taken.get(), other.get(), in_size)?;
-            let found = checker.settle_choice(e, &c, &a, &b)?;
-            Ok(found)
+            checker.settle_choice(e, &c, &a, &b)
         }
         ExprForm::Binary(op, left, right) => {
             let (a, b) = judge_two(checker, left.get(), right.get(), in_size)?;
-            let found = checker.settle_binary(e, *op, &a, &b)?;
-            Ok(found)
+            checker.settle_binary(e, *op, &a, &b)
         }
         ExprForm::Cast(target, operand) => {
             let t = type_name(checker, target.get(), in_size)?;
             let inner = in_cast(&t, in_size);
             let a = judge(checker, operand.get(), inner)?;
-            let found = checker.settle_cast(e, &t, &a)?;
-            Ok(found)
+            checker.settle_cast(e, &t, &a)
         }
         ExprForm::Index(array, inner) => {
             let (a, b) = judge_two(checker, array.get(), inner.get(), in_size)?;
-            let found = checker.settle_index(e, &a, &b)?;
-            Ok(found)
+            checker.settle_index(e, &a, &b)
         }
         ExprForm::Pre(op, operand) => {
             let a = judge_operand(checker, operand.get(), in_size)?;
-            let found = checker.settle_pre(e, *op, &a)?;
-            Ok(found)
+            checker.settle_pre(e, *op, &a)
         }
         ExprForm::Post(op, operand) => {
             let a = judge_operand(checker, operand.get(), in_size)?;
-            let found = checker.settle_post(e, *op, &a)?;
-            Ok(found)
+            checker.settle_post(e, *op, &a)
         }
         ExprForm::Prefix(op, operand) => {
             let inner = checker.in_prefix(*op, stands);
             let a = judge(checker, operand.get(), inner)?;
-            let found = checker.settle_prefix(e, *op, &a)?;
-            Ok(found)
+            checker.settle_prefix(e, *op, &a)
         }
         ExprForm::SizeofExpr(operand) => {
             let a = judge_operand(checker, operand.get(), in_size)?;
-            let found = checker.settle_sizeof_expr(e, &a, in_size)?;
-            Ok(found)
+            checker.settle_sizeof_expr(e, &a, in_size)
         }
         ExprForm::SizeofType(named) => {
             let t = type_name(checker, named.get(), in_size)?;
-            let found = checker.settle_sizeof_type(e, &t, in_size)?;
-            Ok(found)
+            checker.settle_sizeof_type(e, &t, in_size)
         }
         ExprForm::Call(function, arguments) => {
             let f = judge_function(checker, function.get(), in_size)?;
             let (_, given) = judge_arguments(checker, &f, arguments.list(), in_size)?;
-            let found = checker.settle_call(e, stands.role, &f, &given)?;
-            Ok(found)
+            checker.settle_call(e, stands.role, &f, &given)
         }
         ExprForm::Member(object, name) => {
             let a = judge_operand(checker, object.get(), in_size)?;
-            let found = checker.settle_dot(e, &a, name)?;
-            Ok(found)
+            checker.settle_dot(e, &a, name)
         }
         ExprForm::Arrow(pointer, name) => {
             let a = judge_operand(checker, pointer.get(), in_size)?;
-            let found = checker.settle_arrow(e, &a, name)?;
-            Ok(found)
+            checker.settle_arrow(e, &a, name)
         }
         ExprForm::Paren(inner) => {
             let inside = checker.in_parentheses(stands);
             let a = judge(checker, inner.get(), inside)?;
-            let found = checker.settle_paren(e, &a)?;
-            Ok(found)
+            checker.settle_paren(e, &a)
         }
-        ExprForm::Number(kind, n) => {
-            let found = checker.settle_number(e, *kind, *n)?;
-            Ok(found)
-        }
-        ExprForm::Char(n) => {
-            let found = checker.settle_char(e, *n)?;
-            Ok(found)
-        }
-        ExprForm::Word(name) => {
-            let found = checker.settle_word(e, name, stands.role)?;
-            Ok(found)
-        }
-        ExprForm::Text(bytes) => {
-            let found = checker.settle_text(e, bytes.list())?;
-            Ok(found)
-        }
+        ExprForm::Number(kind, n) => { checker.settle_number(e, *kind, *n) }
+        ExprForm::Char(n) => { checker.settle_char(e, *n) }
+        ExprForm::Word(name) => { checker.settle_word(e, name, stands.role) }
+        ExprForm::Text(bytes) => { checker.settle_text(e, bytes.list()) }
     }
 }

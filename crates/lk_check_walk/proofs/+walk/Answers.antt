@@ -7,6 +7,7 @@ use Rattle.lk_typed.specs.DeclarationRules.{InType}
 use Rattle.lk_typed.specs.Meaning.{meaning}
 use Rattle.std.specs.Int.{w32}
 use Rattle.std.proofs.lemmas.Int.{to_z-of_z}
+use Rattle.std.proofs.lemmas.Result.{IfOk-weaker}
 use Rattle.std.proofs.lemmas.List.{length-take-le, take_all}
 use Rattle.lk_typed.specs.Env.{AsOperand, as_operand, extend, nothing, look_up, look_up_tag}
 use Rattle.lk_typed.specs.Expressions.{breach_at, expression, plainly, specifiers_found}
@@ -83,161 +84,161 @@ expressions::judge-returns-clause-further t c =
 pub expressions::judge-returns-clause-operand : goal.expressions::judge-returns-clause-operand
 expressions::judge-returns-clause-operand t c = judged_operand c.args.checker.now c.judge_form.new.checker c.args.stands c.args.e.now c.in_ok-found.found c.in_ok-found.ensures
 
-pub expressions::judge_form-returns-in_ok-found-in-Comma : goal.expressions::judge_form-returns-in_ok-found-in-Comma
-expressions::judge_form-returns-in_ok-found-in-Comma t c = λ at_end env is.
+pub expressions::judge_form-returns-in_ok-a-in-Comma : goal.expressions::judge_form-returns-in_ok-a-in-Comma
+expressions::judge_form-returns-in_ok-a-in-Comma t c = IfOk-weaker c.settle_comma.result _ _ (λ found settled at_end env is.
     let e = c.args.e.now in
     let left = c.in-Comma.left in
     let right = c.in-Comma.right in
     let x = expression left (as_operand env) in
     let y = expression right (as_operand (behind_operand left env)) in
     let layered = layer_is e (form.Comma left right) (ExprForm-F.Comma left right) c.in-Comma.is (form.rolls-Comma left right) in
-    arm_two at_end c.args.checker.now c.judge_two.new.checker c.settle_comma.new.self e left right env (as_operand (behind_operand left env)) c.in_ok-a-in-Comma.a c.in_ok-a-in-Comma.b c.in_ok-found-in-Comma.found
+    arm_two at_end c.args.checker.now c.judge_two.new.checker c.settle_comma.new.self e left right env (as_operand (behind_operand left env)) c.in_ok-a-in-Comma.a c.in_ok-a-in-Comma.b found
     (ExprForm-F.Comma left right) (ExprForm-F.Comma x y)
     ((subst (λ l. JudgesTwo c.args.checker.now c.judge_two.new.checker c.args.stands.in_size l right c.in_ok-a-in-Comma.a c.in_ok-a-in-Comma.b) c.get.ensures
     (subst (λ r. JudgesTwo c.args.checker.now c.judge_two.new.checker c.args.stands.in_size c.get.result.now r c.in_ok-a-in-Comma.a c.in_ok-a-in-Comma.b) c.get-in-Comma.ensures c.in_ok-a-in-Comma.ensures.judged)) at_end env is.is_in is.in_size) layered refl refl refl
-    (λ behind is_behind first second. c.in_ok-found-in-Comma.ensures env behind x y is_behind (λ code. ap (λ l. breach_at (plainly l) code) layered) first second)
+    (λ behind is_behind first second. settled env behind x y is_behind (λ code. ap (λ l. breach_at (plainly l) code) layered) first second)) c.settle_comma.ensures
 
-pub expressions::judge_form-returns-in_ok-found-in-Binary : goal.expressions::judge_form-returns-in_ok-found-in-Binary
-expressions::judge_form-returns-in_ok-found-in-Binary t c = λ at_end env is.
+pub expressions::judge_form-returns-in_ok-a-in-Binary : goal.expressions::judge_form-returns-in_ok-a-in-Binary
+expressions::judge_form-returns-in_ok-a-in-Binary t c = IfOk-weaker c.settle_binary.result _ _ (λ found settled at_end env is.
     let e = c.args.e.now in
     let left = c.in-Binary.left in
     let right = c.in-Binary.right in
     let x = expression left (as_operand env) in
     let y = expression right (as_operand (behind_operand left env)) in
     let layered = layer_is e (form.Binary c.in-Binary.op left right) (ExprForm-F.Binary c.in-Binary.op left right) c.in-Binary.is (form.rolls-Binary c.in-Binary.op left right) in
-    arm_two at_end c.args.checker.now c.judge_two-in-Binary.new.checker c.settle_binary.new.self e left right env (as_operand (behind_operand left env)) c.in_ok-a-in-Binary.a c.in_ok-a-in-Binary.b c.in_ok-found-in-Binary.found
+    arm_two at_end c.args.checker.now c.judge_two-in-Binary.new.checker c.settle_binary.new.self e left right env (as_operand (behind_operand left env)) c.in_ok-a-in-Binary.a c.in_ok-a-in-Binary.b found
     (ExprForm-F.Binary c.in-Binary.op left right) (ExprForm-F.Binary c.in-Binary.op x y)
     ((subst (λ l. JudgesTwo c.args.checker.now c.judge_two-in-Binary.new.checker c.args.stands.in_size l right c.in_ok-a-in-Binary.a c.in_ok-a-in-Binary.b) c.get-in-Binary.ensures
     (subst (λ r. JudgesTwo c.args.checker.now c.judge_two-in-Binary.new.checker c.args.stands.in_size c.get-in-Binary.result.now r c.in_ok-a-in-Binary.a c.in_ok-a-in-Binary.b) c.get-in-Binary-2.ensures c.in_ok-a-in-Binary.ensures.judged)) at_end env is.is_in is.in_size) layered refl refl refl
-    (λ behind is_behind first second. c.in_ok-found-in-Binary.ensures env behind x y is_behind (λ code. ap (λ l. breach_at (plainly l) code) layered) first second)
+    (λ behind is_behind first second. settled env behind x y is_behind (λ code. ap (λ l. breach_at (plainly l) code) layered) first second)) c.settle_binary.ensures
 
-pub expressions::judge_form-returns-in_ok-found-in-Index : goal.expressions::judge_form-returns-in_ok-found-in-Index
-expressions::judge_form-returns-in_ok-found-in-Index t c = λ at_end env is.
+pub expressions::judge_form-returns-in_ok-a-in-Index : goal.expressions::judge_form-returns-in_ok-a-in-Index
+expressions::judge_form-returns-in_ok-a-in-Index t c = IfOk-weaker c.settle_index.result _ _ (λ found settled at_end env is.
     let e = c.args.e.now in
     let left = c.in-Index.array in
     let right = c.in-Index.inner in
     let x = expression left (as_operand env) in
     let y = expression right (as_operand (behind_operand left env)) in
     let layered = layer_is e (form.Index left right) (ExprForm-F.Index left right) c.in-Index.is (form.rolls-Index left right) in
-    arm_two at_end c.args.checker.now c.judge_two-in-Index.new.checker c.settle_index.new.self e left right env (as_operand (behind_operand left env)) c.in_ok-a-in-Index.a c.in_ok-a-in-Index.b c.in_ok-found-in-Index.found
+    arm_two at_end c.args.checker.now c.judge_two-in-Index.new.checker c.settle_index.new.self e left right env (as_operand (behind_operand left env)) c.in_ok-a-in-Index.a c.in_ok-a-in-Index.b found
     (ExprForm-F.Index left right) (ExprForm-F.Index x y)
     ((subst (λ l. JudgesTwo c.args.checker.now c.judge_two-in-Index.new.checker c.args.stands.in_size l right c.in_ok-a-in-Index.a c.in_ok-a-in-Index.b) c.get-in-Index.ensures
     (subst (λ r. JudgesTwo c.args.checker.now c.judge_two-in-Index.new.checker c.args.stands.in_size c.get-in-Index.result.now r c.in_ok-a-in-Index.a c.in_ok-a-in-Index.b) c.get-in-Index-2.ensures c.in_ok-a-in-Index.ensures.judged)) at_end env is.is_in is.in_size) layered refl refl refl
-    (λ behind is_behind first second. c.in_ok-found-in-Index.ensures env behind x y is_behind (λ code. ap (λ l. breach_at (plainly l) code) layered) first second)
+    (λ behind is_behind first second. settled env behind x y is_behind (λ code. ap (λ l. breach_at (plainly l) code) layered) first second)) c.settle_index.ensures
 
-pub expressions::judge_form-returns-in_ok-found-in-Pre : goal.expressions::judge_form-returns-in_ok-found-in-Pre
-expressions::judge_form-returns-in_ok-found-in-Pre t c = λ at_end env is.
+pub expressions::judge_form-returns-in_ok-a-in-Pre : goal.expressions::judge_form-returns-in_ok-a-in-Pre
+expressions::judge_form-returns-in_ok-a-in-Pre t c = IfOk-weaker c.settle_pre.result _ _ (λ found settled at_end env is.
     let e = c.args.e.now in
     let part = c.in-Pre.operand in
     let role = AsOperand in
     let x = expression part (in_role env role) in
     let layered = layer_is e (form.Pre c.in-Pre.op part) (ExprForm-F.Pre c.in-Pre.op part) c.in-Pre.is (form.rolls-Pre c.in-Pre.op part) in
-    arm_one at_end c.args.checker.now c.judge_operand-in-Pre.new.checker c.settle_pre.new.self c.args.stands (operand_in c.args.stands.in_size) e part env c.in_ok-a-in-Pre.a c.in_ok-found-in-Pre.found role
+    arm_one at_end c.args.checker.now c.judge_operand-in-Pre.new.checker c.settle_pre.new.self c.args.stands (operand_in c.args.stands.in_size) e part env c.in_ok-a-in-Pre.a found role
     (ExprForm-F.Pre c.in-Pre.op part) (λ x. ExprForm-F.Pre c.in-Pre.op x) is (subst (λ part. Judges c.args.checker.now c.judge_operand-in-Pre.new.checker (operand_in c.args.stands.in_size) part c.in_ok-a-in-Pre.a) c.get-in-Pre.ensures c.in_ok-a-in-Pre.ensures.judged) refl refl layered refl refl refl
-    (λ behind size is_behind operand. c.in_ok-found-in-Pre.ensures env behind x is_behind (λ code. ap (λ l. breach_at (plainly l) code) layered) operand)
+    (λ behind size is_behind operand. settled env behind x is_behind (λ code. ap (λ l. breach_at (plainly l) code) layered) operand)) c.settle_pre.ensures
 
-pub expressions::judge_form-returns-in_ok-found-in-Post : goal.expressions::judge_form-returns-in_ok-found-in-Post
-expressions::judge_form-returns-in_ok-found-in-Post t c = λ at_end env is.
+pub expressions::judge_form-returns-in_ok-a-in-Post : goal.expressions::judge_form-returns-in_ok-a-in-Post
+expressions::judge_form-returns-in_ok-a-in-Post t c = IfOk-weaker c.settle_post.result _ _ (λ found settled at_end env is.
     let e = c.args.e.now in
     let part = c.in-Post.operand in
     let role = AsOperand in
     let x = expression part (in_role env role) in
     let layered = layer_is e (form.Post c.in-Post.op part) (ExprForm-F.Post c.in-Post.op part) c.in-Post.is (form.rolls-Post c.in-Post.op part) in
-    arm_one at_end c.args.checker.now c.judge_operand-in-Post.new.checker c.settle_post.new.self c.args.stands (operand_in c.args.stands.in_size) e part env c.in_ok-a-in-Post.a c.in_ok-found-in-Post.found role
+    arm_one at_end c.args.checker.now c.judge_operand-in-Post.new.checker c.settle_post.new.self c.args.stands (operand_in c.args.stands.in_size) e part env c.in_ok-a-in-Post.a found role
     (ExprForm-F.Post c.in-Post.op part) (λ x. ExprForm-F.Post c.in-Post.op x) is (subst (λ part. Judges c.args.checker.now c.judge_operand-in-Post.new.checker (operand_in c.args.stands.in_size) part c.in_ok-a-in-Post.a) c.get-in-Post.ensures c.in_ok-a-in-Post.ensures.judged) refl refl layered refl refl refl
-    (λ behind size is_behind operand. c.in_ok-found-in-Post.ensures env behind x is_behind (λ code. ap (λ l. breach_at (plainly l) code) layered) operand)
+    (λ behind size is_behind operand. settled env behind x is_behind (λ code. ap (λ l. breach_at (plainly l) code) layered) operand)) c.settle_post.ensures
 
-pub expressions::judge_form-returns-in_ok-found-in-Prefix : goal.expressions::judge_form-returns-in_ok-found-in-Prefix
-expressions::judge_form-returns-in_ok-found-in-Prefix t c = λ at_end env is.
+pub expressions::judge_form-returns-in_ok-a-in-Prefix : goal.expressions::judge_form-returns-in_ok-a-in-Prefix
+expressions::judge_form-returns-in_ok-a-in-Prefix t c = IfOk-weaker c.settle_prefix.result _ _ (λ found settled at_end env is.
     let e = c.args.e.now in
     let part = c.in-Prefix.operand in
     let role = role_in_prefix c.in-Prefix.op env.role in
     let x = expression part (in_role env role) in
     let layered = layer_is e (form.Prefix c.in-Prefix.op part) (ExprForm-F.Prefix c.in-Prefix.op part) c.in-Prefix.is (form.rolls-Prefix c.in-Prefix.op part) in
-    arm_one at_end c.args.checker.now c.judge-in-Prefix.new.checker c.settle_prefix.new.self c.args.stands c.in_prefix-inner.result e part env c.in_ok-a-in-Prefix.a c.in_ok-found-in-Prefix.found role
+    arm_one at_end c.args.checker.now c.judge-in-Prefix.new.checker c.settle_prefix.new.self c.args.stands c.in_prefix-inner.result e part env c.in_ok-a-in-Prefix.a found role
     (ExprForm-F.Prefix c.in-Prefix.op part) (λ x. ExprForm-F.Prefix c.in-Prefix.op x) is
     (subst (λ part. Judges c.args.checker.now c.judge-in-Prefix.new.checker c.in_prefix-inner.result part c.in_ok-a-in-Prefix.a) c.get-in-Prefix.ensures c.in_ok-a-in-Prefix.ensures.judged) (c.in_prefix-inner.ensures.value ∙ ap (role_in_prefix c.in-Prefix.op) is.role) c.in_prefix-inner.ensures.in_size layered refl refl refl
-    (λ behind size is_behind operand. c.in_ok-found-in-Prefix.ensures env behind x is_behind (λ code. ap (λ l. breach_at (plainly l) code) layered) operand)
+    (λ behind size is_behind operand. settled env behind x is_behind (λ code. ap (λ l. breach_at (plainly l) code) layered) operand)) c.settle_prefix.ensures
 
-pub expressions::judge_form-returns-in_ok-found-in-SizeofExpr : goal.expressions::judge_form-returns-in_ok-found-in-SizeofExpr
-expressions::judge_form-returns-in_ok-found-in-SizeofExpr t c = λ at_end env is.
+pub expressions::judge_form-returns-in_ok-a-in-SizeofExpr : goal.expressions::judge_form-returns-in_ok-a-in-SizeofExpr
+expressions::judge_form-returns-in_ok-a-in-SizeofExpr t c = IfOk-weaker c.settle_sizeof_expr.result _ _ (λ found settled at_end env is.
     let e = c.args.e.now in
     let part = c.in-SizeofExpr.operand in
     let role = AsOperand in
     let x = expression part (in_role env role) in
     let layered = layer_is e (form.SizeofExpr part) (ExprForm-F.SizeofExpr part) c.in-SizeofExpr.is (form.rolls-SizeofExpr part) in
-    arm_one at_end c.args.checker.now c.judge_operand-in-SizeofExpr.new.checker c.settle_sizeof_expr.new.self c.args.stands (operand_in c.args.stands.in_size) e part env c.in_ok-a-in-SizeofExpr.a c.in_ok-found-in-SizeofExpr.found role
+    arm_one at_end c.args.checker.now c.judge_operand-in-SizeofExpr.new.checker c.settle_sizeof_expr.new.self c.args.stands (operand_in c.args.stands.in_size) e part env c.in_ok-a-in-SizeofExpr.a found role
     (ExprForm-F.SizeofExpr part) (λ x. ExprForm-F.SizeofExpr x) is (subst (λ part. Judges c.args.checker.now c.judge_operand-in-SizeofExpr.new.checker (operand_in c.args.stands.in_size) part c.in_ok-a-in-SizeofExpr.a) c.get-in-SizeofExpr.ensures c.in_ok-a-in-SizeofExpr.ensures.judged) refl refl layered refl refl refl
-    (λ behind size is_behind operand. c.in_ok-found-in-SizeofExpr.ensures env behind x is_behind (λ code. ap (λ l. breach_at (plainly l) code) layered) (is.in_size ∙ sym size) operand)
+    (λ behind size is_behind operand. settled env behind x is_behind (λ code. ap (λ l. breach_at (plainly l) code) layered) (is.in_size ∙ sym size) operand)) c.settle_sizeof_expr.ensures
 
-pub expressions::judge_form-returns-in_ok-found-in-Member : goal.expressions::judge_form-returns-in_ok-found-in-Member
-expressions::judge_form-returns-in_ok-found-in-Member t c = λ at_end env is.
+pub expressions::judge_form-returns-in_ok-a-in-Member : goal.expressions::judge_form-returns-in_ok-a-in-Member
+expressions::judge_form-returns-in_ok-a-in-Member t c = IfOk-weaker c.settle_dot.result _ _ (λ found settled at_end env is.
     let e = c.args.e.now in
     let part = c.in-Member.object in
     let role = AsOperand in
     let x = expression part (in_role env role) in
     let layered = layer_is e (form.Member part c.in-Member.name) (ExprForm-F.Member part c.in-Member.name) c.in-Member.is (form.rolls-Member part c.in-Member.name) in
-    arm_one at_end c.args.checker.now c.judge_operand-in-Member.new.checker c.settle_dot.new.self c.args.stands (operand_in c.args.stands.in_size) e part env c.in_ok-a-in-Member.a c.in_ok-found-in-Member.found role
+    arm_one at_end c.args.checker.now c.judge_operand-in-Member.new.checker c.settle_dot.new.self c.args.stands (operand_in c.args.stands.in_size) e part env c.in_ok-a-in-Member.a found role
     (ExprForm-F.Member part c.in-Member.name) (λ x. ExprForm-F.Member x c.in-Member.name) is (subst (λ part. Judges c.args.checker.now c.judge_operand-in-Member.new.checker (operand_in c.args.stands.in_size) part c.in_ok-a-in-Member.a) c.get-in-Member.ensures c.in_ok-a-in-Member.ensures.judged) refl refl layered refl refl refl
-    (λ behind size is_behind operand. c.in_ok-found-in-Member.ensures env behind x is_behind (λ code. ap (λ l. breach_at (plainly l) code) layered) operand)
+    (λ behind size is_behind operand. settled env behind x is_behind (λ code. ap (λ l. breach_at (plainly l) code) layered) operand)) c.settle_dot.ensures
 
-pub expressions::judge_form-returns-in_ok-found-in-Arrow : goal.expressions::judge_form-returns-in_ok-found-in-Arrow
-expressions::judge_form-returns-in_ok-found-in-Arrow t c = λ at_end env is.
+pub expressions::judge_form-returns-in_ok-a-in-Arrow : goal.expressions::judge_form-returns-in_ok-a-in-Arrow
+expressions::judge_form-returns-in_ok-a-in-Arrow t c = IfOk-weaker c.settle_arrow.result _ _ (λ found settled at_end env is.
     let e = c.args.e.now in
     let part = c.in-Arrow.pointer in
     let role = AsOperand in
     let x = expression part (in_role env role) in
     let layered = layer_is e (form.Arrow part c.in-Arrow.name) (ExprForm-F.Arrow part c.in-Arrow.name) c.in-Arrow.is (form.rolls-Arrow part c.in-Arrow.name) in
-    arm_one at_end c.args.checker.now c.judge_operand-in-Arrow.new.checker c.settle_arrow.new.self c.args.stands (operand_in c.args.stands.in_size) e part env c.in_ok-a-in-Arrow.a c.in_ok-found-in-Arrow.found role
+    arm_one at_end c.args.checker.now c.judge_operand-in-Arrow.new.checker c.settle_arrow.new.self c.args.stands (operand_in c.args.stands.in_size) e part env c.in_ok-a-in-Arrow.a found role
     (ExprForm-F.Arrow part c.in-Arrow.name) (λ x. ExprForm-F.Arrow x c.in-Arrow.name) is (subst (λ part. Judges c.args.checker.now c.judge_operand-in-Arrow.new.checker (operand_in c.args.stands.in_size) part c.in_ok-a-in-Arrow.a) c.get-in-Arrow.ensures c.in_ok-a-in-Arrow.ensures.judged) refl refl layered refl refl refl
-    (λ behind size is_behind operand. c.in_ok-found-in-Arrow.ensures env behind x is_behind (λ code. ap (λ l. breach_at (plainly l) code) layered) operand)
+    (λ behind size is_behind operand. settled env behind x is_behind (λ code. ap (λ l. breach_at (plainly l) code) layered) operand)) c.settle_arrow.ensures
 
-pub expressions::judge_form-returns-in_ok-found-in-Paren : goal.expressions::judge_form-returns-in_ok-found-in-Paren
-expressions::judge_form-returns-in_ok-found-in-Paren t c = λ at_end env is.
+pub expressions::judge_form-returns-in_ok-a-in-Paren : goal.expressions::judge_form-returns-in_ok-a-in-Paren
+expressions::judge_form-returns-in_ok-a-in-Paren t c = IfOk-weaker c.settle_paren.result _ _ (λ found settled at_end env is.
     let e = c.args.e.now in
     let part = c.in-Paren.inner in
     let role = role_in_parentheses env.role in
     let x = expression part (in_role env role) in
     let layered = layer_is e (form.Paren part) (ExprForm-F.Paren part) c.in-Paren.is (form.rolls-Paren part) in
-    arm_one at_end c.args.checker.now c.judge-in-Paren.new.checker c.settle_paren.new.self c.args.stands c.in_parentheses-inside.result e part env c.in_ok-a-in-Paren.a c.in_ok-found-in-Paren.found role
+    arm_one at_end c.args.checker.now c.judge-in-Paren.new.checker c.settle_paren.new.self c.args.stands c.in_parentheses-inside.result e part env c.in_ok-a-in-Paren.a found role
     (ExprForm-F.Paren part) (λ x. ExprForm-F.Paren x) is
     (subst (λ part. Judges c.args.checker.now c.judge-in-Paren.new.checker c.in_parentheses-inside.result part c.in_ok-a-in-Paren.a) c.get-in-Paren.ensures c.in_ok-a-in-Paren.ensures.judged) (c.in_parentheses-inside.ensures.value ∙ ap role_in_parentheses is.role) c.in_parentheses-inside.ensures.in_size layered refl refl refl
-    (λ behind size is_behind operand. c.in_ok-found-in-Paren.ensures env behind x is_behind (λ code. ap (λ l. breach_at (plainly l) code) layered) operand)
+    (λ behind size is_behind operand. settled env behind x is_behind (λ code. ap (λ l. breach_at (plainly l) code) layered) operand)) c.settle_paren.ensures
 
-pub expressions::judge_form-returns-in_ok-found-in-Number : goal.expressions::judge_form-returns-in_ok-found-in-Number
-expressions::judge_form-returns-in_ok-found-in-Number t c = λ at_end env is.
+pub expressions::judge_form-returns-in-Number : goal.expressions::judge_form-returns-in-Number
+expressions::judge_form-returns-in-Number t c = IfOk-weaker c.settle_number.result _ _ (λ found settled at_end env is.
     let e = c.args.e.now in
     let layered = layer_is e (form.Number c.in-Number.kind c.in-Number.n) (ExprForm-F.Number c.in-Number.kind c.in-Number.n) c.in-Number.is (form.rolls-Number c.in-Number.kind c.in-Number.n) in
-    arm_none at_end c.args.checker.now c.settle_number.new.self c.args.stands e env c.in_ok-found-in-Number.found (ExprForm-F.Number c.in-Number.kind c.in-Number.n) (ExprForm-F.Number c.in-Number.kind c.in-Number.n) c.requires.sound is layered refl refl refl
-    (λ is_behind. c.in_ok-found-in-Number.ensures env (extend env nothing) (λ code. ap (λ l. breach_at (plainly l) code) layered))
+    arm_none at_end c.args.checker.now c.settle_number.new.self c.args.stands e env found (ExprForm-F.Number c.in-Number.kind c.in-Number.n) (ExprForm-F.Number c.in-Number.kind c.in-Number.n) c.requires.sound is layered refl refl refl
+    (λ is_behind. settled env (extend env nothing) (λ code. ap (λ l. breach_at (plainly l) code) layered))) c.settle_number.ensures
 
-pub expressions::judge_form-returns-in_ok-found-in-Char : goal.expressions::judge_form-returns-in_ok-found-in-Char
-expressions::judge_form-returns-in_ok-found-in-Char t c = λ at_end env is.
+pub expressions::judge_form-returns-in-Char : goal.expressions::judge_form-returns-in-Char
+expressions::judge_form-returns-in-Char t c = IfOk-weaker c.settle_char.result _ _ (λ found settled at_end env is.
     let e = c.args.e.now in
     let layered = layer_is e (form.Char c.in-Char.n) (ExprForm-F.Char c.in-Char.n) c.in-Char.is (form.rolls-Char c.in-Char.n) in
-    arm_none at_end c.args.checker.now c.settle_char.new.self c.args.stands e env c.in_ok-found-in-Char.found (ExprForm-F.Char c.in-Char.n) (ExprForm-F.Char c.in-Char.n) c.requires.sound is layered refl refl refl
+    arm_none at_end c.args.checker.now c.settle_char.new.self c.args.stands e env found (ExprForm-F.Char c.in-Char.n) (ExprForm-F.Char c.in-Char.n) c.requires.sound is layered refl refl refl
     (λ is_behind.
-    subst (λ n. Settles c.args.checker.now c.settle_char.new.self e env (extend env nothing) (ExprForm-F.Char n) c.in_ok-found-in-Char.found) (to_z-of_z w32 c.in-Char.n (search rules))
-    (c.in_ok-found-in-Char.ensures env (extend env nothing) (λ code. ap (λ l. breach_at (plainly l) code) layered)))
+    subst (λ n. Settles c.args.checker.now c.settle_char.new.self e env (extend env nothing) (ExprForm-F.Char n) found) (to_z-of_z w32 c.in-Char.n (search rules))
+    (settled env (extend env nothing) (λ code. ap (λ l. breach_at (plainly l) code) layered)))) c.settle_char.ensures
 
-pub expressions::judge_form-returns-in_ok-found-in-Word : goal.expressions::judge_form-returns-in_ok-found-in-Word
-expressions::judge_form-returns-in_ok-found-in-Word t c = λ at_end env is.
+pub expressions::judge_form-returns-in-Word : goal.expressions::judge_form-returns-in-Word
+expressions::judge_form-returns-in-Word t c = IfOk-weaker c.settle_word.result _ _ (λ found settled at_end env is.
     let e = c.args.e.now in
     let layered = layer_is e (form.Word c.in-Word.name) (ExprForm-F.Word c.in-Word.name) c.in-Word.is (form.rolls-Word c.in-Word.name) in
-    arm_none at_end c.args.checker.now c.settle_word.new.self c.args.stands e env c.in_ok-found-in-Word.found (ExprForm-F.Word c.in-Word.name) (ExprForm-F.Word c.in-Word.name) c.requires.sound is layered refl refl refl
-    (λ is_behind. c.in_ok-found-in-Word.ensures env (extend env nothing) is.is_in is_behind is.role is.role (ap plainly layered))
+    arm_none at_end c.args.checker.now c.settle_word.new.self c.args.stands e env found (ExprForm-F.Word c.in-Word.name) (ExprForm-F.Word c.in-Word.name) c.requires.sound is layered refl refl refl
+    (λ is_behind. settled env (extend env nothing) is.is_in is_behind is.role is.role (ap plainly layered))) c.settle_word.ensures
 
-pub expressions::judge_form-returns-in_ok-found-in-Text : goal.expressions::judge_form-returns-in_ok-found-in-Text
-expressions::judge_form-returns-in_ok-found-in-Text t c = λ at_end env is.
+pub expressions::judge_form-returns-in-Text : goal.expressions::judge_form-returns-in-Text
+expressions::judge_form-returns-in-Text t c = IfOk-weaker c.settle_text.result _ _ (λ found settled at_end env is.
     let e = c.args.e.now in
     let layered = layer_is e (form.Text c.in-Text.bytes) (ExprForm-F.Text c.in-Text.bytes) c.in-Text.is (form.rolls-Text c.in-Text.bytes) in
-    arm_none at_end c.args.checker.now c.settle_text.new.self c.args.stands e env c.in_ok-found-in-Text.found (ExprForm-F.Text c.in-Text.bytes) (ExprForm-F.Text c.in-Text.bytes) c.requires.sound is layered refl refl refl
+    arm_none at_end c.args.checker.now c.settle_text.new.self c.args.stands e env found (ExprForm-F.Text c.in-Text.bytes) (ExprForm-F.Text c.in-Text.bytes) c.requires.sound is layered refl refl refl
     (λ is_behind.
-    subst (λ bytes. Settles c.args.checker.now c.settle_text.new.self e env (extend env nothing) (ExprForm-F.Text bytes) c.in_ok-found-in-Text.found) c.list-in-Text.ensures
-    (c.in_ok-found-in-Text.ensures env (extend env nothing) (λ code. ap (λ l. breach_at (plainly l) code) layered)))
+    subst (λ bytes. Settles c.args.checker.now c.settle_text.new.self e env (extend env nothing) (ExprForm-F.Text bytes) found) c.list-in-Text.ensures
+    (settled env (extend env nothing) (λ code. ap (λ l. breach_at (plainly l) code) layered)))) c.settle_text.ensures
 
-pub expressions::judge_form-returns-in_ok-found-in-Assign : goal.expressions::judge_form-returns-in_ok-found-in-Assign
-expressions::judge_form-returns-in_ok-found-in-Assign t c = λ at_end env is.
+pub expressions::judge_form-returns-in_ok-a-in-Assign : goal.expressions::judge_form-returns-in_ok-a-in-Assign
+expressions::judge_form-returns-in_ok-a-in-Assign t c = IfOk-weaker c.settle_assign.result _ _ (λ found settled at_end env is.
     let e = c.args.e.now in
     let op = c.in-Assign.op in
     let left = c.in-Assign.left in
@@ -249,16 +250,16 @@ expressions::judge_form-returns-in_ok-found-in-Assign t c = λ at_end env is.
     let sides =
     (subst (λ l. JudgesSides c.args.checker.now c.judge_sides.new.checker op c.args.stands.in_size l right c.in_ok-a-in-Assign.a c.in_ok-a-in-Assign.b) c.get-in-Assign.ensures
     (subst (λ r. JudgesSides c.args.checker.now c.judge_sides.new.checker op c.args.stands.in_size c.get-in-Assign.result.now r c.in_ok-a-in-Assign.a c.in_ok-a-in-Assign.b) c.get-in-Assign-2.ensures c.in_ok-a-in-Assign.ensures.judged)) in
-    arm_two at_end c.args.checker.now c.judge_sides.new.checker c.settle_assign.new.self e left right env inner c.in_ok-a-in-Assign.a c.in_ok-a-in-Assign.b c.in_ok-found-in-Assign.found
+    arm_two at_end c.args.checker.now c.judge_sides.new.checker c.settle_assign.new.self e left right env inner c.in_ok-a-in-Assign.a c.in_ok-a-in-Assign.b found
     (ExprForm-F.Assign op left right) (ExprForm-F.Assign op x y) (sides at_end env is.is_in is.in_size) layered refl refl refl
-    (λ behind is_behind first second. c.in_ok-found-in-Assign.ensures env behind x y is_behind (λ code. ap (λ l. breach_at (plainly l) code) layered) first second)
+    (λ behind is_behind first second. settled env behind x y is_behind (λ code. ap (λ l. breach_at (plainly l) code) layered) first second)) c.settle_assign.ensures
 
 pub expressions::judge_form-settle_choice-requires-clause-condition : goal.expressions::judge_form-settle_choice-requires-clause-condition
 expressions::judge_form-settle_choice-requires-clause-condition t c =
     operand_further c.judge_operand.new.checker.types c.judge_two-in-Choice.new.checker.types c.in_ok-c-in-Choice.c c.in_ok-a-in-Choice.ensures.further.longer c.in_ok-c-in-Choice.ensures.operand
 
-pub expressions::judge_form-returns-in_ok-found-in-Choice : goal.expressions::judge_form-returns-in_ok-found-in-Choice
-expressions::judge_form-returns-in_ok-found-in-Choice t c = λ at_end env is.
+pub expressions::judge_form-returns-in_ok-a-in-Choice : goal.expressions::judge_form-returns-in_ok-a-in-Choice
+expressions::judge_form-returns-in_ok-a-in-Choice t c = IfOk-weaker c.settle_choice.result _ _ (λ found settled at_end env is.
     let e = c.args.e.now in
     let condition = c.in-Choice.condition in
     let taken = c.in-Choice.taken in
@@ -268,14 +269,14 @@ expressions::judge_form-returns-in_ok-found-in-Choice t c = λ at_end env is.
     let last = c.judge_two-in-Choice.new.checker in
     let in_size = c.args.stands.in_size in
     let layered = layer_is e (form.Choice condition taken other) (ExprForm-F.Choice condition taken other) c.in-Choice.is (form.rolls-Choice condition taken other) in
-    arm_three at_end old middle last c.settle_choice.new.self c.args.stands e condition taken other env c.in_ok-c-in-Choice.c c.in_ok-a-in-Choice.a c.in_ok-a-in-Choice.b c.in_ok-found-in-Choice.found is
+    arm_three at_end old middle last c.settle_choice.new.self c.args.stands e condition taken other env c.in_ok-c-in-Choice.c c.in_ok-a-in-Choice.a c.in_ok-a-in-Choice.b found is
     (subst (λ part. Judges old middle (operand_in in_size) part c.in_ok-c-in-Choice.c) c.get-in-Choice.ensures c.in_ok-c-in-Choice.ensures.judged)
     (subst (λ l. JudgesTwo middle last in_size l other c.in_ok-a-in-Choice.a c.in_ok-a-in-Choice.b) c.get-in-Choice-2.ensures
     (subst (λ r. JudgesTwo middle last in_size c.get-in-Choice-2.result.now r c.in_ok-a-in-Choice.a c.in_ok-a-in-Choice.b) c.get-in-Choice-3.ensures c.in_ok-a-in-Choice.ensures.judged)) layered
-    (λ env behind z x y is_behind one two three. c.in_ok-found-in-Choice.ensures env behind z x y is_behind (λ code. ap (λ l. breach_at (plainly l) code) layered) one two three)
+    (λ env behind z x y is_behind one two three. settled env behind z x y is_behind (λ code. ap (λ l. breach_at (plainly l) code) layered) one two three)) c.settle_choice.ensures
 
-pub expressions::judge_form-returns-in_ok-found-in-Cast : goal.expressions::judge_form-returns-in_ok-found-in-Cast
-expressions::judge_form-returns-in_ok-found-in-Cast t c = λ at_end env is.
+pub expressions::judge_form-returns-in_ok-a-in-Cast : goal.expressions::judge_form-returns-in_ok-a-in-Cast
+expressions::judge_form-returns-in_ok-a-in-Cast t c = IfOk-weaker c.settle_cast.result _ _ (λ found settled at_end env is.
     let e = c.args.e.now in
     let n = c.in-Cast.target in
     let operand = c.in-Cast.operand in
@@ -284,29 +285,29 @@ expressions::judge_form-returns-in_ok-found-in-Cast t c = λ at_end env is.
     let last = c.judge.new.checker in
     let inner = c.in_cast-inner.result in
     let layered = layer_is e (form.Cast n operand) (ExprForm-F.Cast n operand) c.in-Cast.is (form.rolls-Cast n operand) in
-    arm_cast at_end old middle last c.settle_cast.new.self c.args.stands inner e operand n env c.in_ok-t-in-Cast.t c.in_ok-a-in-Cast.a c.in_ok-found-in-Cast.found is
+    arm_cast at_end old middle last c.settle_cast.new.self c.args.stands inner e operand n env c.in_ok-t-in-Cast.t c.in_ok-a-in-Cast.a found is
     (subst (λ n. NamesType old middle c.args.stands.in_size n c.in_ok-t-in-Cast.t) c.get-in-Cast.ensures c.in_ok-t-in-Cast.ensures.named) c.in_ok-t-in-Cast.ensures.known
     (c.in_cast-inner.ensures.value middle.types) c.in_cast-inner.ensures.in_size
     (subst (λ part. Judges middle last inner part c.in_ok-a-in-Cast.a) c.get-in-Cast-2.ensures c.in_ok-a-in-Cast.ensures.judged) layered
-    (λ behind x y is_behind target operand. c.in_ok-found-in-Cast.ensures env behind x y is_behind (λ code. ap (λ l. breach_at (plainly l) code) layered) target operand)
+    (λ behind x y is_behind target operand. settled env behind x y is_behind (λ code. ap (λ l. breach_at (plainly l) code) layered) target operand)) c.settle_cast.ensures
 
 pub expressions::judge_form-settle_cast-requires-clause-target : goal.expressions::judge_form-settle_cast-requires-clause-target
 expressions::judge_form-settle_cast-requires-clause-target t c =
     named_further c.type_name.new.checker.types c.judge.new.checker.types c.in_ok-t-in-Cast.t c.in_ok-a-in-Cast.ensures.further.longer c.in_ok-t-in-Cast.ensures.known
 
-pub expressions::judge_form-returns-in_ok-found-in-SizeofType : goal.expressions::judge_form-returns-in_ok-found-in-SizeofType
-expressions::judge_form-returns-in_ok-found-in-SizeofType t c = λ at_end env is.
+pub expressions::judge_form-returns-in_ok-t-in-SizeofType : goal.expressions::judge_form-returns-in_ok-t-in-SizeofType
+expressions::judge_form-returns-in_ok-t-in-SizeofType t c = IfOk-weaker c.settle_sizeof_type.result _ _ (λ found settled at_end env is.
     let e = c.args.e.now in
     let n = c.in-SizeofType.named in
     let old = c.args.checker.now in
     let middle = c.type_name-in-SizeofType.new.checker in
     let layered = layer_is e (form.SizeofType n) (ExprForm-F.SizeofType n) c.in-SizeofType.is (form.rolls-SizeofType n) in
-    arm_sizeof_type at_end old middle c.settle_sizeof_type.new.self c.args.stands e n env c.in_ok-t-in-SizeofType.t c.in_ok-found-in-SizeofType.found is
+    arm_sizeof_type at_end old middle c.settle_sizeof_type.new.self c.args.stands e n env c.in_ok-t-in-SizeofType.t found is
     (subst (λ n. NamesType old middle c.args.stands.in_size n c.in_ok-t-in-SizeofType.t) c.get-in-SizeofType.ensures c.in_ok-t-in-SizeofType.ensures.named) layered
-    (λ behind x is_behind size named. c.in_ok-found-in-SizeofType.ensures env behind x is_behind (λ code. ap (λ l. breach_at (plainly l) code) layered) (is.in_size ∙ sym size) named)
+    (λ behind x is_behind size named. settled env behind x is_behind (λ code. ap (λ l. breach_at (plainly l) code) layered) (is.in_size ∙ sym size) named)) c.settle_sizeof_type.ensures
 
-pub expressions::judge_form-returns-in_ok-found-in-Call : goal.expressions::judge_form-returns-in_ok-found-in-Call
-expressions::judge_form-returns-in_ok-found-in-Call t c = λ at_end env is.
+pub expressions::judge_form-returns-in_ok-given-in-Call : goal.expressions::judge_form-returns-in_ok-given-in-Call
+expressions::judge_form-returns-in_ok-given-in-Call t c = IfOk-weaker c.settle_call.result _ _ (λ found settled at_end env is.
     let e = c.args.e.now in
     let function = c.in-Call.function in
     let arguments = c.in-Call.arguments in
@@ -316,10 +317,10 @@ expressions::judge_form-returns-in_ok-found-in-Call t c = λ at_end env is.
     let f = c.in_ok-f-in-Call.f in
     let given = c.in_ok-given-in-Call.given in
     let layered = layer_is e (form.Call function arguments) (ExprForm-F.Call function arguments) c.in-Call.is (form.rolls-Call function arguments) in
-    arm_call at_end old middle last c.settle_call.new.self c.args.stands e function arguments env f given c.in_ok-found-in-Call.found c.requires.sound c.requires.role is
+    arm_call at_end old middle last c.settle_call.new.self c.args.stands e function arguments env f given found c.requires.sound c.requires.role is
     (subst (λ part. Judges old middle (function_in c.args.stands.in_size) part f) c.get-in-Call.ensures c.in_ok-f-in-Call.ensures.judged)
     (subst (λ es. JudgesArguments middle last c.args.stands.in_size f es given) c.list.ensures c.in_ok-given-in-Call.ensures.judged) layered
-    (λ behind x ys outside role function given. c.in_ok-found-in-Call.ensures env behind x ys (λ code. ap (λ l. breach_at (plainly l) code) layered) outside role function given)
+    (λ behind x ys outside role function given. settled env behind x ys (λ code. ap (λ l. breach_at (plainly l) code) layered) outside role function given)) c.settle_call.ensures
 
 pub expressions::judge_form-settle_call-requires-clause-role : goal.expressions::judge_form-settle_call-requires-clause-role
 expressions::judge_form-settle_call-requires-clause-role t c =
