@@ -14,9 +14,9 @@ use Rattle.lk_typed.specs.declared.expression.Callee.TheOpen.{TypedForm-F}
 use Rattle.lk_typed.specs.declared.expression.Change.{Change}
 use Rattle.lk_typed.specs.declared.expression.Change.TheVariants.{After, Before}
 use Rattle.lk_typed.specs.declared.expression.TypedExpr.{TypedExpr}
+use Rattle.lk_elaborator.specs.Standing.{MakesOwn}
+use Rattle.lk_elaborator.proofs.Knowing.{some_none}
 use Rattle.lk_elab_expr.specs.Deciding.{step_form}
-use Rattle.lk_elab_expr.specs.Standing.{MakesOwn}
-use Rattle.lk_elab_expr.proofs.Knowing.{some_none}
 
 pub plain_is : (o : AssignOperator) → operator_of o ≡ None → o ≡ assigning.Plain
 plain_is assigning.Plain e = refl

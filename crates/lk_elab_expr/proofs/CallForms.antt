@@ -18,19 +18,19 @@ use Rattle.lk_typed.specs.declared.expression.TypedExpr.{TypedExpr}
 use Rattle.lk_typed.specs.declared.library.LibraryCall.{LibraryCall, out-LibraryCall}
 use Rattle.lk_check_expr.specs.Functions.{rows_of, spelling}
 use Rattle.lk_check_expr.specs.declared.library.LibraryFunction.{LibraryFunction as Known}
+use Rattle.lk_elaborator.specs.Leading.{Leads}
+use Rattle.lk_elaborator.specs.Standing.{IsFormOf, MakesOwn, OpenForm}
+use Rattle.lk_elaborator.specs.declared.elaborator.Elaborator.{Elaborator}
 use Rattle.lk_elab_expr.specs.Allocating.{AreCounted, AreSizes, IsSizeOf, allocating}
 use Rattle.lk_elab_expr.specs.Calling.{IsCalled, IsCallWith, IsCreating}
-use Rattle.lk_elab_expr.specs.Leading.{Leads}
 use Rattle.lk_elab_expr.specs.LibraryForms.{IsCallOf, IsCreate}
 use Rattle.lk_elab_expr.specs.LibraryForms.IsCallOf.{listed, print}
 use Rattle.lk_elab_expr.specs.PassedArguments.{AreAllPassed}
 use Rattle.lk_elab_expr.specs.Starting.{StartsAt}
-use Rattle.lk_elab_expr.specs.Standing.{IsFormOf, MakesOwn, OpenForm}
 use Rattle.lk_elab_expr.specs.declared.allocations.Count.{Count}
 use Rattle.lk_elab_expr.specs.declared.allocations.Count.TheVariants as count
 use Rattle.lk_elab_expr.specs.declared.calls.Called.{Called}
 use Rattle.lk_elab_expr.specs.declared.calls.Called.TheVariants as by
-use Rattle.lk_elab_expr.specs.declared.elaborator.Elaborator.{Elaborator}
 use Rattle.lk_elab_expr.proofs.CalledWays.{library_passes, row_name}
 
 same_first : {x y : InPlace} {xs ys : List InPlace} → x ∷ xs ≡ y ∷ ys → x ≡ y

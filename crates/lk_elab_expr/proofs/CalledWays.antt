@@ -22,14 +22,14 @@ use Rattle.lk_check_expr.proofs.FunctionRows.{row_there}
 use Rattle.lk_check_expr.specs.Functions.{row_of, rows_of, spelling}
 use Rattle.lk_check_expr.specs.declared.library.LibraryFunction.{LibraryFunction as Known}
 use Rattle.lk_found.specs.declared.records.Meant.{Meant}
+use Rattle.lk_elaborator.specs.Telling.{IsMeant}
+use Rattle.lk_elaborator.specs.declared.elaborator.Elaborator.{Elaborator}
+use Rattle.lk_elaborator.proofs.Knowing.{same_some, some_none}
 use Rattle.lk_elab_expr.specs.CalledWords.{IsWordIn}
 use Rattle.lk_elab_expr.specs.Calling.{IsCalled, IsCalledBy}
 use Rattle.lk_elab_expr.specs.PassedArguments.{passes_to}
-use Rattle.lk_elab_expr.specs.Telling.{IsMeant}
 use Rattle.lk_elab_expr.specs.declared.calls.Called.{Called as How}
 use Rattle.lk_elab_expr.specs.declared.calls.Called.TheVariants as by
-use Rattle.lk_elab_expr.specs.declared.elaborator.Elaborator.{Elaborator}
-use Rattle.lk_elab_expr.proofs.Knowing.{same_some, some_none}
 
 -- ---- what is called, by what the name stands for
 

@@ -13,9 +13,9 @@ use Rattle.lk_typed.specs.Forms.{role_in_address, role_in_parentheses}
 use Rattle.lk_typed.specs.Typing.{Judged}
 use Rattle.lk_check_expr.specs.Looks.{is_address}
 use Rattle.lk_found.specs.Uses.{found_by}
+use Rattle.lk_elaborator.specs.declared.elaborator.Elaborator.{Elaborator}
 use Rattle.lk_elab_expr.specs.CalledWords.{HasRoutine, HasWord, IsEntityOf, IsRoutineIn}
 use Rattle.lk_elab_expr.specs.Starting.{IsStarted}
-use Rattle.lk_elab_expr.specs.declared.elaborator.Elaborator.{Elaborator}
 use Rattle.lk_elab_expr.proofs.FormsAt.{form_at}
 use Rattle.lk_elab_expr.proofs.Ruled.{judged_is}
 use Rattle.lk_elab_expr.proofs.Within.{expression_at, told_by, told_of}

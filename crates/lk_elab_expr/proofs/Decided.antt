@@ -14,12 +14,12 @@ use Rattle.lk_typed.specs.declared.expression.Callee.TheOpen.{TypedForm-F}
 use Rattle.lk_typed.specs.declared.expression.TypedExpr.{TypedExpr}
 use Rattle.lk_typed.specs.declared.members.Field.{Field as FieldFound}
 use Rattle.lk_typed.specs.declared.members.Members.TheVariants as members
+use Rattle.lk_elaborator.specs.Fields.{IsFieldNumber, IsNumberBehind, IsNumberOf, number_of_name}
+use Rattle.lk_elaborator.specs.Standing.{MakesOwn, form_of_two}
+use Rattle.lk_elaborator.specs.Telling.{HasFields, IsTrueOf}
+use Rattle.lk_elaborator.specs.declared.elaborator.Elaborator.{Elaborator}
+use Rattle.lk_elaborator.proofs.Knowing.{same_some, some_none}
 use Rattle.lk_elab_expr.specs.Deciding.{decided_by}
-use Rattle.lk_elab_expr.specs.Fields.{IsFieldNumber, IsNumberBehind, IsNumberOf, number_of_name}
-use Rattle.lk_elab_expr.specs.Standing.{MakesOwn, form_of_two}
-use Rattle.lk_elab_expr.specs.Telling.{HasFields, IsTrueOf}
-use Rattle.lk_elab_expr.specs.declared.elaborator.Elaborator.{Elaborator}
-use Rattle.lk_elab_expr.proofs.Knowing.{same_some, some_none}
 use Rattle.lk_elab_expr.proofs.Ruled.{arrow_members, dot_members}
 
 -- && and ||

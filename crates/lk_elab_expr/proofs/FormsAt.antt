@@ -21,8 +21,8 @@ use Rattle.lk_typed.specs.declared.expression.TypedExpr.{TypedExpr}
 use Rattle.lk_typed.specs.declared.library.LibraryCall.{LibraryCall, out-LibraryCall, roll-LibraryCall, out-roll-LibraryCall}
 use Rattle.lk_typed.specs.declared.expression.TypedForm.{TypedForm, out-TypedForm, roll-TypedForm, out-roll-TypedForm}
 use Rattle.lk_rules.proofs.Found.{Layer}
+use Rattle.lk_elaborator.specs.Standing.{OpenForm}
 use Rattle.lk_elab_expr.specs.PassedArguments.{passes_to}
-use Rattle.lk_elab_expr.specs.Standing.{OpenForm}
 use Rattle.lk_elab_expr.specs.Walking.{one_in, two_in}
 
 abbrev pub OpenCallee : Type 0

@@ -15,11 +15,11 @@ use Rattle.lk_typed.specs.declared.entity.Declaration.{Declaration}
 use Rattle.lk_typed.specs.declared.entity.Entity.{Entity}
 use Rattle.lk_typed.specs.declared.entity.Use.{Use}
 use Rattle.lk_typed.specs.declared.unit.Body.{Body}
-use Rattle.lk_elab_expr.specs.Gathering.{AreFinished, AreOfOne, BeginsWith, IsDeclaration, IsFinished, IsFirstOf, IsGathered, declaration_of, entity_at}
-use Rattle.lk_elab_expr.specs.Gathering.IsFirstOf.{unused, used}
+use Rattle.lk_elaborator.specs.Gathering.{AreFinished, AreOfOne, BeginsWith, IsDeclaration, IsFinished, IsFirstOf, IsGathered, declaration_of, entity_at}
+use Rattle.lk_elaborator.specs.Gathering.IsFirstOf.{unused, used}
+use Rattle.lk_elaborator.specs.declared.entities.Entities.{Entities}
+use Rattle.lk_elaborator.specs.declared.entities.NamedEntity.{NamedEntity}
 use Rattle.lk_elab_expr.specs.Naming.{AreFirstUses, AreNamesOf, IsNameOf, IsUseAt}
-use Rattle.lk_elab_expr.specs.declared.entities.Entities.{Entities}
-use Rattle.lk_elab_expr.specs.declared.entities.NamedEntity.{NamedEntity}
 
 at_index : {A : Type 0} (xs : List A) (i : ℕ) → i < length xs → (x : A) × (slice_get xs i ≡ Some x)
 at_index [] i within = absurd (omega (arith, within))

@@ -2,11 +2,11 @@
 use Rattle.std.proofs.Common.{◌≡◌, Bool, true, false, ℕ, refl, subst}
 use Rattle.std.specs.Prelude.{◌&&◌}
 use Rattle.lk_typed.specs.Ty.{Ty}
-use Rattle.lk_elab_expr.specs.Converting.{ConvertedTo, Gives, NodeSays}
-use Rattle.lk_elab_expr.specs.Leading.{Grows}
-use Rattle.lk_elab_expr.specs.declared.elaborator.Elaborator.{Elaborator}
-use Rattle.lk_elab_expr.specs.declared.parts.Part.{Part}
-use Rattle.lk_elab_expr.proofs.Growing.{leads_before, true_on}
+use Rattle.lk_elaborator.specs.Converting.{ConvertedTo, Gives, NodeSays}
+use Rattle.lk_elaborator.specs.Leading.{Grows}
+use Rattle.lk_elaborator.specs.declared.elaborator.Elaborator.{Elaborator}
+use Rattle.lk_elaborator.specs.declared.parts.Part.{Part}
+use Rattle.lk_elaborator.proofs.Growing.{leads_before, true_on}
 
 pub gives_later : (a b c : Elaborator) (n : ℕ) (part : Part) (Says : NodeSays) → Grows b c → Gives a b n part Says → Gives a c n part Says
 gives_later a b c n part Says grows gives = λ p same true_of tables leads folded t is. gives p same true_of tables (leads_before b c tables grows leads) folded t is

@@ -4,7 +4,7 @@ use Rattle.std.specs.Prelude.{nat_eq, if◌then◌else◌}
 use Rattle.std.specs.Map.{lookup}
 use Rattle.std.proofs.lemmas.Option.{none-some}
 use Rattle.indexmap.specs.IndexMap.{insert_entry}
-use Rattle.lk_elab_expr.specs.Keeping.{KeepsNumbers}
+use Rattle.lk_elaborator.specs.Keeping.{KeepsNumbers}
 
 by_name : (x : ℕ × ℕ) (xs ys : List (ℕ × ℕ)) (n e : ℕ) → (lookup (nat_eq n) xs ≡ Some e → lookup (nat_eq n) ys ≡ Some e) → (b : Bool) →
     (if b then Some x.1 else lookup (nat_eq n) xs) ≡ Some e → (if b then Some x.1 else lookup (nat_eq n) ys) ≡ Some e

@@ -9,13 +9,13 @@ use Rattle.lk_typed.specs.declared.expression.TypedExpr.{TypedExpr}
 use Rattle.lk_check_expr.specs.Functions.{spelling}
 use Rattle.lk_check_expr.specs.declared.library.LibraryFunction.{LibraryFunction}
 use Rattle.lk_check_expr.specs.declared.library.LibraryFunction.TheVariants as f
+use Rattle.lk_elaborator.proofs.Knowing.{same_some, some_none}
 use Rattle.lk_elab_expr.specs.LibraryForms.{IsOfOne, IsOfTwo, call_of_none, call_of_one, call_of_two, making_for, making_in}
 use Rattle.lk_elab_expr.specs.declared.library.Making.{Making}
 use Rattle.lk_elab_expr.specs.declared.library.Making.TheVariants.{OfNone, OfOne, OfTwo, OfAll, Print, Apart}
 use Rattle.lk_elab_expr.specs.declared.library.NoValue.{NoValue}
 use Rattle.lk_elab_expr.specs.declared.library.OneValue.{OneValue}
 use Rattle.lk_elab_expr.specs.declared.library.TwoValues.{TwoValues}
-use Rattle.lk_elab_expr.proofs.Knowing.{same_some, some_none}
 
 abbrev row_for : LibraryFunction → spec.Making → CallRow
 row_for function making = record { name = spelling function; making = making }

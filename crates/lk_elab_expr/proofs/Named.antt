@@ -17,11 +17,11 @@ use Rattle.lk_typed.specs.declared.names.Duration.{Duration}
 use Rattle.lk_typed.specs.declared.names.Duration.TheVariants.{Static, Automatic}
 use Rattle.lk_typed.specs.declared.names.Meaning.TheVariants as means
 use Rattle.lk_found.specs.declared.records.Meant.{Meant}
-use Rattle.lk_elab_expr.specs.Leading.{Leads, entity_by, local_by}
+use Rattle.lk_elaborator.specs.Leading.{Leads, entity_by, local_by}
+use Rattle.lk_elaborator.specs.Standing.{MakesOwn}
+use Rattle.lk_elaborator.specs.Telling.{IsMeant}
+use Rattle.lk_elaborator.specs.declared.elaborator.Elaborator.{Elaborator}
 use Rattle.lk_elab_expr.specs.Leaves.{IsSizeofForm, IsStorage}
-use Rattle.lk_elab_expr.specs.Standing.{MakesOwn}
-use Rattle.lk_elab_expr.specs.Telling.{IsMeant}
-use Rattle.lk_elab_expr.specs.declared.elaborator.Elaborator.{Elaborator}
 use Rattle.lk_elab_expr.proofs.Ruled.{size_of_expression, size_of_type}
 
 module _ (walk : Elaborator) (tables : Tables) (folded : Bool) (p : InPlace) (t : TypedExpr) (m : Meant) (is : IsMeant walk.types p m) where

@@ -23,16 +23,16 @@ use Rattle.lk_check_expr.specs.Arguments.{IsPassedAt}
 use Rattle.lk_check_expr.specs.declared.library.Passing.{Passing}
 use Rattle.lk_check_expr.specs.declared.library.Passing.TheVariants as passing
 use Rattle.lk_found.proofs.Turns.{drop_next, drop_none}
-use Rattle.lk_elab_expr.specs.Converting.{ConvertedTo, Gives, IsGivenAs, StandsAnyhow}
-use Rattle.lk_elab_expr.specs.Known.{OfEach}
-use Rattle.lk_elab_expr.specs.Leading.{Grows}
+use Rattle.lk_elaborator.specs.Converting.{ConvertedTo, Gives, IsGivenAs, StandsAnyhow}
+use Rattle.lk_elaborator.specs.Known.{OfEach}
+use Rattle.lk_elaborator.specs.Leading.{Grows}
+use Rattle.lk_elaborator.specs.declared.elaborator.Elaborator.{Elaborator}
+use Rattle.lk_elaborator.specs.declared.parts.Part.{Part}
+use Rattle.lk_elaborator.proofs.Growing.{grows_same, grows_then, leads_before, told_on, true_on}
+use Rattle.lk_elaborator.proofs.Knowing.{same_some, some_none}
 use Rattle.lk_elab_expr.specs.PassedArguments.{ArePassedSoFar, IsFirst, IsPassedFor, IsToldCall, PassesAll, PassesAs, PassesFor, PromotedValue, PutsArgument, PutsPart, WantsNone, passes_to}
 use Rattle.lk_elab_expr.specs.Walking.{IsToldOf}
-use Rattle.lk_elab_expr.specs.declared.elaborator.Elaborator.{Elaborator}
-use Rattle.lk_elab_expr.specs.declared.parts.Part.{Part}
 use Rattle.lk_elab_expr.proofs.CalledWays.{same_passes}
-use Rattle.lk_elab_expr.proofs.Growing.{grows_same, grows_then, leads_before, told_on, true_on}
-use Rattle.lk_elab_expr.proofs.Knowing.{same_some, some_none}
 use Rattle.lk_elab_expr.proofs.Roles.{argument_given}
 use Rattle.lk_elab_expr.proofs.Within.{expression_at, told_by, told_of}
 

@@ -4,10 +4,10 @@ use Rattle.std.specs.Prelude.{nat_eq}
 use Rattle.std.specs.Map.{lookup}
 use Rattle.std.proofs.lemmas.Option.{same_Some, slice_get_within}
 use Rattle.lk_typed.specs.declared.unit.Local.{Local}
-use Rattle.lk_elab_expr.specs.Keeping.{PutsNumber}
-use Rattle.lk_elab_expr.specs.PuttingLocals.{AreBefore, AreNumbered, Rise}
-use Rattle.lk_elab_expr.specs.declared.locals.Locals.{Locals}
-use Rattle.lk_elab_expr.proofs.Gathering.{at_before, at_last, at_split, same_or_not}
+use Rattle.lk_elaborator.specs.Keeping.{PutsNumber}
+use Rattle.lk_elaborator.specs.PuttingLocals.{AreBefore, AreNumbered, Rise}
+use Rattle.lk_elaborator.specs.declared.locals.Locals.{Locals}
+use Rattle.lk_elaborator.proofs.Gathering.{at_before, at_last, at_split, same_or_not}
 
 pub rise_last : (xs : List Local) (x : Local) → Rise xs → AreBefore xs x.ordinal → Rise (xs ++ x ∷ [])
 rise_last xs x rise before l m a b order at_l at_m = elim (at_split xs x m b at_m) [

@@ -17,8 +17,8 @@ use Rattle.lk_typed.specs.Library.{Passing, Converted, NullFor, Routine, Size}
 use Rattle.lk_typed.specs.Ty.{Ty, is_function}
 use Rattle.lk_typed.specs.Typing.{Typing}
 use Rattle.lk_rules.proofs.Found.{Layer}
+use Rattle.lk_elaborator.proofs.Knowing.{same_some, some_none}
 use Rattle.lk_elab_expr.specs.PassedArguments.{StandsPassed, passes_to}
-use Rattle.lk_elab_expr.proofs.Knowing.{same_some, some_none}
 
 -- what a form says of its operand that is converted directly
 abbrev Says : PlacedForm → Type 0

@@ -19,7 +19,7 @@ use Rattle.lk_typed.specs.Typing.{Typing, Address, Judged, Silent, Verdict, inte
 use Rattle.lk_typed.specs.declared.constant.Constant.{Constant}
 use Rattle.lk_typed.specs.declared.constant.Constant.TheVariants as constant
 use Rattle.lk_rules.proofs.Found.{expressions_follow_their_rules}
-use Rattle.lk_elab_expr.proofs.Knowing.{same_some, some_none}
+use Rattle.lk_elaborator.proofs.Knowing.{same_some, some_none}
 
 -- what is found by a form in its place
 abbrev pub judged_by : InPlace → PlacedForm → Judged

@@ -14,14 +14,14 @@ use Rattle.lk_typed.specs.Expressions.{expression}
 use Rattle.lk_typed.specs.Forms.{behind}
 use Rattle.lk_typed.specs.Ty.{Ty}
 use Rattle.lk_check_expr.specs.Looks.{is_multiply}
+use Rattle.lk_elaborator.specs.declared.elaborator.Elaborator.{Elaborator}
+use Rattle.lk_elaborator.proofs.Knowing.{same_some}
 use Rattle.lk_elab_expr.specs.Allocating.{IsBySizeof, IsSizeOf}
 use Rattle.lk_elab_expr.specs.PassedArguments.{IsToldCall}
 use Rattle.lk_elab_expr.specs.Walking.{IsToldOf, two_in}
 use Rattle.lk_elab_expr.specs.declared.allocations.Count.{Count}
 use Rattle.lk_elab_expr.specs.declared.allocations.Count.TheVariants as count
-use Rattle.lk_elab_expr.specs.declared.elaborator.Elaborator.{Elaborator}
 use Rattle.lk_elab_expr.proofs.FormsAt.{form_at}
-use Rattle.lk_elab_expr.proofs.Knowing.{same_some}
 use Rattle.lk_elab_expr.proofs.Passing.{told_argument}
 use Rattle.lk_elab_expr.proofs.Within.{expression_at, told_by}
 

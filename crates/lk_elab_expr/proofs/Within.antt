@@ -10,10 +10,10 @@ use Rattle.lk_typed.specs.Forms.{in_place, parts_in}
 use Rattle.lk_typed.specs.Nodes.{AnExpression, ATypeName, Placed, at}
 use Rattle.lk_typed.specs.Stands.{IsIn}
 use Rattle.lk_typed.specs.Stands.Stands.{here, inside}
-use Rattle.lk_elab_expr.specs.Telling.{IsTold, IsTrueOf, IsTrueOfName}
+use Rattle.lk_elaborator.specs.Telling.{IsTold, IsTrueOf, IsTrueOfName}
+use Rattle.lk_elaborator.specs.declared.elaborator.Elaborator.{Elaborator}
+use Rattle.lk_elaborator.proofs.Knowing.{same_some, some_none}
 use Rattle.lk_elab_expr.specs.Walking.{IsToldOf, one_in, two_in}
-use Rattle.lk_elab_expr.specs.declared.elaborator.Elaborator.{Elaborator}
-use Rattle.lk_elab_expr.proofs.Knowing.{same_some, some_none}
 
 abbrev pub parts_of : PlacedForm → List Placed
 parts_of form = map at_pair (parts_in (in_place AnExpression) (in_place ATypeName) form)

@@ -16,15 +16,15 @@ use Rattle.lk_typed.specs.declared.expression.TypedExpr.{TypedExpr}
 use Rattle.lk_typed.specs.declared.expression.TypedForm.{TypedForm, out-TypedForm}
 use Rattle.lk_typed.specs.declared.role.Role.{Role}
 use Rattle.lk_typed.specs.declared.typed.ExprType.{ExprType}
-use Rattle.lk_elab_expr.specs.Leading.{Leads}
+use Rattle.lk_elaborator.specs.Leading.{Leads}
+use Rattle.lk_elaborator.specs.Standing.{IsFormOf, StandsAs}
+use Rattle.lk_elaborator.specs.declared.elaborator.Elaborator.{Elaborator}
 use Rattle.lk_elab_expr.specs.PassedArguments.{IsToldCall}
-use Rattle.lk_elab_expr.specs.Standing.{IsFormOf, StandsAs}
 use Rattle.lk_elab_expr.specs.Walking.{IsToldOf}
 use Rattle.lk_elab_expr.specs.declared.allocations.Allocation.{Allocation}
 use Rattle.lk_elab_expr.specs.declared.allocations.Count.{Count}
 use Rattle.lk_elab_expr.specs.declared.allocations.Count.TheVariants as count
 use Rattle.lk_elab_expr.specs.declared.allocations.Size.{Size}
-use Rattle.lk_elab_expr.specs.declared.elaborator.Elaborator.{Elaborator}
 
 -- ---- the size
 

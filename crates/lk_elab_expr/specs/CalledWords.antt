@@ -5,10 +5,10 @@ use Rattle.lk_tree.specs.declared.expression.Expr.{Expr}
 use Rattle.lk_typed.specs.Elaborated.{InPlace, StandsFor, form_of}
 use Rattle.lk_typed.specs.Env.{Env, Name, Declared, look_up}
 use Rattle.lk_typed.specs.Expressions.{expression}
-use Rattle.lk_elab_expr.specs.Leading.{entity_by}
-use Rattle.lk_elab_expr.specs.Telling.{IsTrueOf}
+use Rattle.lk_elaborator.specs.Leading.{entity_by}
+use Rattle.lk_elaborator.specs.Telling.{IsTrueOf}
+use Rattle.lk_elaborator.specs.declared.elaborator.Elaborator.{Elaborator}
 use Rattle.lk_elab_expr.specs.Walking.{IsToldOf}
-use Rattle.lk_elab_expr.specs.declared.elaborator.Elaborator.{Elaborator}
 
 -- the expression with this number is this name, which stands in the other one for what it stands for there
 pub record IsWordIn (walk : Elaborator) (f : InPlace) (name : Name) (n : ℕ) : Type 0 where

@@ -17,20 +17,20 @@ use Rattle.lk_typed.specs.declared.library.LibraryCall.{LibraryCall, out-Library
 use Rattle.lk_typed.specs.declared.role.Role.{Role}
 use Rattle.lk_check_expr.specs.Functions.{rows_of}
 use Rattle.lk_check_expr.specs.declared.library.LibraryFunction.{LibraryFunction as Known}
+use Rattle.lk_elaborator.specs.Leading.{Leads, entity_by}
+use Rattle.lk_elaborator.specs.Standing.{IsFormOf, OpenForm, StandsAs}
+use Rattle.lk_elaborator.specs.Telling.{IsTrueOf}
+use Rattle.lk_elaborator.specs.declared.elaborator.Elaborator.{Elaborator}
 use Rattle.lk_elab_expr.specs.Allocating.{IsAllocating}
 use Rattle.lk_elab_expr.specs.CalledWords.{IsWordIn}
-use Rattle.lk_elab_expr.specs.Leading.{Leads, entity_by}
 use Rattle.lk_elab_expr.specs.LibraryForms.{IsCallOf}
 use Rattle.lk_elab_expr.specs.PassedArguments.{IsToldCall}
 use Rattle.lk_elab_expr.specs.Starting.{StartsAt}
-use Rattle.lk_elab_expr.specs.Standing.{IsFormOf, OpenForm, StandsAs}
-use Rattle.lk_elab_expr.specs.Telling.{IsTrueOf}
 use Rattle.lk_elab_expr.specs.Walking.{IsToldOf}
 use Rattle.lk_elab_expr.specs.declared.calls.Called.{Called}
 use Rattle.lk_elab_expr.specs.declared.calls.Called.TheVariants as by
 use Rattle.lk_elab_expr.specs.declared.calls.Calling.{Calling}
 use Rattle.lk_elab_expr.specs.declared.calls.Calling.TheVariants as calling
-use Rattle.lk_elab_expr.specs.declared.elaborator.Elaborator.{Elaborator}
 use Rattle.lk_elab_expr.specs.declared.ways.Way.{Way}
 
 -- ---- what is called

@@ -4,12 +4,12 @@ use Rattle.lk_tree.specs.declared.expression.DeclaratorForm.TheOpen.{ExprForm-F}
 use Rattle.lk_tree.specs.declared.expression.TypeName.{TypeName, out-TypeName}
 use Rattle.lk_typed.specs.Elaborated.{form_of}
 use Rattle.lk_typed.specs.Env.{Env}
+use Rattle.lk_elaborator.specs.Telling.{IsTrueOfName}
+use Rattle.lk_elaborator.specs.declared.elaborator.Elaborator.{Elaborator}
+use Rattle.lk_elaborator.specs.declared.forms.One.{One}
 use Rattle.lk_elab_expr.specs.Deciding.{DecidesOne}
-use Rattle.lk_elab_expr.specs.Telling.{IsTrueOfName}
 use Rattle.lk_elab_expr.specs.declared.casts.Casting.{Casting}
 use Rattle.lk_elab_expr.specs.declared.casts.Casting.TheVariants as how
-use Rattle.lk_elab_expr.specs.declared.elaborator.Elaborator.{Elaborator}
-use Rattle.lk_elab_expr.specs.declared.forms.One.{One}
 
 -- by whether the type is void, and whether a null pointer constant is cast to a pointer
 abbrev pub casting : Bool → Bool → Casting

@@ -13,18 +13,18 @@ use Rattle.lk_typed.specs.declared.binary_row.BinaryRow.TheVariants.{Logical, In
 use Rattle.lk_typed.specs.declared.expression.Change.{Change}
 use Rattle.lk_typed.specs.declared.expression.Change.TheVariants.{After, Before}
 use Rattle.lk_typed.specs.declared.expression.TypedExpr.{TypedExpr}
-use Rattle.lk_elab_expr.specs.Converting.{StandsAnyhow}
-use Rattle.lk_elab_expr.specs.Known.{OfEach}
-use Rattle.lk_elab_expr.specs.Leading.{Leads}
+use Rattle.lk_elaborator.specs.Converting.{StandsAnyhow}
+use Rattle.lk_elaborator.specs.Known.{OfEach}
+use Rattle.lk_elaborator.specs.Leading.{Leads}
+use Rattle.lk_elaborator.specs.Standing.{IsOne, IsPart, IsThree, IsTwo}
+use Rattle.lk_elaborator.specs.Telling.{IsTrueOf}
+use Rattle.lk_elaborator.specs.declared.elaborator.Elaborator.{Elaborator}
+use Rattle.lk_elaborator.specs.declared.forms.One.{One}
+use Rattle.lk_elaborator.specs.declared.forms.Three.{Three}
+use Rattle.lk_elaborator.specs.declared.forms.Two.{Two}
+use Rattle.lk_elaborator.specs.declared.forms.TwoForm.{TwoForm}
+use Rattle.lk_elaborator.specs.declared.forms.TwoForm.TheVariants as of_two
 use Rattle.lk_elab_expr.specs.OperandTypes.{types_in}
-use Rattle.lk_elab_expr.specs.Standing.{IsOne, IsPart, IsThree, IsTwo}
-use Rattle.lk_elab_expr.specs.Telling.{IsTrueOf}
-use Rattle.lk_elab_expr.specs.declared.elaborator.Elaborator.{Elaborator}
-use Rattle.lk_elab_expr.specs.declared.forms.One.{One}
-use Rattle.lk_elab_expr.specs.declared.forms.Three.{Three}
-use Rattle.lk_elab_expr.specs.declared.forms.Two.{Two}
-use Rattle.lk_elab_expr.specs.declared.forms.TwoForm.{TwoForm}
-use Rattle.lk_elab_expr.specs.declared.forms.TwoForm.TheVariants as of_two
 use Rattle.lk_elab_expr.specs.declared.operators.Operands.{Operands}
 
 -- of each expression of the form with an operand that has this number

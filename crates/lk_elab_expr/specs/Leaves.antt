@@ -6,8 +6,8 @@ use Rattle.lk_typed.specs.declared.expression.Storage.{Storage}
 use Rattle.lk_typed.specs.declared.expression.Storage.TheVariants.{Entity, Local}
 use Rattle.lk_typed.specs.declared.names.Duration.{Duration}
 use Rattle.lk_typed.specs.declared.names.Duration.TheVariants.{Static, Automatic}
-use Rattle.lk_elab_expr.specs.Leading.{entity_by, local_by}
-use Rattle.lk_elab_expr.specs.declared.elaborator.Elaborator.{Elaborator}
+use Rattle.lk_elaborator.specs.Leading.{entity_by, local_by}
+use Rattle.lk_elaborator.specs.declared.elaborator.Elaborator.{Elaborator}
 
 -- it is that of the object that a node declares
 abbrev pub IsStorage : Elaborator → Duration → ℕ → Storage → Type 0

@@ -12,8 +12,8 @@ use Rattle.lk_typed.specs.Nodes.{Node, AnExpression}
 use Rattle.lk_typed.specs.Units.{IsNode}
 use Rattle.lk_typed.specs.declared.entity.Use.{Use}
 use Rattle.lk_typed.specs.declared.unit.Body.{Body}
-use Rattle.lk_elab_expr.specs.Gathering.{Rise, declaration_of}
-use Rattle.lk_elab_expr.specs.declared.entities.NamedEntity.{NamedEntity}
+use Rattle.lk_elaborator.specs.Gathering.{Rise, declaration_of}
+use Rattle.lk_elaborator.specs.declared.entities.NamedEntity.{NamedEntity}
 
 module _ (externs : List Name) (unit : Unit) where
   -- the name is that which a node declares

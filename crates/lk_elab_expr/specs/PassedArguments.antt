@@ -16,14 +16,14 @@ use Rattle.lk_typed.specs.Typing.{Typing}
 use Rattle.lk_typed.specs.declared.expression.TypedExpr.{TypedExpr}
 use Rattle.lk_check_expr.specs.Arguments.{IsPassedAt}
 use Rattle.lk_check_expr.specs.declared.library.Passing.{Passing}
-use Rattle.lk_elab_expr.specs.Converting.{NodeSays}
-use Rattle.lk_elab_expr.specs.Known.{OfEach}
-use Rattle.lk_elab_expr.specs.Leading.{Grows, Leads}
-use Rattle.lk_elab_expr.specs.Standing.{IsPart, PartStandsAs}
-use Rattle.lk_elab_expr.specs.Telling.{IsTrueOf}
+use Rattle.lk_elaborator.specs.Converting.{NodeSays}
+use Rattle.lk_elaborator.specs.Known.{OfEach}
+use Rattle.lk_elaborator.specs.Leading.{Grows, Leads}
+use Rattle.lk_elaborator.specs.Standing.{IsPart, PartStandsAs}
+use Rattle.lk_elaborator.specs.Telling.{IsTrueOf}
+use Rattle.lk_elaborator.specs.declared.elaborator.Elaborator.{Elaborator}
+use Rattle.lk_elaborator.specs.declared.parts.Part.{Part}
 use Rattle.lk_elab_expr.specs.Walking.{IsToldOf, MakesPart}
-use Rattle.lk_elab_expr.specs.declared.elaborator.Elaborator.{Elaborator}
-use Rattle.lk_elab_expr.specs.declared.parts.Part.{Part}
 
 -- how the arguments of a call of this function are passed
 abbrev pub passes_to : InPlace → List rows.Passing

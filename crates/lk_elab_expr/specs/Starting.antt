@@ -4,10 +4,10 @@ use Rattle.lk_tree.specs.declared.expression.Expr.{Expr}
 use Rattle.lk_typed.specs.Elaborated.{InPlace}
 use Rattle.lk_typed.specs.Env.{Env, Declared}
 use Rattle.lk_typed.specs.Expressions.{expression}
-use Rattle.lk_elab_expr.specs.Leading.{entity_by}
+use Rattle.lk_elaborator.specs.Leading.{entity_by}
+use Rattle.lk_elaborator.specs.declared.elaborator.Elaborator.{Elaborator}
 use Rattle.lk_elab_expr.specs.PassedArguments.{IsToldCall}
 use Rattle.lk_elab_expr.specs.Walking.{IsToldOf}
-use Rattle.lk_elab_expr.specs.declared.elaborator.Elaborator.{Elaborator}
 
 -- the name that the expression is, perhaps with parentheses and & round it, is of this entity
 pub record IsStarted (walk : Elaborator) (p : InPlace) (e : ℕ) : Type 0 where

@@ -9,14 +9,14 @@ use Rattle.lk_typed.specs.Nodes.{AnExpression}
 use Rattle.lk_typed.specs.Tables.{Tables}
 use Rattle.lk_typed.specs.declared.expression.TypedExpr.{TypedExpr}
 use Rattle.lk_typed.specs.declared.expression.TypedForm.{TypedForm, out-TypedForm}
-use Rattle.lk_elab_expr.specs.Leading.{Leads}
-use Rattle.lk_elab_expr.specs.Standing.{IsFormOf, IsOne, IsPart, IsThree, IsTwo, PartStandsAs, StandsAs}
-use Rattle.lk_elab_expr.specs.Telling.{IsTold}
-use Rattle.lk_elab_expr.specs.declared.elaborator.Elaborator.{Elaborator}
-use Rattle.lk_elab_expr.specs.declared.forms.One.{One}
-use Rattle.lk_elab_expr.specs.declared.forms.Three.{Three}
-use Rattle.lk_elab_expr.specs.declared.forms.Two.{Two}
-use Rattle.lk_elab_expr.specs.declared.parts.Part.{Part}
+use Rattle.lk_elaborator.specs.Leading.{Leads}
+use Rattle.lk_elaborator.specs.Standing.{IsFormOf, IsOne, IsPart, IsThree, IsTwo, PartStandsAs, StandsAs}
+use Rattle.lk_elaborator.specs.Telling.{IsTold}
+use Rattle.lk_elaborator.specs.declared.elaborator.Elaborator.{Elaborator}
+use Rattle.lk_elaborator.specs.declared.forms.One.{One}
+use Rattle.lk_elaborator.specs.declared.forms.Three.{Three}
+use Rattle.lk_elaborator.specs.declared.forms.Two.{Two}
+use Rattle.lk_elaborator.specs.declared.parts.Part.{Part}
 use Rattle.lk_elab_expr.specs.declared.ways.Way.{Way}
 
 -- ---- the operands of a form

@@ -1,19 +1,16 @@
 //! Arguments of calls (C99 6.5.2.2).
 ghost use Rattle.std.specs.Prelude.{IfOk, OnOk, Some};
-ghost use Rattle.lk_elab_expr.specs.Converting.{Gives, StandsAnyhow};
-ghost use Rattle.lk_elab_expr.specs.Known.{OfEach};
-ghost use Rattle.lk_elab_expr.specs.Leading.{Grows};
+ghost use Rattle.lk_elaborator.specs.Converting.{Gives, StandsAnyhow};
+ghost use Rattle.lk_elaborator.specs.Known.{OfEach};
+ghost use Rattle.lk_elaborator.specs.Leading.{Grows};
 ghost use Rattle.lk_elab_expr.specs.PassedArguments.{IsPassedFor, PassesAll, PassesAs, PassesFor, PromotedValue};
 ghost use Rattle.lk_elab_expr.specs.PassedArguments.{PutsArgument, PutsPart, WantsNone};
 
-use crate::elaborator::Elaborator;
 use crate::expressions::part_node;
-use crate::found::{found_of, typing_at};
 use crate::operators::promoted_at;
-use crate::parts::{Part, converted_operand, given};
-use crate::unreached::nowhere;
 use lk_base::{NoMemory, Seq};
 use lk_check_expr::{Argument, Passing, passing};
+use lk_elaborator::{Elaborator, Part, converted_operand, found_of, given, nowhere, typing_at};
 use lk_tree::Expr;
 use lk_typed::TypedExpr;
 

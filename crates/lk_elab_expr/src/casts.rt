@@ -3,14 +3,11 @@ ghost use Rattle.std.specs.Prelude.{◌≡◌, ◌&&◌, IfOk, OnOk};
 ghost use Rattle.lk_typed.specs.Meaning.{IsKnownType, meaning_of};
 ghost use Rattle.lk_typed.specs.Ty as ty;
 ghost use Rattle.lk_typed.specs.Typings.{IsOperand};
+ghost use Rattle.lk_elaborator.specs.Leading.{Grows};
 ghost use Rattle.lk_elab_expr.specs.CastForms.{DecidesCast, casting};
-ghost use Rattle.lk_elab_expr.specs.Leading.{Grows};
 
-use crate::elaborator::Elaborator;
-use crate::forms::{One, OneForm};
-use crate::found::{type_named_at, value_at};
-use crate::parts::value_as;
 use lk_base::NoMemory;
+use lk_elaborator::{Elaborator, One, OneForm, type_named_at, value_as, value_at};
 use lk_typed::{ExprType, Role, Typed, is_pointer, is_void};
 use lk_types::TypeTable;
 

@@ -1,23 +1,21 @@
 //! Expressions (C99 6.5), by the operands that they have.
 ghost use Rattle.std.specs.Prelude.{IfOk, OnOk};
 ghost use Rattle.lk_typed.specs.declared.expression.TypedForm.{out-TypedForm};
-ghost use Rattle.lk_elab_expr.specs.Elaborating.{Elaborates, ElaboratesTo};
-ghost use Rattle.lk_elab_expr.specs.Leading.{Grows};
-ghost use Rattle.lk_elab_expr.specs.Standing.{IsNodeOf};
+ghost use Rattle.lk_elaborator.specs.Elaborating.{Elaborates, ElaboratesTo};
+ghost use Rattle.lk_elaborator.specs.Leading.{Grows};
+ghost use Rattle.lk_elaborator.specs.Standing.{IsNodeOf};
 ghost use Rattle.lk_elab_expr.specs.Walking.{Forms, FormsChoice, FormsOfOne, FormsOfThree, FormsOfTwo, FormsWithOne, FormsWithTwo, MakesItself, MakesPart};
 
 use crate::calls::call;
-use crate::elaborator::Elaborator;
-use crate::forms::{One, Three, Two, form_of_one, form_of_two};
-use crate::found::node_type_at;
 use crate::one_operand::one_of;
 use crate::operators::choice;
-use crate::parts::{Part, given};
 use crate::two_operands::two_of;
-use crate::values::made;
 use crate::ways::Way;
 use crate::without_operands::leaf;
 use lk_base::{Boxed, NoMemory};
+use lk_elaborator::{
+    Elaborator, One, Part, Three, Two, form_of_one, form_of_two, given, made, node_type_at,
+};
 use lk_tree::{Expr, ExprForm};
 use lk_typed::{ExprType, TypedExpr, TypedForm};
 use lk_types::TypeId;

@@ -6,11 +6,10 @@ ghost use Rattle.lk_elab_expr.specs.CalledWords.{HasRoutine};
 ghost use Rattle.lk_elab_expr.specs.Starting.{FindsRoutine, StartsRoutine};
 ghost use Rattle.lk_elab_expr.specs.LibraryForms.{IsCallOf, IsCreate, IsOfOne, IsOfTwo, IsPrint, call_of_none, call_of_one, call_of_two, making_for};
 
-use crate::elaborator::Elaborator;
 use crate::names::entity_at;
-use crate::unreached::nowhere;
 use lk_base::{Boxed, NoMemory, Seq};
 use lk_check_expr::LibraryFunction;
+use lk_elaborator::{Elaborator, nowhere};
 use lk_tree::{Expr, ExprForm, PrefixOperator};
 use lk_typed::{LibraryCall, TypedExpr};
 use std::alloc::Global;

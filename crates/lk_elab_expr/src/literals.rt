@@ -3,8 +3,8 @@ ghost use Rattle.std.specs.Prelude.{◌≡◌, IfOk};
 ghost use Rattle.lk_typed.specs.declared.expression.Callee.TheOpen.{TypedForm-F};
 ghost use Rattle.lk_typed.specs.declared.expression.TypedForm.{out-TypedForm};
 
-use crate::elaborator::Elaborator;
 use lk_base::{NoMemory, Seq};
+use lk_elaborator::Elaborator;
 use lk_typed::TypedForm;
 
 /// A string literal.

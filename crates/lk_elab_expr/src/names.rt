@@ -7,16 +7,14 @@ ghost use Rattle.lk_typed.specs.Expressions.{expression};
 ghost use Rattle.lk_typed.specs.Tables.{Tables};
 ghost use Rattle.lk_typed.specs.declared.expression.TypedForm.{out-TypedForm};
 ghost use Rattle.lk_found.specs.Uses.{found_by};
+ghost use Rattle.lk_elaborator.specs.Known.{OfEach};
+ghost use Rattle.lk_elaborator.specs.Leading.{Leads};
+ghost use Rattle.lk_elaborator.specs.Standing.{IsFormOf};
 ghost use Rattle.lk_elab_expr.specs.CalledWords.{HasWord, IsEntityOf};
-ghost use Rattle.lk_elab_expr.specs.Known.{OfEach};
-ghost use Rattle.lk_elab_expr.specs.Leading.{Leads};
 ghost use Rattle.lk_elab_expr.specs.Leaves.{IsStorage};
-ghost use Rattle.lk_elab_expr.specs.Standing.{IsFormOf};
 
-use crate::elaborator::Elaborator;
-use crate::found::meant_at;
-use crate::unreached::nowhere;
 use lk_base::{Name, NoMemory};
+use lk_elaborator::{Elaborator, meant_at, nowhere};
 use lk_tree::{Expr, ExprForm};
 use lk_typed::{Duration, Meaning, Storage, TypedForm};
 

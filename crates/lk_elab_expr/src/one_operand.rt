@@ -1,17 +1,14 @@
 //! Expressions with one operand.
 ghost use Rattle.std.specs.Prelude.{IfOk, OnOk};
-ghost use Rattle.lk_elab_expr.specs.Leading.{Grows};
+ghost use Rattle.lk_elaborator.specs.Leading.{Grows};
 ghost use Rattle.lk_elab_expr.specs.Walking.{DecidesOneOf};
 
 use crate::casts::cast;
-use crate::elaborator::Elaborator;
-use crate::forms::{One, OneForm};
 use crate::operators::prefix;
-use crate::parts::itself;
 use crate::places::{arrow, member};
 use crate::sides::step;
-use crate::unreached::nowhere;
 use lk_base::NoMemory;
+use lk_elaborator::{Elaborator, One, OneForm, itself, nowhere};
 use lk_tree::ExprForm;
 use lk_typed::Change;
 

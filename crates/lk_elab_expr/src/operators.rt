@@ -9,23 +9,22 @@ ghost use Rattle.lk_typed.specs.Elaborated.{InPlace, form_of};
 ghost use Rattle.lk_typed.specs.Meaning.{IsKnownType};
 ghost use Rattle.lk_typed.specs.Operands as spec;
 ghost use Rattle.lk_typed.specs.Operators as rows;
+ghost use Rattle.lk_elaborator.specs.Known.{IsPromotedAt, OfEach};
+ghost use Rattle.lk_elaborator.specs.Leading.{Grows};
 ghost use Rattle.lk_elab_expr.specs.Deciding.{AreValues, DecidesOne, DecidesThree, DecidesTwo, FindsOperands, decided_by};
-ghost use Rattle.lk_elab_expr.specs.Known.{IsPromotedAt, OfEach};
-ghost use Rattle.lk_elab_expr.specs.Leading.{Grows};
 ghost use Rattle.lk_elab_expr.specs.OperandTypes.{AreKnown};
 
-use crate::elaborator::Elaborator;
-use crate::forms::{One, OneForm, Three, Two, TwoForm};
-use crate::found::{typing_at, value_at};
 use crate::operands::{
     OperandTypes, computed_by, moves_by_right, operand_types, promoted_type, promoting,
 };
-use crate::parts::{converted_operand, operand, value_of};
 use crate::places::{address, indirection};
-use crate::unreached::nowhere;
 use lk_arith::{Op, UnaryOp};
 use lk_base::NoMemory;
 use lk_check_expr::row_of;
+use lk_elaborator::{
+    Elaborator, One, OneForm, Three, Two, TwoForm, converted_operand, nowhere, operand, typing_at,
+    value_at, value_of,
+};
 use lk_tree::{BinaryOperator, PrefixOperator};
 use lk_typed::{BinaryRow, ExprType};
 

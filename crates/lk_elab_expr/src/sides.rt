@@ -11,21 +11,19 @@ ghost use Rattle.lk_typed.specs.Elaborated.{form_of};
 ghost use Rattle.lk_typed.specs.Meaning.{meaning, meaning_of};
 ghost use Rattle.lk_typed.specs.Operands as spec;
 ghost use Rattle.lk_typed.specs.Operators as rows;
+ghost use Rattle.lk_elaborator.specs.Known.{HasStepType, OfEach};
+ghost use Rattle.lk_elaborator.specs.Leading.{Grows};
 ghost use Rattle.lk_elab_expr.specs.Deciding.{DecidesOne, DecidesTwo, step_form};
-ghost use Rattle.lk_elab_expr.specs.Known.{HasStepType, OfEach};
-ghost use Rattle.lk_elab_expr.specs.Leading.{Grows};
 
-use crate::elaborator::Elaborator;
-use crate::forms::{One, OneForm, Two, TwoForm};
-use crate::found::typing_at;
 use crate::operands::{computed_by, step_type};
 use crate::operators::operands_at;
-use crate::parts::{converted_operand, given, itself};
-use crate::type_numbers::{known_type, listed};
-use crate::unreached::nowhere;
 use lk_arith::Op;
 use lk_base::NoMemory;
 use lk_check_expr::{operator_of, row_of};
+use lk_elaborator::{
+    Elaborator, One, OneForm, Two, TwoForm, converted_operand, given, itself, known_type, listed,
+    nowhere, typing_at,
+};
 use lk_tree::{AssignOperator, BinaryOperator, StepOperator};
 use lk_typed::{BinaryRow, Change, ExprType, is_function};
 use lk_types::TypeId;

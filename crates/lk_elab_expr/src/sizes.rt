@@ -6,15 +6,13 @@ ghost use Rattle.lk_typed.specs.Env.{Env};
 ghost use Rattle.lk_typed.specs.Meaning.{meaning_of};
 ghost use Rattle.lk_typed.specs.Tables.{Tables};
 ghost use Rattle.lk_typed.specs.declared.expression.TypedForm.{out-TypedForm};
-ghost use Rattle.lk_elab_expr.specs.Known.{OfEach};
+ghost use Rattle.lk_elaborator.specs.Known.{OfEach};
+ghost use Rattle.lk_elaborator.specs.Standing.{IsFormOf};
 ghost use Rattle.lk_elab_expr.specs.Leaves.{IsSizeofForm};
-ghost use Rattle.lk_elab_expr.specs.Standing.{IsFormOf};
 ghost use Rattle.lk_elab_expr.specs.Walking.{IsToldOf};
 
-use crate::elaborator::Elaborator;
-use crate::found::{constant_at, type_named_at, typing_at};
-use crate::unreached::nowhere;
 use lk_base::NoMemory;
+use lk_elaborator::{Elaborator, constant_at, nowhere, type_named_at, typing_at};
 use lk_tree::{Expr, ExprForm};
 use lk_typed::{Constant, ExprType, TypedForm};
 

@@ -1,15 +1,13 @@
 //! Expressions with two operands.
 ghost use Rattle.std.specs.Prelude.{IfOk, OnOk};
-ghost use Rattle.lk_elab_expr.specs.Leading.{Grows};
+ghost use Rattle.lk_elaborator.specs.Leading.{Grows};
 ghost use Rattle.lk_elab_expr.specs.Walking.{DecidesTwoOf};
 
-use crate::elaborator::Elaborator;
-use crate::forms::Two;
 use crate::operators::{binary, comma};
 use crate::places::index;
 use crate::sides::assign;
-use crate::unreached::nowhere;
 use lk_base::NoMemory;
+use lk_elaborator::{Elaborator, Two, nowhere};
 use lk_tree::ExprForm;
 
 /// An expression of this form, with two operands, which have these numbers.

@@ -3,16 +3,15 @@ ghost use Rattle.std.specs.Prelude.{Bool, IfOk};
 ghost use Rattle.lk_typed.specs.Env.{Env};
 ghost use Rattle.lk_typed.specs.Tables.{Tables};
 ghost use Rattle.lk_typed.specs.declared.expression.TypedForm.{out-TypedForm};
-ghost use Rattle.lk_elab_expr.specs.Leading.{Leads};
-ghost use Rattle.lk_elab_expr.specs.Standing.{IsFormOf};
-ghost use Rattle.lk_elab_expr.specs.Telling.{IsTrueOf};
+ghost use Rattle.lk_elaborator.specs.Leading.{Leads};
+ghost use Rattle.lk_elaborator.specs.Standing.{IsFormOf};
+ghost use Rattle.lk_elaborator.specs.Telling.{IsTrueOf};
 
-use crate::elaborator::Elaborator;
 use crate::literals::text;
 use crate::names::word;
 use crate::sizes::size;
-use crate::unreached::nowhere;
 use lk_base::NoMemory;
+use lk_elaborator::{Elaborator, nowhere};
 use lk_tree::{Expr, ExprForm};
 use lk_typed::TypedForm;
 

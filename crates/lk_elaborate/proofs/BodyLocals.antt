@@ -13,15 +13,15 @@ use Rattle.lk_typed.specs.Locals.{AreLocals, AreParameters, IsLocalName, IsLocal
 use Rattle.lk_typed.specs.Meaning.{meaning}
 use Rattle.lk_typed.specs.Ty.{Ty}
 use Rattle.lk_typed.specs.declared.unit.Local.{Local}
-use Rattle.lk_elab_expr.proofs.Gathering.{at_contained, contains_at}
-use Rattle.lk_elab_expr.specs.PuttingLocals as put
-use Rattle.lk_elab_expr.specs.declared.elaborator.Elaborator.{Elaborator}
+use Rattle.lk_elaborator.proofs.Gathering.{at_contained, contains_at}
+use Rattle.lk_elaborator.specs.PuttingLocals as put
+use Rattle.lk_elaborator.specs.declared.elaborator.Elaborator.{Elaborator}
+use Rattle.lk_elab_init.specs.PuttingParameters.{PutsParameters, scope_of}
+use Rattle.lk_elab_init.specs.Source.{IsToldSource}
 use Rattle.lk_elaborate.proofs.InDefinitions.{inside_local, local_inside}
 use Rattle.lk_elaborate.proofs.LocalsOf.{local_of}
 use Rattle.lk_elaborate.specs.DefinitionSteps.{items_of}
-use Rattle.lk_elaborate.specs.PuttingParameters.{PutsParameters, scope_of}
 use Rattle.lk_elaborate.specs.Putting.{IsLocalHere, PutsLocals}
-use Rattle.lk_elaborate.specs.Source.{IsToldSource}
 
 -- ---- lists
 

@@ -27,10 +27,12 @@ use Rattle.lk_typed.specs.declared.initialiser.StaticObject.{StaticObject}
 use Rattle.lk_typed.specs.declared.statement.TypedStmt.{TypedStmt}
 use Rattle.lk_typed.specs.declared.unit.Local.{Local}
 use Rattle.lk_found.specs.Named.{name_in}
-use Rattle.lk_elab_expr.specs.Leading.{GoesOn, Leads}
-use Rattle.lk_elab_expr.specs.PuttingLocals.{AreNumbered}
-use Rattle.lk_elab_expr.specs.declared.elaborator.Elaborator.{Elaborator}
-use Rattle.lk_elab_expr.specs.declared.entities.NamedEntity.{NamedEntity}
+use Rattle.lk_elaborator.specs.Leading.{GoesOn, Leads}
+use Rattle.lk_elaborator.specs.PuttingLocals.{AreNumbered}
+use Rattle.lk_elaborator.specs.declared.elaborator.Elaborator.{Elaborator}
+use Rattle.lk_elaborator.specs.declared.entities.NamedEntity.{NamedEntity}
+use Rattle.lk_elab_init.specs.PuttingParameters.{PutsParameters}
+use Rattle.lk_elab_init.specs.Source.{IsToldSource}
 use Rattle.lk_elaborate.proofs.BodyLocals.{locals_are}
 use Rattle.lk_elaborate.proofs.Carried.{goes_same, goes_then, in_rest, node_part}
 use Rattle.lk_elaborate.proofs.InDefinitions.{DeclaresWhere, given_inside, items_in_whole, itself_in_whole, names_where, own_declared, own_is_no_local, own_name, whole}
@@ -44,9 +46,7 @@ use Rattle.lk_elaborate.specs.Outlining.{HasNoLocals, MakesDefinition, PutsBody}
 use Rattle.lk_elaborate.specs.Outside.{GoesOutside, LeadsOutside, tables_of}
 use Rattle.lk_elaborate.specs.Putting.{AreRising, IsNameInside, PutsAll, PutsNames, PutsObjects}
 use Rattle.lk_elaborate.specs.PuttingDeclared.{LocalsPut, NamesPut, NoObject, PutsThose}
-use Rattle.lk_elaborate.specs.PuttingParameters.{PutsParameters}
 use Rattle.lk_elaborate.specs.PuttingStatements.{PutsBlock}
-use Rattle.lk_elaborate.specs.Source.{IsToldSource}
 use Rattle.lk_elaborate.specs.declared.definitions.Head.{Head}
 
 -- ---- the definition's own name

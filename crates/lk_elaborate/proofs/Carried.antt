@@ -26,11 +26,11 @@ use Rattle.lk_found.specs.Findings.{IsDeclaredAs, IsOfKind}
 use Rattle.lk_found.specs.declared.records.DeclaredHere.{DeclaredHere}
 use Rattle.lk_found.specs.declared.records.InitialiserKind.{InitialiserKind}
 use Rattle.lk_found.specs.declared.records.InitialiserKind.TheVariants.{Word, Value}
-use Rattle.lk_elab_expr.proofs.Growing.{known_stays, told_stays}
-use Rattle.lk_elab_expr.specs.Leading.{GoesOn}
-use Rattle.lk_elab_expr.specs.declared.elaborator.Elaborator.{Elaborator}
+use Rattle.lk_elaborator.proofs.Growing.{known_stays, told_stays}
+use Rattle.lk_elaborator.specs.Leading.{GoesOn}
+use Rattle.lk_elaborator.specs.declared.elaborator.Elaborator.{Elaborator}
+use Rattle.lk_elab_init.specs.Source.{IsToldSource}
 use Rattle.lk_elaborate.specs.Making.{StandIn}
-use Rattle.lk_elaborate.specs.Source.{IsToldSource}
 use Rattle.lk_typed.specs.Ty.{Ty}
 
 map_same : {A B : Type 0} (P : A → Type 0) (f g : A → B) → ((a : A) → P a → f a ≡ g a) → (xs : List A) → All P xs → map f xs ≡ map g xs

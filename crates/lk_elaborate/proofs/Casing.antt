@@ -28,8 +28,8 @@ use Rattle.lk_typed.specs.declared.statement.SwitchCase.{SwitchCase}
 use Rattle.lk_typed.specs.declared.typed.Typed.{Typed}
 use Rattle.lk_rules.proofs.Stating.{statements_follow_their_forms}
 use Rattle.lk_rules.specs.Statements.{item_told, items_told, told_of}
-use Rattle.lk_elab_expr.specs.Known.{HasTyping, HasValue, OfEach}
-use Rattle.lk_elab_expr.specs.declared.elaborator.Elaborator.{Elaborator}
+use Rattle.lk_elaborator.specs.Known.{HasTyping, HasValue, OfEach}
+use Rattle.lk_elaborator.specs.declared.elaborator.Elaborator.{Elaborator}
 use Rattle.lk_elaborate.proofs.Carried.{head_stands, parts_stand, rest_stand, tail_stands}
 use Rattle.lk_elaborate.proofs.Making.{true_there}
 use Rattle.lk_elaborate.specs.Making.{FindsCases, FindsSwitch, HasCases, IsCaseOf, IsConstantOf, IsKindOf, PutsCases, PutsOf, PutsOfCase, PutsOfChoice, PutsOfDefault, PutsOfElse, PutsOfForm, PutsOfItem, PutsOfItems, StandIn}

@@ -37,14 +37,14 @@ use Rattle.lk_found.specs.Named.{name_in}
 use Rattle.lk_found.specs.declared.declarators.DeclaredName.{DeclaredName}
 use Rattle.lk_found.specs.declared.records.DeclaredHere.{DeclaredHere}
 use Rattle.lk_found.specs.Findings.{IsDeclaredAs}
-use Rattle.lk_elab_expr.proofs.Growing.{leads_back}
-use Rattle.lk_elab_expr.specs.Leading.{GoesOn, Leads}
-use Rattle.lk_elab_expr.specs.declared.elaborator.Elaborator.{Elaborator}
+use Rattle.lk_elaborator.proofs.Growing.{leads_back}
+use Rattle.lk_elaborator.specs.Leading.{GoesOn, Leads}
+use Rattle.lk_elaborator.specs.declared.elaborator.Elaborator.{Elaborator}
+use Rattle.lk_elab_init.specs.Source.{IsToldSource}
 use Rattle.lk_elaborate.proofs.Carried.{in_first, in_rest, node_part, stand_on}
 use Rattle.lk_elaborate.specs.Declaring.{MakesDeclarator, MakesLocalInit, MakesNamed, MakesOneInit, MakesRecorded, StandsAt}
 use Rattle.lk_elaborate.specs.LocalParts.{GivesLocalInit}
 use Rattle.lk_elaborate.specs.Making.{MakesDeclaration, StandIn}
-use Rattle.lk_elaborate.specs.Source.{IsToldSource}
 
 -- ---- the name that a declarator declares is found behind it
 

@@ -16,7 +16,7 @@ use Rattle.lk_typed.specs.declared.statement.TypedItem.{TypedItem}
 use Rattle.lk_typed.specs.declared.statement.TypedItem.TheOpen.{TypedStmtForm-F}
 use Rattle.lk_typed.specs.declared.statement.TypedStmt.{TypedStmt}
 use Rattle.lk_labels.specs.Leasts.{AreLabels}
-use Rattle.lk_elab_expr.specs.declared.elaborator.Elaborator.{Elaborator}
+use Rattle.lk_elaborator.specs.declared.elaborator.Elaborator.{Elaborator}
 use Rattle.lk_elaborate.proofs.Carried.{in_rest, node_part}
 use Rattle.lk_elaborate.specs.Defining.{IsRoundIn, MakesBlock, inside}
 use Rattle.lk_elaborate.specs.Making.{MakesItems, StandIn}

@@ -26,16 +26,16 @@ use Rattle.lk_typed.specs.Units.{IsNode, at_end}
 use Rattle.lk_typed.specs.declared.entity.Entity.{Entity}
 use Rattle.lk_typed.specs.declared.initialiser.StaticObject.{StaticObject}
 use Rattle.lk_typed.specs.declared.unit.Body.{Body}
-use Rattle.lk_elab_expr.proofs.Gathering.{at_before, at_last}
-use Rattle.lk_elab_expr.proofs.Numbers.{means_on}
-use Rattle.lk_elab_expr.specs.Gathering.{IsGathered}
+use Rattle.lk_elaborator.proofs.Gathering.{at_before, at_last}
+use Rattle.lk_elaborator.proofs.Numbers.{means_on}
+use Rattle.lk_elaborator.specs.Gathering.{IsGathered}
+use Rattle.lk_elaborator.specs.Rising.{IsRising}
+use Rattle.lk_elaborator.specs.declared.elaborator.Elaborator.{Elaborator}
+use Rattle.lk_elaborator.specs.declared.entities.NamedEntity.{NamedEntity}
+use Rattle.lk_elaborator.specs.declared.locals.Locals.{Locals}
 use Rattle.lk_elab_expr.specs.Naming.{IsNameOf}
-use Rattle.lk_elab_expr.specs.Rising.{IsRising}
-use Rattle.lk_elab_expr.specs.declared.elaborator.Elaborator.{Elaborator}
-use Rattle.lk_elab_expr.specs.declared.entities.NamedEntity.{NamedEntity}
-use Rattle.lk_elab_expr.specs.declared.locals.Locals.{Locals}
+use Rattle.lk_elab_init.proofs.Standing.{part_stands}
 use Rattle.lk_elaborate.proofs.Outside.{outside_back, source_with}
-use Rattle.lk_elaborate.proofs.Standing.{part_stands}
 use Rattle.lk_elaborate.specs.Externals.{MakesExternal, PutsEntities, PutsExternals}
 use Rattle.lk_elaborate.specs.Outlining.{HasNoLocals, MakesDefinition, PutsBody}
 use Rattle.lk_elaborate.specs.Outside.{GoesOutside, LeadsOutside}

@@ -7,7 +7,7 @@ use Rattle.lk_typed.specs.Env.{AsOperand, Env, Name, extend}
 use Rattle.lk_typed.specs.NodeParts.{external_adds, externals_in_turn}
 use Rattle.lk_typed.specs.Nodes.{AnExternal, Placed, at}
 use Rattle.lk_typed.specs.Stands.{IsIn}
-use Rattle.lk_elab_expr.specs.declared.elaborator.Elaborator.{Elaborator}
+use Rattle.lk_elaborator.specs.declared.elaborator.Elaborator.{Elaborator}
 use Rattle.lk_elaborate.proofs.Externals.{both_put, in_second, none_put}
 use Rattle.lk_elaborate.proofs.Outside.{source_outside}
 use Rattle.lk_elaborate.specs.Externals.{MakesExternal, MakesExternals, PutsExternals}

@@ -25,22 +25,22 @@ use Rattle.lk_typed.specs.declared.initialiser.LocalValue.{LocalValue}
 use Rattle.lk_typed.specs.declared.statement.LocalInit.{LocalInit}
 use Rattle.lk_nodes.specs.Settled.{Holds}
 use Rattle.lk_nodes.specs.Settled.Holds.{in_element, in_member, itself}
-use Rattle.lk_elab_expr.proofs.Growing.{grows_on}
-use Rattle.lk_elab_expr.specs.Leading.{Grows, Leads, local_by}
-use Rattle.lk_elab_expr.specs.declared.elaborator.Elaborator.{Elaborator}
-use Rattle.lk_elaborate.specs.Cells.{cells_begun, cells_given, cells_of_text}
-use Rattle.lk_elaborate.specs.Giving.{AreGivenAs, BeginsAs, GivesTo}
-use Rattle.lk_elaborate.specs.Giving.AreGivenAs.{no_more, next}
-use Rattle.lk_elaborate.specs.Giving.BeginsAs.{a_value, the_bytes, the_word}
+use Rattle.lk_elaborator.proofs.Growing.{grows_on}
+use Rattle.lk_elaborator.specs.Leading.{Grows, Leads, local_by}
+use Rattle.lk_elaborator.specs.declared.elaborator.Elaborator.{Elaborator}
+use Rattle.lk_elab_init.specs.Cells.{cells_begun, cells_given, cells_of_text}
+use Rattle.lk_elab_init.specs.Giving.{AreGivenAs, BeginsAs, GivesTo}
+use Rattle.lk_elab_init.specs.Giving.AreGivenAs.{no_more, next}
+use Rattle.lk_elab_init.specs.Giving.BeginsAs.{a_value, the_bytes, the_word}
+use Rattle.lk_elab_init.specs.Places.{ArePut}
+use Rattle.lk_elab_init.specs.Settled.{fields_listed}
+use Rattle.lk_elab_init.specs.Source.{IsToldSource}
+use Rattle.lk_elab_init.specs.declared.givens.Beginning.{Beginning}
+use Rattle.lk_elab_init.specs.declared.givens.PartGiven.{PartGiven}
+use Rattle.lk_elab_init.proofs.Giving.{fields_end}
 use Rattle.lk_elaborate.specs.LocalParts.{GivesLocalParts}
-use Rattle.lk_elaborate.specs.Places.{ArePut}
-use Rattle.lk_elaborate.specs.Settled.{fields_listed}
-use Rattle.lk_elaborate.specs.Source.{IsToldSource}
-use Rattle.lk_elaborate.specs.declared.givens.Beginning.{Beginning}
-use Rattle.lk_elaborate.specs.declared.givens.PartGiven.{PartGiven}
-use Rattle.lk_elaborate.proofs.AbsentCells.{all_absent}
+use Rattle.lk_elab_init.proofs.AbsentCells.{all_absent}
 use Rattle.lk_elaborate.proofs.Cells.{text_cells}
-use Rattle.lk_elaborate.proofs.Giving.{fields_end}
 use Rattle.lk_elaborate.proofs.Telling.{source_told}
 
 -- ---- the cells of an object are those by other members that are the same of all structs that it holds

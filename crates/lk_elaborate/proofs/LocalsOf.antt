@@ -22,11 +22,11 @@ use Rattle.lk_typed.specs.Units.IsNode.{node_of}
 use Rattle.lk_typed.specs.declared.entity.Use.{Use}
 use Rattle.lk_typed.specs.declared.unit.Local.{Local}
 use Rattle.lk_found.specs.Uses.{address_by, address_in}
-use Rattle.lk_elab_expr.proofs.Numbers.{means_on}
-use Rattle.lk_elab_expr.specs.PuttingLocals.{IsLocalSo}
-use Rattle.lk_elab_expr.specs.declared.elaborator.Elaborator.{Elaborator}
+use Rattle.lk_elaborator.proofs.Numbers.{means_on}
+use Rattle.lk_elaborator.specs.PuttingLocals.{IsLocalSo}
+use Rattle.lk_elaborator.specs.declared.elaborator.Elaborator.{Elaborator}
+use Rattle.lk_elab_init.specs.Source.{IsToldSource}
 use Rattle.lk_elaborate.proofs.ToldSource.{entry_found}
-use Rattle.lk_elaborate.specs.Source.{IsToldSource}
 
 -- ---- the name whose address an expression takes
 

@@ -32,12 +32,12 @@ use Rattle.lk_typed.specs.declared.statement.TypedItem.TheOpen.{TypedItem-F, Typ
 use Rattle.lk_typed.specs.declared.typed.ExprType.{ExprType}
 use Rattle.lk_typed.specs.declared.typed.ExprType.TheVariants.{Listed}
 use Rattle.lk_labels.specs.Leasts.{AreLabels, LabelNamed}
-use Rattle.lk_elab_expr.proofs.Growing.{grows_on, known_stays, leads_back, true_on, type_on}
-use Rattle.lk_elab_expr.specs.Elaborating.{Elaborates, ElaboratesConverted, ElaboratesTo, ElaboratesValue}
-use Rattle.lk_elab_expr.specs.Known.{OfEach}
-use Rattle.lk_elab_expr.specs.Leading.{Grows, GoesOn, Leads}
-use Rattle.lk_elab_expr.specs.Telling.{IsTrueOf}
-use Rattle.lk_elab_expr.specs.declared.elaborator.Elaborator.{Elaborator}
+use Rattle.lk_elaborator.proofs.Growing.{grows_on, known_stays, leads_back, true_on, type_on}
+use Rattle.lk_elaborator.specs.Elaborating.{Elaborates, ElaboratesConverted, ElaboratesTo, ElaboratesValue}
+use Rattle.lk_elaborator.specs.Known.{OfEach}
+use Rattle.lk_elaborator.specs.Leading.{Grows, GoesOn, Leads}
+use Rattle.lk_elaborator.specs.Telling.{IsTrueOf}
+use Rattle.lk_elaborator.specs.declared.elaborator.Elaborator.{Elaborator}
 use Rattle.lk_elaborate.proofs.Carried.{first_stand, goes_then, head_stands, parts_stand, rest_stand, stand_on, tail_stands}
 use Rattle.lk_elaborate.specs.Asking.{HasPromoted}
 use Rattle.lk_elaborate.specs.Making.{HasCases, IsRound, MakesDeclaration, MakesElse, MakesFirst, MakesForm, MakesGiven, MakesItem, MakesItems, MakesPerhaps, MakesStatement, MakesSwitched, MakesValue, OpenForm, StandIn}

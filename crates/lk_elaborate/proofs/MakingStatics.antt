@@ -37,28 +37,28 @@ use Rattle.lk_typed.specs.declared.initialiser.StaticPart.{StaticPart}
 use Rattle.lk_typed.specs.declared.initialiser.StaticValue.{StaticValue}
 use Rattle.lk_typed.specs.declared.initialiser.StaticValue.TheVariants as begins
 use Rattle.lk_typed.specs.declared.typed.ExprType.TheVariants.{Listed}
-use Rattle.lk_elab_expr.proofs.Gathering.{at_split, same_or_not}
-use Rattle.lk_elab_expr.proofs.Growing.{grows_same, leads_before}
-use Rattle.lk_elab_expr.proofs.Numbers.{means_led}
+use Rattle.lk_elaborator.proofs.Gathering.{at_split, same_or_not}
+use Rattle.lk_elaborator.proofs.Growing.{grows_same, leads_before}
+use Rattle.lk_elaborator.proofs.Numbers.{means_led}
 use Rattle.lk_found.specs.declared.found.At.{At}
-use Rattle.lk_elab_expr.specs.Elaborating.{ElaboratesTo}
-use Rattle.lk_elab_expr.specs.Leading.{Grows, Leads, entity_by, local_by}
-use Rattle.lk_elab_expr.specs.Telling.{IsTrueOf}
-use Rattle.lk_elab_expr.specs.declared.elaborator.Elaborator.{Elaborator}
-use Rattle.lk_elab_expr.specs.declared.locals.Locals.{Locals}
-use Rattle.lk_elaborate.specs.Giving.{AreGivenAs, BeginsAs, GivesTo, IsGivenAs, Puts, element_in}
-use Rattle.lk_elaborate.specs.Giving.AreGivenAs.{no_more, next}
-use Rattle.lk_elaborate.specs.Giving.BeginsAs.{a_value, the_bytes, the_word}
+use Rattle.lk_elaborator.specs.Elaborating.{ElaboratesTo}
+use Rattle.lk_elaborator.specs.Leading.{Grows, Leads, entity_by, local_by}
+use Rattle.lk_elaborator.specs.Telling.{IsTrueOf}
+use Rattle.lk_elaborator.specs.declared.elaborator.Elaborator.{Elaborator}
+use Rattle.lk_elaborator.specs.declared.locals.Locals.{Locals}
+use Rattle.lk_elab_init.specs.Giving.{AreGivenAs, BeginsAs, GivesTo, IsGivenAs, Puts, element_in}
+use Rattle.lk_elab_init.specs.Giving.AreGivenAs.{no_more, next}
+use Rattle.lk_elab_init.specs.Giving.BeginsAs.{a_value, the_bytes, the_word}
+use Rattle.lk_elab_init.specs.declared.givens.Beginning.{Beginning}
+use Rattle.lk_elab_init.specs.declared.givens.Beginning.TheVariants as given_begins
+use Rattle.lk_elab_init.specs.declared.givens.PartGiven.{PartGiven}
+use Rattle.lk_elab_init.proofs.Addressing.{same_some}
 use Rattle.lk_elaborate.specs.LocalParts.{AreTold}
 use Rattle.lk_elaborate.specs.Outside.{LeadsOutside, tables_of}
 use Rattle.lk_elaborate.specs.Putting.{AreRising, PutsObject}
 use Rattle.lk_elaborate.specs.StaticParts.{AreBefore, AreBytesOf, ArePartsOfText, BeginsInteger, BeginsPointer, BeginsValue, GivesPartsOutside, GivesStaticPart, GivesStaticParts, GivesStaticValue}
-use Rattle.lk_elaborate.specs.declared.givens.Beginning.{Beginning}
-use Rattle.lk_elaborate.specs.declared.givens.Beginning.TheVariants as given_begins
-use Rattle.lk_elaborate.specs.declared.givens.PartGiven.{PartGiven}
 use Rattle.lk_elaborate.specs.declared.static_values.Begun.{Begun}
 use Rattle.lk_elaborate.specs.declared.statics.Elements.{Elements}
-use Rattle.lk_elaborate.proofs.Addressing.{same_some}
 use Rattle.lk_elaborate.proofs.Telling.{another, are_told_on, bytes_in, given_on, kind_of as kind_begun, source_told, value_in}
 
 -- ---- types

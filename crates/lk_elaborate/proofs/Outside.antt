@@ -7,13 +7,13 @@ use Rattle.lk_typed.specs.Elaborated.{InPlace}
 use Rattle.lk_typed.specs.Env.{Env, Name}
 use Rattle.lk_typed.specs.Nodes.{Node, Placed}
 use Rattle.lk_typed.specs.declared.entity.Entity.{Entity}
-use Rattle.lk_elab_expr.specs.Leading.{GoesOn}
-use Rattle.lk_elab_expr.specs.Telling.{IsTold, IsTrueOf}
-use Rattle.lk_elab_expr.specs.declared.elaborator.Elaborator.{Elaborator}
-use Rattle.lk_elab_expr.specs.declared.locals.Locals.{Locals}
+use Rattle.lk_elaborator.specs.Leading.{GoesOn}
+use Rattle.lk_elaborator.specs.Telling.{IsTold, IsTrueOf}
+use Rattle.lk_elaborator.specs.declared.elaborator.Elaborator.{Elaborator}
+use Rattle.lk_elaborator.specs.declared.locals.Locals.{Locals}
+use Rattle.lk_elab_init.specs.Source.{IsToldSource}
 use Rattle.lk_elaborate.specs.Making.{StandIn}
 use Rattle.lk_elaborate.specs.Outside.{GoesOutside, LeadsOutside}
-use Rattle.lk_elaborate.specs.Source.{IsToldSource}
 use Rattle.lk_elaborate.proofs.Carried.{source_stays}
 
 pub outside_same : (walk : Elaborator) → GoesOutside walk walk

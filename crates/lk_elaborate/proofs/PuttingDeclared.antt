@@ -40,13 +40,13 @@ use Rattle.lk_check_decl.specs.declared.words.Scope.TheVariants as scopes
 use Rattle.lk_found.specs.Named.{name_in}
 use Rattle.lk_found.specs.declared.declarators.DeclaredName.{DeclaredName}
 use Rattle.lk_found.specs.declared.records.DeclaredHere.{DeclaredHere}
-use Rattle.lk_elab_expr.proofs.Growing.{grows_same}
-use Rattle.lk_elab_expr.specs.Gathering.{Gathers}
-use Rattle.lk_elab_expr.specs.Leading.{GoesOn, Grows}
-use Rattle.lk_elab_expr.specs.PuttingLocals.{IsLocalSo, PutsLocalOf}
-use Rattle.lk_elab_expr.specs.Rising.{Rises}
-use Rattle.lk_elab_expr.specs.declared.elaborator.Elaborator.{Elaborator}
-use Rattle.lk_elab_expr.specs.declared.entities.NamedEntity.{NamedEntity}
+use Rattle.lk_elaborator.proofs.Growing.{grows_same}
+use Rattle.lk_elaborator.specs.Gathering.{Gathers}
+use Rattle.lk_elaborator.specs.Leading.{GoesOn, Grows}
+use Rattle.lk_elaborator.specs.PuttingLocals.{IsLocalSo, PutsLocalOf}
+use Rattle.lk_elaborator.specs.Rising.{Rises}
+use Rattle.lk_elaborator.specs.declared.elaborator.Elaborator.{Elaborator}
+use Rattle.lk_elaborator.specs.declared.entities.NamedEntity.{NamedEntity}
 use Rattle.lk_elaborate.proofs.Carried.{goes_same, goes_then, in_rest, node_part, source_stays}
 use Rattle.lk_elaborate.proofs.Declaring.{among_parts, declared_so, static_so, the_name, there}
 use Rattle.lk_elaborate.proofs.Inside.{Inside, itself, itself_or_part, node_inside, nothing_inside}

@@ -18,9 +18,9 @@ use Rattle.lk_typed.specs.Nodes.{AStatement, AnExpression, Placed, at}
 use Rattle.lk_typed.specs.Parts.{added_by, first_adds, first_part, item_adds, item_around, item_part, items_in_turn, perhaps, statement_parts}
 use Rattle.lk_typed.specs.Stands.{IsIn}
 use Rattle.lk_typed.specs.StatementRules.{Around, in_body_of_loop, in_function}
-use Rattle.lk_elab_expr.proofs.Growing.{grows_on, grows_same}
-use Rattle.lk_elab_expr.specs.Leading.{GoesOn, Grows}
-use Rattle.lk_elab_expr.specs.declared.elaborator.Elaborator.{Elaborator}
+use Rattle.lk_elaborator.proofs.Growing.{grows_on, grows_same}
+use Rattle.lk_elaborator.specs.Leading.{GoesOn, Grows}
+use Rattle.lk_elaborator.specs.declared.elaborator.Elaborator.{Elaborator}
 use Rattle.lk_elaborate.proofs.Carried.{goes_same, goes_then, in_first, in_rest, node_part, source_stays}
 use Rattle.lk_elaborate.proofs.Inside.{by_part, inside_either, inside_first, inside_rest, itself_or_part, nothing_inside}
 use Rattle.lk_elaborate.proofs.PuttingDeclared.{GivesObject, NamesIn, ObjectsIn, all_of, loud_name, loud_object, those_of}

@@ -16,17 +16,17 @@ use Rattle.lk_typed.specs.declared.entity.Entity.{Entity}
 use Rattle.lk_typed.specs.declared.entity.EntityKind.{EntityKind}
 use Rattle.lk_typed.specs.declared.initialiser.StaticObject.{StaticObject}
 use Rattle.lk_typed.specs.declared.unit.Local.{Local}
-use Rattle.lk_elab_expr.proofs.Growing.{known_stays}
-use Rattle.lk_elab_expr.proofs.Numbers.{means_on}
-use Rattle.lk_elab_expr.specs.Gathering.{IsGathered}
-use Rattle.lk_elab_expr.specs.Leading.{GoesOn, Grows}
-use Rattle.lk_elab_expr.specs.PuttingLocals.{AreNumbered}
-use Rattle.lk_elab_expr.specs.PuttingLocals as put
-use Rattle.lk_elab_expr.specs.Rising.{IsRising}
-use Rattle.lk_elab_expr.specs.declared.elaborator.Elaborator.{Elaborator}
-use Rattle.lk_elab_expr.specs.declared.entities.Entities.{Entities}
-use Rattle.lk_elab_expr.specs.declared.entities.NamedEntity.{NamedEntity}
-use Rattle.lk_elab_expr.specs.declared.locals.Locals.{Locals}
+use Rattle.lk_elaborator.proofs.Growing.{known_stays}
+use Rattle.lk_elaborator.proofs.Numbers.{means_on}
+use Rattle.lk_elaborator.specs.Gathering.{IsGathered}
+use Rattle.lk_elaborator.specs.Leading.{GoesOn, Grows}
+use Rattle.lk_elaborator.specs.PuttingLocals.{AreNumbered}
+use Rattle.lk_elaborator.specs.PuttingLocals as put
+use Rattle.lk_elaborator.specs.Rising.{IsRising}
+use Rattle.lk_elaborator.specs.declared.elaborator.Elaborator.{Elaborator}
+use Rattle.lk_elaborator.specs.declared.entities.Entities.{Entities}
+use Rattle.lk_elaborator.specs.declared.entities.NamedEntity.{NamedEntity}
+use Rattle.lk_elaborator.specs.declared.locals.Locals.{Locals}
 use Rattle.lk_elaborate.specs.Outside.{LeadsOutside}
 use Rattle.lk_elaborate.specs.Putting.{AreRising, IsLocalHere, IsPutAs}
 use Rattle.lk_elaborate.specs.PuttingDeclared.{LocalsPut, NamesPut, ObjectsPut, PutsThose}

@@ -21,17 +21,17 @@ use Rattle.lk_typed.specs.Units.{IsNode, at_end}
 use Rattle.lk_typed.specs.declared.initialiser.LocalPart.{LocalPart}
 use Rattle.lk_typed.specs.declared.initialiser.LocalValue.{LocalValue}
 use Rattle.lk_typed.specs.declared.initialiser.LocalValue.TheVariants as value
-use Rattle.lk_elab_expr.proofs.Growing.{known_stays, leads_before, told_on}
-use Rattle.lk_elab_expr.specs.Leading.{Grows, Leads}
-use Rattle.lk_elab_expr.specs.declared.elaborator.Elaborator.{Elaborator}
-use Rattle.lk_elaborate.specs.Giving.{AreGivenAs, BeginsAs, IsGivenAs}
-use Rattle.lk_elaborate.specs.Giving.BeginsAs.{a_value, the_bytes, the_word}
-use Rattle.lk_elaborate.specs.Giving.AreGivenAs.{no_more, next}
+use Rattle.lk_elaborator.proofs.Growing.{known_stays, leads_before, told_on}
+use Rattle.lk_elaborator.specs.Leading.{Grows, Leads}
+use Rattle.lk_elaborator.specs.declared.elaborator.Elaborator.{Elaborator}
+use Rattle.lk_elab_init.specs.Giving.{AreGivenAs, BeginsAs, IsGivenAs}
+use Rattle.lk_elab_init.specs.Giving.BeginsAs.{a_value, the_bytes, the_word}
+use Rattle.lk_elab_init.specs.Giving.AreGivenAs.{no_more, next}
+use Rattle.lk_elab_init.specs.Source.{IsToldSource}
+use Rattle.lk_elab_init.specs.declared.givens.Beginning.{Beginning}
+use Rattle.lk_elab_init.specs.declared.givens.Beginning.TheVariants as begins
+use Rattle.lk_elab_init.specs.declared.givens.PartGiven.{PartGiven}
 use Rattle.lk_elaborate.specs.LocalParts.{AreTold, GivesLocalPart, GivesLocalParts, GivesLocalValue}
-use Rattle.lk_elaborate.specs.Source.{IsToldSource}
-use Rattle.lk_elaborate.specs.declared.givens.Beginning.{Beginning}
-use Rattle.lk_elaborate.specs.declared.givens.Beginning.TheVariants as begins
-use Rattle.lk_elaborate.specs.declared.givens.PartGiven.{PartGiven}
 
 pub source_told : (externs : List Name) (unit : Unit) (walk : Elaborator) → IsToldSource externs unit walk → AreTold externs unit walk
 source_told externs unit walk told = record { ready = told.ready; told = told.told }

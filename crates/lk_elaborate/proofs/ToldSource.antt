@@ -54,9 +54,9 @@ use Rattle.lk_found.specs.declared.found.Found.{Found}
 use Rattle.lk_found.specs.declared.records.DeclaredHere.{DeclaredHere}
 use Rattle.lk_found.specs.declared.records.InitialiserKind.{InitialiserKind}
 use Rattle.lk_found.specs.declared.records.Meant.{Meant}
-use Rattle.lk_elab_expr.specs.Telling.{HasFields, IsMeant, IsTold, IsTrueOf, IsTrueOfName}
-use Rattle.lk_elaborate.specs.Source.{IsToldSource}
-use Rattle.lk_elab_expr.specs.declared.elaborator.Elaborator.{Elaborator}
+use Rattle.lk_elaborator.specs.Telling.{HasFields, IsMeant, IsTold, IsTrueOf, IsTrueOfName}
+use Rattle.lk_elaborator.specs.declared.elaborator.Elaborator.{Elaborator}
+use Rattle.lk_elab_init.specs.Source.{IsToldSource}
 
 -- ---- entries
 

@@ -26,17 +26,18 @@ use Rattle.lk_typed.specs.declared.members.Members.TheVariants as members
 use Rattle.lk_typed.specs.declared.unit.TypedUnit.{TypedUnit}
 use Rattle.lk_found.specs.Structs.{listed, member_of}
 use Rattle.lk_checker.specs.declared.checker.Checked.{Checked}
+use Rattle.lk_elaborator.proofs.Gathering.{at_contained, contains_at}
+use Rattle.lk_elaborator.proofs.Numbers.{means_on}
+use Rattle.lk_elaborator.specs.Beginning.{Begins}
+use Rattle.lk_elaborator.specs.Gathering.{AreFinished, IsGathered, declaration_of, entity_at}
+use Rattle.lk_elaborator.specs.Rising.{IsRising}
+use Rattle.lk_elaborator.specs.declared.elaborator.Elaborator.{Elaborator}
+use Rattle.lk_elaborator.specs.declared.entities.NamedEntity.{NamedEntity}
 use Rattle.lk_elab_expr.proofs.Gathered as entities
-use Rattle.lk_elab_expr.proofs.Gathering.{at_contained, contains_at}
-use Rattle.lk_elab_expr.proofs.Numbers.{means_on}
 use Rattle.lk_elab_expr.proofs.Used.{first_uses}
-use Rattle.lk_elab_expr.specs.Beginning.{Begins}
-use Rattle.lk_elab_expr.specs.Gathering.{AreFinished, IsGathered, declaration_of, entity_at}
 use Rattle.lk_elab_expr.specs.Naming.{AreFirstUses, AreNamesOf, IsNameOf}
-use Rattle.lk_elab_expr.specs.Rising.{IsRising}
-use Rattle.lk_elab_expr.specs.declared.elaborator.Elaborator.{Elaborator}
-use Rattle.lk_elab_expr.specs.declared.entities.NamedEntity.{NamedEntity}
 use Rattle.lk_nodes.proofs.Settled.{sources_are_settled}
+use Rattle.lk_elab_init.specs.Source.{IsToldSource}
 use Rattle.lk_elaborate.proofs.Externals.{name_on}
 use Rattle.lk_elaborate.proofs.Outside.{source_outside}
 use Rattle.lk_elaborate.proofs.ToldSource.{told_source}
@@ -45,7 +46,6 @@ use Rattle.lk_elaborate.specs.Externals.{MakesExternals, PutsExternals}
 use Rattle.lk_elaborate.specs.Finishing.{HasWholeStructs, IsTreeOf, IsWhole}
 use Rattle.lk_elaborate.specs.Outside.{GoesOutside, LeadsOutside}
 use Rattle.lk_elaborate.specs.Putting.{AreRising, StandsInside}
-use Rattle.lk_elaborate.specs.Source.{IsToldSource}
 
 -- ---- structs
 

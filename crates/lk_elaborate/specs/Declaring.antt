@@ -19,8 +19,8 @@ use Rattle.lk_typed.specs.declared.statement.LocalInit.{LocalInit}
 use Rattle.lk_found.specs.Named.{name_in}
 use Rattle.lk_found.specs.declared.declarators.DeclaredName.{DeclaredName}
 use Rattle.lk_found.specs.declared.records.DeclaredHere.{DeclaredHere}
-use Rattle.lk_elab_expr.specs.Leading.{Leads}
-use Rattle.lk_elab_expr.specs.declared.elaborator.Elaborator.{Elaborator}
+use Rattle.lk_elaborator.specs.Leading.{Leads}
+use Rattle.lk_elaborator.specs.declared.elaborator.Elaborator.{Elaborator}
 use Rattle.lk_elaborate.specs.Making.{MakesOf, StandIn}
 
 -- the initialiser of the object that the node with the number n declares, of the type with the number t

@@ -16,7 +16,7 @@ use Rattle.lk_typed.specs.TypedStatements.{AreItems, MakesStmt}
 use Rattle.lk_typed.specs.declared.statement.TypedItem.{TypedItem}
 use Rattle.lk_typed.specs.declared.statement.TypedItem.TheOpen.{TypedStmtForm-F}
 use Rattle.lk_typed.specs.declared.statement.TypedStmt.{TypedStmt}
-use Rattle.lk_elab_expr.specs.declared.elaborator.Elaborator.{Elaborator}
+use Rattle.lk_elaborator.specs.declared.elaborator.Elaborator.{Elaborator}
 use Rattle.lk_elaborate.specs.Making.{IsRound, MakesOf}
 use Rattle.lk_elaborate.specs.declared.statements.Around.{Around}
 

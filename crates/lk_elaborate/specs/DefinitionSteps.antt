@@ -16,8 +16,8 @@ use Rattle.lk_check_decl.specs.declared.words.Scope.TheVariants.{File}
 use Rattle.lk_found.specs.Named.{name_in}
 use Rattle.lk_found.specs.declared.declarators.DeclaredName.{DeclaredName}
 use Rattle.lk_found.specs.declared.records.DeclaredHere.{DeclaredHere}
-use Rattle.lk_elab_expr.specs.Leading.{entity_by}
-use Rattle.lk_elab_expr.specs.declared.elaborator.Elaborator.{Elaborator}
+use Rattle.lk_elaborator.specs.Leading.{entity_by}
+use Rattle.lk_elaborator.specs.declared.elaborator.Elaborator.{Elaborator}
 use Rattle.lk_elaborate.specs.Defining.{inside}
 use Rattle.lk_elaborate.specs.PuttingDeclared.{PutsRecorded}
 use Rattle.lk_elaborate.specs.declared.definitions.Head.{Head}

@@ -13,11 +13,11 @@ use Rattle.lk_typed.specs.declared.entity.Entity.{Entity}
 use Rattle.lk_typed.specs.declared.entity.EntityKind.{EntityKind}
 use Rattle.lk_typed.specs.declared.initialiser.StaticObject.{StaticObject}
 use Rattle.lk_typed.specs.declared.unit.Body.{Body}
-use Rattle.lk_elab_expr.specs.Gathering.{IsGathered}
+use Rattle.lk_elaborator.specs.Gathering.{IsGathered}
+use Rattle.lk_elaborator.specs.Rising.{IsRising}
+use Rattle.lk_elaborator.specs.declared.elaborator.Elaborator.{Elaborator}
+use Rattle.lk_elaborator.specs.declared.entities.NamedEntity.{NamedEntity}
 use Rattle.lk_elab_expr.specs.Naming.{IsNameOf}
-use Rattle.lk_elab_expr.specs.Rising.{IsRising}
-use Rattle.lk_elab_expr.specs.declared.elaborator.Elaborator.{Elaborator}
-use Rattle.lk_elab_expr.specs.declared.entities.NamedEntity.{NamedEntity}
 use Rattle.lk_elaborate.specs.Making.{StandIn}
 use Rattle.lk_elaborate.specs.Outside.{LeadsOutside}
 use Rattle.lk_elaborate.specs.Putting.{IsNameInside, PutsObjects}

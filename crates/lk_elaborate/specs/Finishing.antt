@@ -10,9 +10,9 @@ use Rattle.lk_typed.specs.declared.unit.Body.{Body}
 use Rattle.lk_typed.specs.declared.unit.TypedUnit.{TypedUnit}
 use Rattle.lk_found.specs.Recorded.{Recorded}
 use Rattle.lk_checker.specs.declared.checker.Checked.{Checked}
-use Rattle.lk_elab_expr.specs.Gathering.{AreFinished}
-use Rattle.lk_elab_expr.specs.declared.elaborator.Elaborator.{Elaborator}
-use Rattle.lk_elab_expr.specs.declared.entities.Entities.{Entities}
+use Rattle.lk_elaborator.specs.Gathering.{AreFinished}
+use Rattle.lk_elaborator.specs.declared.elaborator.Elaborator.{Elaborator}
+use Rattle.lk_elaborator.specs.declared.entities.Entities.{Entities}
 use Rattle.lk_elaborate.specs.declared.unit.Finished.{Finished}
 
 -- a struct is complete, or was never defined

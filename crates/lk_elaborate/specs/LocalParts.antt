@@ -16,12 +16,12 @@ use Rattle.lk_typed.specs.Units.{IsNode, at_end}
 use Rattle.lk_typed.specs.declared.initialiser.LocalPart.{LocalPart}
 use Rattle.lk_typed.specs.declared.initialiser.LocalValue.{LocalValue}
 use Rattle.lk_typed.specs.declared.statement.LocalInit.{LocalInit}
-use Rattle.lk_elab_expr.specs.Leading.{Leads}
-use Rattle.lk_elab_expr.specs.Telling.{IsTold}
-use Rattle.lk_elab_expr.specs.declared.elaborator.Elaborator.{Elaborator}
-use Rattle.lk_elaborate.specs.Giving.{AreGivenAs, IsGivenAs}
-use Rattle.lk_elaborate.specs.Source.{IsToldSource}
-use Rattle.lk_elaborate.specs.declared.givens.PartGiven.{PartGiven}
+use Rattle.lk_elaborator.specs.Leading.{Leads}
+use Rattle.lk_elaborator.specs.Telling.{IsTold}
+use Rattle.lk_elaborator.specs.declared.elaborator.Elaborator.{Elaborator}
+use Rattle.lk_elab_init.specs.Giving.{AreGivenAs, IsGivenAs}
+use Rattle.lk_elab_init.specs.Source.{IsToldSource}
+use Rattle.lk_elab_init.specs.declared.givens.PartGiven.{PartGiven}
 
 -- what was found at the nodes of a source is true of them
 pub record AreTold (externs : List Name) (unit : Unit) (walk : Elaborator) : Type 0 where

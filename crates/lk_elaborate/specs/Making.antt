@@ -39,9 +39,9 @@ use Rattle.lk_typed.specs.declared.statement.TypedStmt.{TypedStmt}
 use Rattle.lk_typed.specs.declared.statement.TypedStmtForm.{TypedStmtForm}
 use Rattle.lk_labels.specs.Leasts.{AreLabels}
 use Rattle.lk_rules.specs.Statements.{item_told, items_told, told_of}
-use Rattle.lk_elab_expr.specs.Leading.{Grows, GoesOn, Leads}
-use Rattle.lk_elab_expr.specs.declared.elaborator.Elaborator.{Elaborator}
-use Rattle.lk_elaborate.specs.Source.{IsToldSource}
+use Rattle.lk_elaborator.specs.Leading.{Grows, GoesOn, Leads}
+use Rattle.lk_elaborator.specs.declared.elaborator.Elaborator.{Elaborator}
+use Rattle.lk_elab_init.specs.Source.{IsToldSource}
 use Rattle.lk_elaborate.specs.declared.cases.Cases.{Cases}
 use Rattle.lk_elaborate.specs.declared.statements.Around.{Around}
 

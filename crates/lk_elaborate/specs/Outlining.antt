@@ -10,8 +10,8 @@ use Rattle.lk_typed.specs.TypedUnits.{IsBody}
 use Rattle.lk_typed.specs.declared.entity.Entity.{Entity}
 use Rattle.lk_typed.specs.declared.initialiser.StaticObject.{StaticObject}
 use Rattle.lk_typed.specs.declared.unit.Body.{Body}
-use Rattle.lk_elab_expr.specs.declared.elaborator.Elaborator.{Elaborator}
-use Rattle.lk_elab_expr.specs.declared.entities.NamedEntity.{NamedEntity}
+use Rattle.lk_elaborator.specs.declared.elaborator.Elaborator.{Elaborator}
+use Rattle.lk_elaborator.specs.declared.entities.NamedEntity.{NamedEntity}
 use Rattle.lk_elaborate.specs.Making.{StandIn}
 use Rattle.lk_elaborate.specs.Outside.{LeadsOutside}
 use Rattle.lk_elaborate.specs.Putting.{PutsNames, PutsObjects}

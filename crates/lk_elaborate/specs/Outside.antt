@@ -6,8 +6,8 @@ use Rattle.lk_typed.specs.Meaning.{IsReady}
 use Rattle.lk_typed.specs.Tables.{IsEntityAt, Tables}
 use Rattle.lk_typed.specs.declared.entity.Entity.{Entity}
 use Rattle.lk_typed.specs.declared.unit.Local.{Local}
-use Rattle.lk_elab_expr.specs.Leading.{entity_by}
-use Rattle.lk_elab_expr.specs.declared.elaborator.Elaborator.{Elaborator}
+use Rattle.lk_elaborator.specs.Leading.{entity_by}
+use Rattle.lk_elaborator.specs.declared.elaborator.Elaborator.{Elaborator}
 
 abbrev pub tables_of : List CType → List Entity → List Local → Tables
 tables_of types entities locals = record { types = types; entities = entities; locals = locals }

@@ -22,12 +22,12 @@ use Rattle.lk_typed.specs.declared.entity.Linkage.{Linkage}
 use Rattle.lk_typed.specs.declared.initialiser.StaticObject.{StaticObject}
 use Rattle.lk_typed.specs.declared.unit.Local.{Local}
 use Rattle.lk_found.specs.declared.found.At.{At}
-use Rattle.lk_elab_expr.specs.Gathering.{IsGathered, declaration_of}
-use Rattle.lk_elab_expr.specs.PuttingLocals.{AreNumbered, IsLocalSo}
-use Rattle.lk_elab_expr.specs.PuttingLocals as put
-use Rattle.lk_elab_expr.specs.Rising.{IsRising}
-use Rattle.lk_elab_expr.specs.declared.elaborator.Elaborator.{Elaborator}
-use Rattle.lk_elab_expr.specs.declared.entities.NamedEntity.{NamedEntity}
+use Rattle.lk_elaborator.specs.Gathering.{IsGathered, declaration_of}
+use Rattle.lk_elaborator.specs.PuttingLocals.{AreNumbered, IsLocalSo}
+use Rattle.lk_elaborator.specs.PuttingLocals as put
+use Rattle.lk_elaborator.specs.Rising.{IsRising}
+use Rattle.lk_elaborator.specs.declared.elaborator.Elaborator.{Elaborator}
+use Rattle.lk_elaborator.specs.declared.entities.NamedEntity.{NamedEntity}
 use Rattle.lk_elaborate.specs.Making.{StandIn}
 use Rattle.lk_elaborate.specs.Outside.{LeadsOutside, tables_of}
 

@@ -30,13 +30,13 @@ use Rattle.lk_found.specs.Named.{name_in}
 use Rattle.lk_found.specs.Findings.{IsDeclaredAs}
 use Rattle.lk_found.specs.declared.declarators.DeclaredName.{DeclaredName}
 use Rattle.lk_found.specs.declared.records.DeclaredHere.{DeclaredHere}
-use Rattle.lk_elab_expr.specs.Gathering.{IsGathered}
-use Rattle.lk_elab_expr.specs.PuttingLocals.{AreNumbered}
-use Rattle.lk_elab_expr.specs.PuttingLocals as put
-use Rattle.lk_elab_expr.specs.Rising.{IsRising}
-use Rattle.lk_elab_expr.specs.declared.elaborator.Elaborator.{Elaborator}
-use Rattle.lk_elab_expr.specs.declared.entities.Entities.{Entities}
-use Rattle.lk_elab_expr.specs.declared.entities.NamedEntity.{NamedEntity}
+use Rattle.lk_elaborator.specs.Gathering.{IsGathered}
+use Rattle.lk_elaborator.specs.PuttingLocals.{AreNumbered}
+use Rattle.lk_elaborator.specs.PuttingLocals as put
+use Rattle.lk_elaborator.specs.Rising.{IsRising}
+use Rattle.lk_elaborator.specs.declared.elaborator.Elaborator.{Elaborator}
+use Rattle.lk_elaborator.specs.declared.entities.Entities.{Entities}
+use Rattle.lk_elaborator.specs.declared.entities.NamedEntity.{NamedEntity}
 use Rattle.lk_elaborate.specs.Making.{StandIn}
 use Rattle.lk_elaborate.specs.Outside.{LeadsOutside}
 use Rattle.lk_elaborate.specs.Putting.{AreRising, HasBodyIn, IsLocalHere, IsPutAs, PutsAll}

@@ -14,7 +14,7 @@ use Rattle.lk_typed.specs.NodeParts.{body_items}
 use Rattle.lk_typed.specs.Nodes.{ADeclaration, AStatement, at}
 use Rattle.lk_typed.specs.Parts.{first_part, item_part, items_in_turn, perhaps, statement_parts}
 use Rattle.lk_typed.specs.StatementRules.{Around, in_function}
-use Rattle.lk_elab_expr.specs.declared.elaborator.Elaborator.{Elaborator}
+use Rattle.lk_elaborator.specs.declared.elaborator.Elaborator.{Elaborator}
 use Rattle.lk_elaborate.specs.Defining.{inside}
 use Rattle.lk_elaborate.specs.Putting.{PutsIn}
 

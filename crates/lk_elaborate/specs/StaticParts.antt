@@ -24,16 +24,16 @@ use Rattle.lk_typed.specs.declared.initialiser.StaticObject.{StaticObject}
 use Rattle.lk_typed.specs.declared.initialiser.StaticPart.{StaticPart}
 use Rattle.lk_typed.specs.declared.initialiser.StaticValue.{StaticValue}
 use Rattle.lk_typed.specs.declared.initialiser.StaticValue.TheVariants as begins
-use Rattle.lk_elab_expr.specs.Leading.{Leads}
-use Rattle.lk_elab_expr.specs.Telling.{IsTold}
-use Rattle.lk_elab_expr.specs.declared.elaborator.Elaborator.{Elaborator}
-use Rattle.lk_elaborate.specs.Giving.{AreGivenAs, IsGivenAs, element_in}
+use Rattle.lk_elaborator.specs.Leading.{Leads}
+use Rattle.lk_elaborator.specs.Telling.{IsTold}
+use Rattle.lk_elaborator.specs.declared.elaborator.Elaborator.{Elaborator}
+use Rattle.lk_elab_init.specs.Giving.{AreGivenAs, IsGivenAs, element_in}
+use Rattle.lk_elab_init.specs.Reaching.{address_in, position_in}
+use Rattle.lk_elab_init.specs.declared.givens.PartGiven.{PartGiven}
+use Rattle.lk_elab_init.specs.declared.positions.Position.{Position}
+use Rattle.lk_elab_init.specs.declared.positions.Reached.{Reached}
 use Rattle.lk_elaborate.specs.LocalParts.{AreTold, OfTold}
 use Rattle.lk_elaborate.specs.Outside.{LeadsOutside, tables_of}
-use Rattle.lk_elaborate.specs.Reaching.{address_in, position_in}
-use Rattle.lk_elaborate.specs.declared.givens.PartGiven.{PartGiven}
-use Rattle.lk_elaborate.specs.declared.positions.Position.{Position}
-use Rattle.lk_elaborate.specs.declared.positions.Reached.{Reached}
 use Rattle.lk_elaborate.specs.declared.static_values.Begun.{Begun}
 use Rattle.lk_elaborate.specs.declared.static_values.Scalar.{Scalar}
 use Rattle.lk_elaborate.specs.declared.static_values.Scalar.TheVariants as scalar

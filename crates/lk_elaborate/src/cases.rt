@@ -6,7 +6,7 @@ ghost use Rattle.lk_elaborate.specs.Making.{PutsOfDefault, PutsOfElse, PutsOfIte
 
 use lk_base::{Boxed, Kind, NoMemory, Seq};
 use lk_check_decl::case_value;
-use lk_elab_expr::{Elaborator, nowhere, typing_at};
+use lk_elaborator::{Elaborator, nowhere, typing_at};
 use lk_tree::{BlockItem, Expr, Stmt, StmtForm};
 use lk_typed::{Constant, SwitchCase};
 use std::alloc::Global;

@@ -1,6 +1,6 @@
 //! Definitions of functions (C99 6.9.1).
 ghost use Rattle.std.specs.Prelude.{◌≡◌, IfOk, OnOk};
-ghost use Rattle.lk_elab_expr.specs.Leading.{GoesOn};
+ghost use Rattle.lk_elaborator.specs.Leading.{GoesOn};
 ghost use Rattle.lk_elaborate.specs.Defining.{IsRoundIn, MakesBlock};
 ghost use Rattle.lk_elaborate.specs.DefinitionSteps.{IsHead, PutsBodyOf};
 ghost use Rattle.lk_elaborate.specs.Outlining.{HasNoLocals, MakesDefinition};
@@ -10,10 +10,10 @@ ghost use Rattle.lk_elaborate.specs.PuttingStatements.{PutsBlock};
 use crate::declarations::{declared_type, name_in, put_name};
 use crate::parameters::put_parameters;
 use crate::statements::{Around, block_items};
-use crate::type_forms::result_type;
 use lk_base::{NoMemory, Seq};
 use lk_check_decl::Scope;
-use lk_elab_expr::{Elaborator, Locals};
+use lk_elab_init::result_type;
+use lk_elaborator::{Elaborator, Locals};
 use lk_labels::{items_of, labels_of};
 use lk_tree::Function;
 use lk_typed::{Body, Local, TypedStmt, TypedStmtForm};

@@ -4,7 +4,7 @@ ghost use Rattle.lk_typed.specs.Labels.{Label};
 ghost use Rattle.lk_labels.specs.Leasts.{AreLabels, LabelNamed};
 
 use lk_base::{Name, NoMemory};
-use lk_elab_expr::nowhere;
+use lk_elaborator::nowhere;
 use lk_labels::Labels;
 
 /// The number of the node of the label with a name. A `goto` has its label in the function (C99 6.8.6.1, 1).

@@ -5,23 +5,16 @@
 //! the syntax tree and those records alone.
 #![tactic(auto)]
 
-mod absent;
-mod advancing;
+mod beside;
 mod cases;
 mod declarations;
 mod definitions;
-mod givens;
 mod labels;
 mod local_inits;
-mod named_cells;
 mod parameters;
-mod paths;
-mod positions;
-mod reached;
 mod statements;
 mod static_values;
 mod statics;
-mod type_forms;
 mod unit;
 
 pub use unit::elaborate;

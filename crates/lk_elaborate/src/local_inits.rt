@@ -1,19 +1,18 @@
 //! What the declaration of a local gives it (C99 6.7.8).
 ghost use Rattle.std.specs.Prelude.{IfOk, OnOk, []};
-ghost use Rattle.lk_elab_expr.specs.Leading.{Grows};
-ghost use Rattle.lk_elaborate.specs.Cells.{cells_given};
-ghost use Rattle.lk_elaborate.specs.Giving.{GivesTo};
-ghost use Rattle.lk_elaborate.specs.Places.{ArePut};
-ghost use Rattle.lk_elaborate.specs.Settled.{fields_listed};
+ghost use Rattle.lk_elaborator.specs.Leading.{Grows};
+ghost use Rattle.lk_elab_init.specs.Cells.{cells_given};
+ghost use Rattle.lk_elab_init.specs.Giving.{GivesTo};
+ghost use Rattle.lk_elab_init.specs.Places.{ArePut};
+ghost use Rattle.lk_elab_init.specs.Settled.{fields_listed};
 ghost use Rattle.lk_typed.specs.Meaning.{meaning};
 ghost use Rattle.lk_elaborate.specs.LocalParts.{GivesLocalInit};
 ghost use Rattle.lk_elaborate.specs.LocalParts.{BeginsLocal, GivesLocalPart, GivesLocalParts, GivesLocalValue};
 
-use crate::absent::absent_cells;
-use crate::givens::{Beginning, PartGiven, put_given};
-use crate::paths::path_of;
 use lk_base::{NoMemory, Seq};
-use lk_elab_expr::{Elaborator, given_value};
+use lk_elab_expr::given_value;
+use lk_elab_init::{Beginning, PartGiven, absent_cells, path_of, put_given};
+use lk_elaborator::Elaborator;
 use lk_tree::{Expr, Init};
 use lk_typed::{AbsentCells, ExprType, LocalInit, LocalPart, LocalValue};
 use lk_types::TypeId;

@@ -7,8 +7,8 @@ ghost use Rattle.lk_tree.specs.declared.statement.StmtForm.{out-StmtForm};
 ghost use Rattle.lk_typed.specs.Meaning.{IsKnownType};
 ghost use Rattle.lk_typed.specs.declared.statement.TypedStmtForm.{out-TypedStmtForm};
 ghost use Rattle.lk_typed.specs.declared.statement.TypedItem.TheOpen.{TypedStmtForm-F};
-ghost use Rattle.lk_elab_expr.specs.Known.{OfEach};
-ghost use Rattle.lk_elab_expr.specs.Leading.{Grows, GoesOn};
+ghost use Rattle.lk_elaborator.specs.Known.{OfEach};
+ghost use Rattle.lk_elaborator.specs.Leading.{Grows, GoesOn};
 ghost use Rattle.lk_elaborate.specs.Asking.{HasPromoted};
 ghost use Rattle.lk_elaborate.specs.Making.{FindsSwitch, IsKindOf, MakesElse, MakesFirst, MakesForm};
 ghost use Rattle.lk_elaborate.specs.Making.{MakesGiven, MakesHead, MakesIf, MakesItem, MakesItems};
@@ -20,9 +20,8 @@ use crate::cases::{Cases, cases_of};
 use crate::declarations::block_declaration;
 use crate::labels::label_named;
 use lk_base::{Boxed, Kind, Name, NoMemory, Seq};
-use lk_elab_expr::{
-    Elaborator, converted, expression, given_value, promoted_type, value_at, value_node,
-};
+use lk_elab_expr::{expression, given_value, promoted_type};
+use lk_elaborator::{Elaborator, converted, value_at, value_node};
 use lk_labels::Labels;
 use lk_tree::{BlockItem, Expr, ForFirst, Stmt, StmtForm};
 use lk_typed::{ExprType, TypedExpr, TypedFirst, TypedItem, TypedStmt, TypedStmtForm, kind_of};

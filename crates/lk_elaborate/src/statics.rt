@@ -7,20 +7,19 @@ ghost use Rattle.lk_typed.specs.Meaning.{meaning};
 ghost use Rattle.lk_typed.specs.declared.initialiser.StaticPart.{StaticPart as Part};
 ghost use Rattle.lk_typed.specs.declared.initialiser.StaticValue.TheVariants as begins;
 ghost use Rattle.lk_types.specs.Table.{IsKnown};
-ghost use Rattle.lk_elab_expr.specs.Leading.{GoesOn, Grows};
-ghost use Rattle.lk_elaborate.specs.Giving.{GivesTo, Puts, element_in};
-ghost use Rattle.lk_elaborate.specs.declared.givens.PartGiven.{PartGiven as Given};
+ghost use Rattle.lk_elaborator.specs.Leading.{GoesOn, Grows};
+ghost use Rattle.lk_elab_init.specs.Giving.{GivesTo, Puts, element_in};
+ghost use Rattle.lk_elab_init.specs.declared.givens.PartGiven.{PartGiven as Given};
 ghost use Rattle.lk_elaborate.specs.Putting.{AreRising, PutsObject};
 ghost use Rattle.lk_elaborate.specs.StaticParts.{AreBefore, AreBytesOf, ArePartsOfText, BeginsValue};
 ghost use Rattle.lk_elaborate.specs.StaticParts.{GivesPartsOutside, GivesStaticPart, GivesStaticParts};
 
-use crate::givens::{Beginning, PartGiven, put_given};
-use crate::paths::{longer_path, path_of};
+use crate::beside::beside;
 use crate::static_values::{Begun, static_value};
-use crate::type_forms::{element_of, kind_at};
 use lk_arith::convert;
 use lk_base::{CellStep, Kind, NoMemory, Seq};
-use lk_elab_expr::{Elaborator, Locals, nowhere};
+use lk_elab_init::{Beginning, PartGiven, element_of, kind_at, longer_path, path_of, put_given};
+use lk_elaborator::{Elaborator, Locals, nowhere};
 use lk_found::At;
 use lk_tree::{Expr, Init};
 use lk_typed::{StaticObject, StaticPart, StaticValue};
@@ -48,7 +47,8 @@ fn begun_part(alloc: Global, given: &PartGiven<'_>, begun: Begun) -> Result<Stat
     ensures { IfOk result (λ part. part ≡
         record { path = given.now.path; ty = given.now.ty; value = begun.value; pointer = begun.pointer }) }
 {
-    let path = path_of(alloc, given.path.list())?;
+    let made = path_of(alloc, given.path.list());
+    let (path, begun) = beside(made, begun)?;
     let Begun { value, pointer } = begun;
     Ok(StaticPart {
         path,

@@ -4,18 +4,19 @@ ghost use Rattle.lk_typed.specs.Elements.{HasFewElements};
 ghost use Rattle.lk_typed.specs.Env.{Name};
 ghost use Rattle.lk_typed.specs.Meaning.{IsReady};
 ghost use Rattle.lk_typed.specs.TypedUnits.{IsTypedUnit};
-ghost use Rattle.lk_elab_expr.specs.Beginning.{Begins};
+ghost use Rattle.lk_elaborator.specs.Beginning.{Begins};
 ghost use Rattle.lk_elaborate.specs.Checked.{IsCheckedOf};
 ghost use Rattle.lk_elaborate.specs.Externals.{MakesExternal, MakesExternals};
 ghost use Rattle.lk_elaborate.specs.Finishing.{HasWholeStructs, IsFinishedOf, IsTreeOf, IsUnitOf, IsWhole};
 ghost use Rattle.lk_elaborate.specs.Outlining.{HasNoLocals};
 ghost use Rattle.lk_elaborate.specs.Outside.{GoesOutside};
 
+use crate::beside::beside;
 use crate::declarations::file_declaration;
 use crate::definitions::definition;
 use lk_base::{NoMemory, Seq};
 use lk_checker::Checked;
-use lk_elab_expr::{Elaborator, Entities, Locals, SourceTypes, nowhere};
+use lk_elaborator::{Elaborator, Entities, Locals, SourceTypes, nowhere};
 use lk_found::Records;
 use lk_tree::{Decl, Unit};
 use lk_typed::{Body, Entity, Members, StaticObject, TypedUnit};
@@ -124,7 +125,9 @@ fn in_parts(walk: Elaborator) -> (SourceTypes, Entities, Rest)
 fn unit_of(types: SourceTypes, entities: Entities, rest: Rest) -> Result<TypedUnit, NoMemory>
     ensures { IfOk result (IsUnitOf types entities rest.records rest.objects rest.bodies) }
 {
-    let Finished { types, entities } = finish(types, entities, &rest.records)?;
+    let made = finish(types, entities, &rest.records);
+    let (finished, rest) = beside(made, rest)?;
+    let Finished { types, entities } = finished;
     let Rest {
         records,
         objects,

@@ -13,15 +13,15 @@ use Rattle.lk_typed.specs.declared.expression.Callee.TheVariants as callee
 use Rattle.lk_typed.specs.declared.expression.TypedForm.TheVariants as form
 use Rattle.lk_typed.specs.declared.expression.TypedForm.{out-TypedForm}
 use Rattle.lk_typed.specs.declared.library.LibraryCall.TheVariants as library
+use Rattle.lk_elaborator.specs.Standing.{IsOne, IsPart, MakesOwn, PartStandsAs}
+use Rattle.lk_elaborator.proofs.Growing.{grows_then, leads_before, part_stands_stay, stands_stay, told_on}
+use Rattle.lk_elaborator.proofs.Knowing.{both_ok, on_ok}
+use Rattle.lk_elaborator.proofs.Numbers.{means_led, own_node}
 use Rattle.lk_elab_expr.specs.Allocating.{AreCounted, Counts}
 use Rattle.lk_elab_expr.specs.Calling.{IsCalling}
 use Rattle.lk_elab_expr.specs.PassedArguments.{PutsPart}
-use Rattle.lk_elab_expr.specs.Standing.{IsOne, IsPart, MakesOwn, PartStandsAs}
 use Rattle.lk_elab_expr.proofs.CallForms.{allocation_is, creating_is, library_is, named_is, pointed_is}
 use Rattle.lk_elab_expr.proofs.FormsAt.{call_at, call_made_of, callee_made_of, form_at, made_of, one_at, two_at}
-use Rattle.lk_elab_expr.proofs.Growing.{grows_then, leads_before, part_stands_stay, stands_stay, told_on}
-use Rattle.lk_elab_expr.proofs.Knowing.{both_ok, on_ok}
-use Rattle.lk_elab_expr.proofs.Numbers.{means_led, own_node}
 use Rattle.lk_elab_expr.proofs.Passing.{all_passed, call_on, none_passed, passed_more, put_more, told_function}
 use Rattle.lk_elab_expr.proofs.Sizing.{factors_at, some_placed}
 use Rattle.lk_elab_expr.proofs.Within.{expression_at, placed_of, told_by, told_of, told_one, told_left, told_right}

@@ -2,7 +2,7 @@ use Rattle.std.proofs.Common.{◌≡◌, ◌∙◌, ap, subst}
 use Rattle.lk_typed.specs.Env.{ConvertedTo}
 use Rattle.lk_typed.specs.Meaning.{meaning, meaning_of}
 use Rattle.lk_typed.specs.Ty.{Pointer}
-use Rattle.lk_elab_expr.specs.Standing.{StandsAs}
+use Rattle.lk_elaborator.specs.Standing.{StandsAs}
 use Rattle.lk_elab_expr.proofs.allocations.byte_behind.Goals as goal
 
 pub returns-in_ok-target-in-ConvertedTo : goal.returns-in_ok-target-in-ConvertedTo

@@ -1,6 +1,6 @@
 use Rattle.std.proofs.Common.{◌∙◌, sym, ap}
 use Rattle.lk_typed.specs.Meaning.{meaning, meaning_of}
-use Rattle.lk_elab_expr.proofs.Knowing.{target_is}
+use Rattle.lk_elaborator.proofs.Knowing.{target_is}
 use Rattle.lk_elab_expr.proofs.allocations.pointed_to.Goals as goal
 
 pub returns-in-Some : goal.returns-in-Some

@@ -5,11 +5,11 @@ use Rattle.lk_typed.specs.Env.{ConvertedTo}
 use Rattle.lk_typed.specs.Meaning.{meaning}
 use Rattle.lk_typed.specs.Ty.{is_pointer, is_void}
 use Rattle.lk_typed.specs.declared.typed.ExprType.TheVariants.{Listed}
+use Rattle.lk_elaborator.proofs.Growing.{known_stays, type_on}
+use Rattle.lk_elaborator.proofs.Knowing.{void_is}
 use Rattle.lk_elab_expr.specs.CastForms.{casting}
 use Rattle.lk_elab_expr.specs.declared.casts.Casting.TheVariants as how
 use Rattle.lk_elab_expr.proofs.Casting.{convert_by, discard_by, null_by}
-use Rattle.lk_elab_expr.proofs.Growing.{known_stays, type_on}
-use Rattle.lk_elab_expr.proofs.Knowing.{void_is}
 use Rattle.lk_elab_expr.proofs.Roles.{cast_given}
 use Rattle.lk_elab_expr.proofs.casts.cast.Goals as goal
 

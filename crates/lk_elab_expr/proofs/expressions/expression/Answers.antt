@@ -1,7 +1,7 @@
 use Rattle.std.proofs.Common.{sym, subst}
 use Rattle.std.proofs.lemmas.Result.{IfOk-weaker}
 use Rattle.lk_typed.specs.Elaborated.{IsTyped}
-use Rattle.lk_elab_expr.specs.Standing.{StandsAs}
+use Rattle.lk_elaborator.specs.Standing.{StandsAs}
 use Rattle.lk_elab_expr.proofs.expressions.expression.Goals as goal
 
 pub returns-clause-made : goal.returns-clause-made

@@ -2,8 +2,8 @@ use Rattle.std.proofs.Common.{refl}
 use Rattle.std.proofs.lemmas.Result.{IfOk-weaker}
 use Rattle.lk_typed.specs.Elaborated.{InPlace}
 use Rattle.lk_typed.specs.Nodes.{AnExpression}
-use Rattle.lk_elab_expr.proofs.Growing.{grows_then, leads_before, told_on}
-use Rattle.lk_elab_expr.proofs.Knowing.{both_ok, on_ok}
+use Rattle.lk_elaborator.proofs.Growing.{grows_then, leads_before, told_on}
+use Rattle.lk_elaborator.proofs.Knowing.{both_ok, on_ok}
 use Rattle.lk_elab_expr.proofs.Within.{told_of}
 use Rattle.lk_elab_expr.proofs.expressions.given_value.Goals as goal
 

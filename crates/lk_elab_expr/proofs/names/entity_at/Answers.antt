@@ -1,6 +1,6 @@
 use Rattle.std.proofs.Common.{◌∙◌, ap}
 use Rattle.std.proofs.lemmas.Result.{IfOk-weaker}
-use Rattle.lk_elab_expr.specs.Leading.{entity_by}
+use Rattle.lk_elaborator.specs.Leading.{entity_by}
 use Rattle.lk_elab_expr.proofs.names.entity_at.Goals as goal
 
 pub returns-in-Ok : goal.returns-in-Ok

@@ -2,7 +2,7 @@ use Rattle.std.proofs.Common.{rules, ◌≡◌, subst, to_z, of_z}
 use Rattle.std.specs.Int.{w128}
 use Rattle.lk_typed.specs.declared.expression.Callee.TheOpen.{TypedForm-F}
 use Rattle.lk_typed.specs.declared.expression.TypedForm.TheVariants as form
-use Rattle.lk_elab_expr.specs.Standing.{MakesOwn}
+use Rattle.lk_elaborator.specs.Standing.{MakesOwn}
 use Rattle.lk_elab_expr.proofs.FormsAt.{made_of}
 use Rattle.lk_elab_expr.proofs.Named.{enumerator_is, function_is, object_is}
 use Rattle.lk_elab_expr.proofs.names.word.Goals as goal

@@ -2,8 +2,8 @@ use Rattle.std.proofs.Common.{◌≡◌, ◌∙◌, None, sym, ap, subst}
 use Rattle.std.proofs.lemmas.Result.{IfOk-weaker}
 use Rattle.lk_typed.specs.Operands.{computed_by}
 use Rattle.lk_typed.specs.Operators.{row_of}
+use Rattle.lk_elaborator.specs.Standing.{MakesOwn, form_of_two}
 use Rattle.lk_elab_expr.specs.Deciding.{decided_by}
-use Rattle.lk_elab_expr.specs.Standing.{MakesOwn, form_of_two}
 use Rattle.lk_elab_expr.proofs.Decided.{decided}
 use Rattle.lk_elab_expr.proofs.operators.binary.Goals as goal
 

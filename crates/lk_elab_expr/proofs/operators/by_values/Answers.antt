@@ -1,5 +1,5 @@
 use Rattle.std.proofs.Common.{refl}
-use Rattle.lk_elab_expr.proofs.Growing.{leads_before, true_on}
+use Rattle.lk_elaborator.proofs.Growing.{leads_before, true_on}
 use Rattle.lk_elab_expr.proofs.operators.by_values.Goals as goal
 
 pub returns-clause-values : goal.returns-clause-values

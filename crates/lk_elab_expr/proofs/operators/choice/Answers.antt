@@ -1,7 +1,7 @@
 use Rattle.std.proofs.Common.{◌∙◌, subst}
 use Rattle.lk_typed.specs.Elaborated.{IsConverted}
 use Rattle.lk_typed.specs.Elaborated.IsTyped.{choice}
-use Rattle.lk_elab_expr.proofs.Growing.{grows_then, leads_before, true_on, type_on}
+use Rattle.lk_elaborator.proofs.Growing.{grows_then, leads_before, true_on, type_on}
 use Rattle.lk_elab_expr.proofs.operators.choice.Goals as goal
 
 pub returns-clause-three : goal.returns-clause-three

@@ -1,7 +1,7 @@
 use Rattle.std.proofs.Common.{subst}
 use Rattle.std.proofs.lemmas.Result.{IfOk-weaker}
 use Rattle.lk_typed.specs.Elaborated.IsTyped.{comma}
-use Rattle.lk_elab_expr.specs.Standing.{MakesOwn, form_of_two}
+use Rattle.lk_elaborator.specs.Standing.{MakesOwn, form_of_two}
 use Rattle.lk_elab_expr.proofs.operators.comma.Goals as goal
 
 pub returns-clause-two : goal.returns-clause-two

@@ -7,7 +7,7 @@ use Rattle.lk_typed.specs.Meaning.{meaning_of}
 use Rattle.lk_typed.specs.Operands as spec
 use Rattle.lk_typed.specs.Operands.{computed_by, moves_by_right, operand_types}
 use Rattle.lk_typed.specs.Operators.{row_of}
-use Rattle.lk_elab_expr.proofs.Growing.{leads_before, true_on, type_on}
+use Rattle.lk_elaborator.proofs.Growing.{leads_before, true_on, type_on}
 use Rattle.lk_elab_expr.proofs.operators.computed.Goals as goal
 
 pub returns-clause-two : goal.returns-clause-two

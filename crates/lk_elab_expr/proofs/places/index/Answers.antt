@@ -4,8 +4,8 @@ use Rattle.lk_typed.specs.Elaborated.{IsOperand}
 use Rattle.lk_typed.specs.Elaborated.IsTyped.{index}
 use Rattle.lk_typed.specs.Meaning.{meaning_of}
 use Rattle.std.proofs.Common.{true}
+use Rattle.lk_elaborator.proofs.Growing.{leads_before, true_on, type_on}
 use Rattle.lk_elab_expr.proofs.Giving.{and_true}
-use Rattle.lk_elab_expr.proofs.Growing.{leads_before, true_on, type_on}
 use Rattle.lk_elab_expr.proofs.places.index.Goals as goal
 
 pub returns-clause-two : goal.returns-clause-two

@@ -1,5 +1,5 @@
+use Rattle.lk_elaborator.proofs.Numbers.{means_led}
 use Rattle.lk_elab_expr.proofs.Assigned.{stepped}
-use Rattle.lk_elab_expr.proofs.Numbers.{means_led}
 use Rattle.lk_elab_expr.proofs.sides.step.Goals as goal
 
 pub returns-clause-one : goal.returns-clause-one

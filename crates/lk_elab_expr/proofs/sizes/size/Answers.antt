@@ -5,7 +5,7 @@ use Rattle.lk_typed.specs.Elaborated.{form_of}
 use Rattle.lk_typed.specs.declared.constant.Constant.TheVariants.{Known}
 use Rattle.lk_typed.specs.declared.expression.Callee.TheOpen.{TypedForm-F}
 use Rattle.lk_typed.specs.declared.expression.TypedForm.TheVariants as form
-use Rattle.lk_elab_expr.specs.Standing.{MakesOwn}
+use Rattle.lk_elaborator.specs.Standing.{MakesOwn}
 use Rattle.lk_elab_expr.proofs.FormsAt.{made_of}
 use Rattle.lk_elab_expr.proofs.Named.{abs_is, size_is}
 use Rattle.lk_elab_expr.proofs.sizes.size.Goals as goal

@@ -7,7 +7,7 @@ use Rattle.lk_typed.specs.Elaborated.{InPlace}
 use Rattle.lk_typed.specs.Elaborated.IsTyped.{number, character, text}
 use Rattle.lk_typed.specs.declared.expression.Callee.TheOpen.{TypedForm-F}
 use Rattle.lk_typed.specs.declared.expression.TypedForm.TheVariants as form
-use Rattle.lk_elab_expr.specs.Standing.{MakesOwn}
+use Rattle.lk_elaborator.specs.Standing.{MakesOwn}
 use Rattle.lk_elab_expr.proofs.FormsAt.{form_at, made_of}
 use Rattle.lk_elab_expr.proofs.without_operands.leaf.Goals as goal
 

@@ -1,5 +1,5 @@
 use Rattle.std.proofs.Common.{drop}
-use Rattle.lk_elab_expr.specs.Leading.{GoesOn}
+use Rattle.lk_elaborator.specs.Leading.{GoesOn}
 use Rattle.lk_elaborate.proofs.Declaring.{AreLeft}
 use Rattle.lk_elaborate.proofs.PuttingDeclared.{AreDeclaratorsLeft}
 use Rattle.lk_elaborate.proofs.declarations.declared.Given as goal

@@ -1,4 +1,4 @@
-use Rattle.lk_elab_expr.proofs.Growing.{grows_on}
+use Rattle.lk_elaborator.proofs.Growing.{grows_on}
 use Rattle.lk_elaborate.proofs.Declaring.{one_init_made}
 use Rattle.lk_elaborate.proofs.declarations.initialised_local.Goals as goal
 

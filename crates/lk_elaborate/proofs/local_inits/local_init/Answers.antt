@@ -1,9 +1,9 @@
 use Rattle.std.proofs.Common.{[], sym, subst}
 use Rattle.lk_typed.specs.Meaning.{meaning}
-use Rattle.lk_elaborate.specs.Cells.{cells_given}
+use Rattle.lk_elab_init.specs.Cells.{cells_given}
+use Rattle.lk_elab_init.specs.Places.{ArePut}
+use Rattle.lk_elab_init.specs.Settled.{fields_listed}
 use Rattle.lk_elaborate.specs.LocalParts.{GivesLocalParts}
-use Rattle.lk_elaborate.specs.Places.{ArePut}
-use Rattle.lk_elaborate.specs.Settled.{fields_listed}
 use Rattle.lk_elaborate.proofs.LocalInits.{local_init_is}
 use Rattle.lk_elaborate.proofs.local_inits.local_init.Goals as goal
 

@@ -1,6 +1,6 @@
 use Rattle.std.proofs.Common.{◌∙◌}
-use Rattle.lk_elab_expr.proofs.Growing.{leads_before}
-use Rattle.lk_elab_expr.proofs.Numbers.{means_led}
+use Rattle.lk_elaborator.proofs.Growing.{leads_before}
+use Rattle.lk_elaborator.proofs.Numbers.{means_led}
 use Rattle.lk_elaborate.proofs.local_inits.local_part.Goals as goal
 
 pub returns-clause-part : goal.returns-clause-part

@@ -1,5 +1,5 @@
 use Rattle.std.proofs.Common.{drop}
-use Rattle.lk_elab_expr.specs.Leading.{Grows}
+use Rattle.lk_elaborator.specs.Leading.{Grows}
 use Rattle.lk_elaborate.proofs.Telling.{AreLocalsPut}
 use Rattle.lk_elaborate.proofs.local_inits.local_parts.Given as goal
 

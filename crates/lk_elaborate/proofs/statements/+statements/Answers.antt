@@ -7,7 +7,7 @@ use Rattle.lk_typed.specs.declared.statement.TypedStmtForm.TheVariants as typed
 use Rattle.lk_typed.specs.declared.statement.TypedItem.TheVariants as typed_item
 use Rattle.lk_rules.proofs.Rests.{next_left, nothing_left}
 use Rattle.lk_rules.proofs.Shapes as shape
-use Rattle.lk_elab_expr.proofs.Growing.{grows_on}
+use Rattle.lk_elaborator.proofs.Growing.{grows_on}
 use Rattle.lk_elaborate.proofs.Carried.{goes_same, goes_then}
 use Rattle.lk_elaborate.proofs.Making as made
 use Rattle.lk_elaborate.proofs.PuttingStatements as put

@@ -1,5 +1,5 @@
 use Rattle.std.proofs.Common.{drop}
-use Rattle.lk_elab_expr.specs.Leading.{GoesOn}
+use Rattle.lk_elaborator.specs.Leading.{GoesOn}
 use Rattle.lk_elaborate.proofs.Making.{AreLeft}
 use Rattle.lk_elaborate.proofs.PuttingStatements.{AreItemsLeft}
 use Rattle.lk_elaborate.proofs.statements.+statements.Given as goal

@@ -1,6 +1,6 @@
 use Rattle.std.proofs.Common.{sym, subst}
 use Rattle.lk_tree.specs.declared.statement.BlockItem.TheOpen.{StmtForm-F}
-use Rattle.lk_elab_expr.proofs.Growing.{grows_on}
+use Rattle.lk_elaborator.proofs.Growing.{grows_on}
 use Rattle.lk_elaborate.proofs.Making.{done}
 use Rattle.lk_elaborate.proofs.Shaping.{a_do}
 use Rattle.lk_elaborate.specs.Making.{MakesForm}

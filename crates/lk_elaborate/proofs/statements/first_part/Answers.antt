@@ -1,6 +1,6 @@
 use Rattle.std.proofs.Common.{sym, subst}
 use Rattle.lk_typed.specs.declared.statement.TypedFirst.TheVariants as typed_first
-use Rattle.lk_elab_expr.proofs.Growing.{grows_on}
+use Rattle.lk_elaborator.proofs.Growing.{grows_on}
 use Rattle.lk_elaborate.proofs.Making.{by_declaration, by_value}
 use Rattle.lk_elaborate.specs.Making.{MakesFirst}
 use Rattle.lk_elaborate.proofs.PuttingStatements as put

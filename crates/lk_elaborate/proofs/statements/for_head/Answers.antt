@@ -1,4 +1,4 @@
-use Rattle.lk_elab_expr.proofs.Growing.{grows_on}
+use Rattle.lk_elaborator.proofs.Growing.{grows_on}
 use Rattle.lk_elaborate.proofs.Carried.{goes_then}
 use Rattle.lk_elaborate.proofs.PuttingStatements as put
 use Rattle.lk_elaborate.proofs.statements.for_head.Goals as goal

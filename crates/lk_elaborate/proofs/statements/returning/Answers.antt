@@ -2,7 +2,7 @@ use Rattle.std.proofs.Common.{None, Some, sym, subst}
 use Rattle.lk_tree.specs.declared.statement.BlockItem.TheOpen.{StmtForm-F}
 use Rattle.lk_typed.specs.declared.statement.TypedStmtForm.{out-TypedStmtForm}
 use Rattle.lk_typed.specs.declared.statement.TypedStmtForm.TheVariants as typed
-use Rattle.lk_elab_expr.proofs.Growing.{grows_on, grows_same}
+use Rattle.lk_elaborator.proofs.Growing.{grows_on, grows_same}
 use Rattle.lk_elaborate.proofs.Carried.{goes_same}
 use Rattle.lk_elaborate.proofs.Making.{returned, returned_nothing}
 use Rattle.lk_elaborate.proofs.Shaping.{a_return}

@@ -9,7 +9,7 @@ use Rattle.lk_typed.specs.StaticInits.IsStaticValue.{number, truth}
 use Rattle.lk_typed.specs.Ty.{Int}
 use Rattle.lk_typed.specs.Typing.{known_value}
 use Rattle.lk_typed.specs.declared.initialiser.StaticValue.TheVariants as begins
-use Rattle.lk_elaborate.proofs.AddressesByForm.{true_of}
+use Rattle.lk_elab_init.proofs.AddressesByForm.{true_of}
 use Rattle.lk_elaborate.proofs.static_values.number.Goals as goal
 
 pub returns-in-Known : goal.returns-in-Known

@@ -3,7 +3,7 @@ use Rattle.lk_typed.specs.StaticInits.{IsPointerTo}
 use Rattle.lk_typed.specs.StaticInits.IsPointerTo.{object, text}
 use Rattle.lk_typed.specs.Typing.{Inside}
 use Rattle.lk_typed.specs.declared.initialiser.StaticValue.TheVariants as begins
-use Rattle.lk_elaborate.specs.Reaching.{anchor_in, position_in}
+use Rattle.lk_elab_init.specs.Reaching.{anchor_in, position_in}
 use Rattle.lk_elaborate.proofs.static_values.pointer_inside.Goals as goal
 
 pub returns-in_ok-entity-in-Object : goal.returns-in_ok-entity-in-Object

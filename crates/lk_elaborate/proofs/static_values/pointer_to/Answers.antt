@@ -2,7 +2,7 @@ use Rattle.std.proofs.Common.{sym, ap, subst}
 use Rattle.lk_typed.specs.StaticInits.{IsPointerTo}
 use Rattle.lk_typed.specs.StaticInits.IsPointerTo.{null, function}
 use Rattle.lk_typed.specs.declared.initialiser.StaticValue.TheVariants as begins
-use Rattle.lk_elaborate.specs.Reaching.{address_in}
+use Rattle.lk_elab_init.specs.Reaching.{address_in}
 use Rattle.lk_elaborate.proofs.static_values.pointer_to.Goals as goal
 
 pub returns-in-Null : goal.returns-in-Null

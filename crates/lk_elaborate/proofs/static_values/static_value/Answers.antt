@@ -1,7 +1,7 @@
 use Rattle.std.proofs.Common.{subst}
 use Rattle.std.proofs.lemmas.Result.{IfOk-weaker}
 use Rattle.lk_typed.specs.Meaning.{meaning}
-use Rattle.lk_elab_expr.proofs.Growing.{grows_same}
+use Rattle.lk_elaborator.proofs.Growing.{grows_same}
 use Rattle.lk_elaborate.specs.StaticParts.{IsScalar}
 use Rattle.lk_elaborate.proofs.MakingStatics.{integer_begins, ok_always}
 use Rattle.lk_elaborate.proofs.static_values.static_value.Goals as goal

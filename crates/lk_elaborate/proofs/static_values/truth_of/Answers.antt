@@ -1,7 +1,7 @@
 use Rattle.std.proofs.Common.{inl, inr, pos, sym, ap, subst}
 use Rattle.lk_typed.specs.StaticInits.{IsTruthOf}
 use Rattle.lk_typed.specs.StaticInits.IsTruthOf.{of_null, of_function, of_object}
-use Rattle.lk_elaborate.specs.Reaching.{address_in}
+use Rattle.lk_elab_init.specs.Reaching.{address_in}
 use Rattle.lk_elaborate.proofs.static_values.truth_of.Goals as goal
 
 pub returns-in-Null : goal.returns-in-Null

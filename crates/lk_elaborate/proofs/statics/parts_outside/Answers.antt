@@ -1,6 +1,6 @@
 use Rattle.std.proofs.Common.{◌∙◌, ap, subst, sym}
-use Rattle.lk_elab_expr.specs.Leading.{Grows}
-use Rattle.lk_elab_expr.specs.declared.locals.Locals.{Locals}
+use Rattle.lk_elaborator.specs.Leading.{Grows}
+use Rattle.lk_elaborator.specs.declared.locals.Locals.{Locals}
 use Rattle.lk_elaborate.specs.StaticParts.{GivesPartsOutside}
 use Rattle.lk_elaborate.proofs.MakingStatics.{grows_outside, parts_outside}
 use Rattle.lk_elaborate.proofs.statics.parts_outside.Goals as goal

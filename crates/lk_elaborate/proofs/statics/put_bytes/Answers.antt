@@ -1,5 +1,5 @@
 use Rattle.std.proofs.Common.{◌+◌, drop, get_or, arith, refl}
-use Rattle.lk_elaborate.proofs.Giving.{nothing_left}
+use Rattle.lk_elab_init.proofs.Giving.{nothing_left}
 use Rattle.lk_elaborate.proofs.MakingStatics.{all_bytes_put, byte_left, no_byte_put, one_byte_put}
 use Rattle.lk_elaborate.proofs.statics.put_bytes.Goals as goal
 

@@ -1,5 +1,5 @@
 use Rattle.std.proofs.Common.{drop}
-use Rattle.lk_elaborate.specs.Giving.{Puts}
+use Rattle.lk_elab_init.specs.Giving.{Puts}
 use Rattle.lk_elaborate.proofs.MakingStatics.{BytesPut}
 use Rattle.lk_elaborate.proofs.statics.put_bytes.Given as goal
 

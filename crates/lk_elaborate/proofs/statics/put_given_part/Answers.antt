@@ -1,7 +1,7 @@
 use Rattle.std.proofs.Common.{◌∙◌, [], ◌∷◌, refl, sym, ap}
 use Rattle.std.proofs.lemmas.Result.{on_ok_weaker}
-use Rattle.lk_elab_expr.proofs.Growing.{grows_same}
-use Rattle.lk_elaborate.proofs.Giving.{both_ok}
+use Rattle.lk_elaborator.proofs.Growing.{grows_same}
+use Rattle.lk_elab_init.proofs.Giving.{both_ok}
 use Rattle.lk_elaborate.proofs.MakingStatics.{bytes_made, ok_always, value_made, word_made}
 use Rattle.lk_elaborate.proofs.Telling.{bytes_in, kind_of}
 use Rattle.lk_elaborate.proofs.statics.put_given_part.Goals as goal

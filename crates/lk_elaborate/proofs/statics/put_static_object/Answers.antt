@@ -1,7 +1,7 @@
 use Rattle.std.proofs.Common.{◌∙◌, ◌++◌, ◌∷◌, [], refl, sym, ap, subst}
 use Rattle.lk_typed.specs.declared.initialiser.StaticObject.{StaticObject}
-use Rattle.lk_elab_expr.proofs.Growing.{grows_on}
-use Rattle.lk_elab_expr.specs.declared.elaborator.Elaborator.{Elaborator}
+use Rattle.lk_elaborator.proofs.Growing.{grows_on}
+use Rattle.lk_elaborator.specs.declared.elaborator.Elaborator.{Elaborator}
 use Rattle.lk_elaborate.specs.Putting.{AreRising}
 use Rattle.lk_elaborate.specs.StaticParts.{AreBefore, GivesPartsOutside}
 use Rattle.lk_elaborate.proofs.Carried.{put_object}

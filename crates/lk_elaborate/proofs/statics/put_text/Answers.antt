@@ -3,7 +3,7 @@ use Rattle.std.proofs.lemmas.Result.{on_ok_weaker}
 use Rattle.lk_types.specs.Table.{IsKnown}
 use Rattle.lk_typed.specs.Meaning.{meaning}
 use Rattle.lk_typed.specs.Ty.{Int}
-use Rattle.lk_elaborate.specs.Giving.{element_in}
+use Rattle.lk_elab_init.specs.Giving.{element_in}
 use Rattle.lk_elaborate.proofs.MakingStatics.{text_put}
 use Rattle.lk_elaborate.proofs.statics.put_text.Goals as goal
 

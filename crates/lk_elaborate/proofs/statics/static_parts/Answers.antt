@@ -1,6 +1,6 @@
 use Rattle.std.proofs.Common.{◌+◌, drop, subst, sym}
-use Rattle.lk_elab_expr.proofs.Growing.{grows_same, grows_then}
-use Rattle.lk_elaborate.proofs.Giving.{next_left, nothing_left}
+use Rattle.lk_elaborator.proofs.Growing.{grows_same, grows_then}
+use Rattle.lk_elab_init.proofs.Giving.{next_left, nothing_left}
 use Rattle.lk_elaborate.proofs.MakingStatics.{AreStaticsPut, all_made, none_made, one_made}
 use Rattle.lk_elaborate.proofs.statics.static_parts.Goals as goal
 

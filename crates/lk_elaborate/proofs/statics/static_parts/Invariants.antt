@@ -1,5 +1,5 @@
 use Rattle.std.proofs.Common.{drop}
-use Rattle.lk_elab_expr.specs.Leading.{Grows}
+use Rattle.lk_elaborator.specs.Leading.{Grows}
 use Rattle.lk_elaborate.proofs.MakingStatics.{AreStaticsPut}
 use Rattle.lk_elaborate.proofs.statics.static_parts.Given as goal
 

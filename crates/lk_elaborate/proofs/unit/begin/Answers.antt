@@ -1,6 +1,6 @@
 use Rattle.std.proofs.lemmas.Result.{on_ok_weaker}
 use Rattle.lk_checker.proofs.LetThrough.{let_through, still_there}
-use Rattle.lk_elab_expr.specs.Beginning.{Begins}
+use Rattle.lk_elaborator.specs.Beginning.{Begins}
 use Rattle.lk_elaborate.specs.Finishing.{HasWholeStructs}
 use Rattle.lk_elaborate.proofs.unit.begin.Goals as goal
 

@@ -1,7 +1,0 @@
-use Rattle.std.proofs.Common.{refl}
-use Rattle.lk_elab_expr.proofs.Conversions.{made_value}
-use Rattle.lk_elab_expr.proofs.values.alike.Goals as goal
-
-pub returns-clause-value : goal.returns-clause-value
-returns-clause-value c = λ p same true_of tables leads folded t is.
-    made_value tables folded p _ t refl (c.in_ok-valued.ensures.value p same true_of tables leads folded) is

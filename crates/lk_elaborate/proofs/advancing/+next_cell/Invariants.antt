@@ -1,5 +1,0 @@
-use Rattle.std.proofs.Common.{length}
-use Rattle.lk_elaborate.proofs.advancing.+next_cell.Given as goal
-
-abbrev pub decreases-next_cell : goal.decreases-next_cell
-decreases-next_cell l = length l.way.now

@@ -1,5 +1,0 @@
-use Rattle.std.proofs.Common.{length}
-use Rattle.lk_elaborate.proofs.paths.+are_same_paths.Given as goal
-
-abbrev pub decreases-are_same_paths : goal.decreases-are_same_paths
-decreases-are_same_paths l = length l.a.now

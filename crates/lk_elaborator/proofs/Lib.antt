@@ -1,0 +1,9 @@
+pub mod Conversions
+pub mod Finishing
+pub mod Gathering
+pub mod Growing
+pub mod Knowing
+pub mod Numbers
+pub mod Owned
+pub mod Rising
+pub mod Valued

@@ -1,0 +1,13 @@
+pub mod Beginning
+pub mod Converting
+pub mod Elaborating
+pub mod Elements
+pub mod Fields
+pub mod Gathering
+pub mod Keeping
+pub mod Known
+pub mod Leading
+pub mod PuttingLocals
+pub mod Rising
+pub mod Standing
+pub mod Telling
