@@ -19,7 +19,7 @@ import sys
 
 REPOSITORY = os.path.dirname(os.path.dirname(os.path.abspath(__file__)))
 PROGRAM = "solving"
-PROGRAM_LIBRARIES = "anyhow indexmap lk_base lk_sets lk_types lk_facts lk_graph lk_held lk_items lk_conflict"
+PROGRAM_LIBRARIES = "anyhow indexmap lk_base lk_sets lk_types lk_facts lk_graph lk_held lk_items lk_conflict lk_verdicts"
 
 # The layers whose seconds and memory are bounded, and the bounds.
 LAYERS, MOST_SECONDS, MOST_MEGABYTES = 10, 20, 1024
@@ -31,7 +31,7 @@ ghost use Rattle.std.specs.Prelude.{◌<◌, ◌≤◌, ◌*◌};
 
 use indexmap::IndexSet;
 use lk_base::{Name, NoMemory, Seq, Spot};
-use lk_conflict::{conflicts, verdicts};
+use lk_conflict::conflicts;
 use lk_facts::{
     Action, Facts, Function, Held, Holder, Label, LabelEntry, LabelName, Labels, Origins, Places,
     Point, Points, Program, Root, RootKind, Site, Verdict, VerdictState,
@@ -41,6 +41,7 @@ use lk_held::held;
 use lk_items::items;
 use lk_sets::{BitRows, IdSet};
 use lk_types::{Base, NodeId, TypeId, TypeTable};
+use lk_verdicts::verdicts;
 use std::alloc::Global;
 use std::io;
 use std::time::Instant;
@@ -588,7 +589,7 @@ def build(folder):
         return built
     with open(os.path.join(REPOSITORY, "crates.txt")) as file:
         lines = dict(line.strip().split(":", 1) for line in file if ":" in line and not line.startswith("#"))
-    crates = crates_below(["lk_graph", "lk_held", "lk_items", "lk_conflict"], lines)
+    crates = crates_below(["lk_graph", "lk_held", "lk_items", "lk_conflict", "lk_verdicts"], lines)
     for crate in crates:
         crate_folder = os.path.join(REPOSITORY, "crates", crate)
         shutil.copytree(crate_folder, os.path.join(folder, "crates", crate), ignore=without_built)

@@ -3,4 +3,3 @@ pub mod EntryLemmas
 pub mod KindLemmas
 pub mod PlaceLemmas
 pub mod RaceLemmas
-pub mod VerdictLemmas

@@ -1,32 +1,13 @@
 -- Lists as the code makes them. Private contracts alone cite these words.
-use Rattle.std.specs.Prelude.{◌≡◌, ◌==◌, ℕ, Bool, List, [], ◌∷◌, if◌then◌else◌, map}
-use Rattle.std.specs.List.{filter, flat_map, list_all}
+use Rattle.std.specs.Prelude.{◌==◌, ℕ, List, [], ◌∷◌, if◌then◌else◌, map}
+use Rattle.std.specs.List.{filter, flat_map}
 use Rattle.std.specs.Option.{option_map_or}
-use Rattle.lk_facts.specs.declared.verdict.Racing.{Racing}
-use Rattle.lk_facts.specs.declared.verdict.VerdictState.{VerdictState}
-use Rattle.lk_facts.specs.declared.verdict.VerdictState.TheVariants.{Guarded, Unshared, Suspect}
 use Rattle.lk_facts.specs.Origins.{OriginTable}
 use Rattle.lk_rise.specs.Groups.{group_at}
 use Rattle.lk_rise.specs.Tables.{item_at}
 use Rattle.lk_rise.specs.declared.correlations.Correlation.{Correlation}
 use Rattle.lk_rise.specs.declared.point_items.ItemAt.{ItemAt}
-use Rattle.lk_sets.specs.Ids.{has_id, IsSetOf}
 use Rattle.lk_sets.specs.Rows.{has}
-
--- whether a number is in the lock sets of all accesses
-abbrev pub in_all : List Racing → ℕ → Bool
-in_all accesses q = list_all (λ r. has_id r.locks q) accesses
-
--- the numbers of the lock sets of all accesses, none where there is no access
-abbrev pub IsCommon : List Racing → List ℕ → Type 0
-IsCommon [] ids = ids ≡ []
-IsCommon (first ∷ others) ids = IsSetOf (in_all (first ∷ others)) ids
-
--- the state by the accesses and what their lock sets have in common
-abbrev pub state_of : List Racing → List ℕ → VerdictState
-state_of [] ids = Unshared
-state_of (first ∷ others) [] = Suspect
-state_of (first ∷ others) (q ∷ qs) = Guarded
 
 -- the subjects of items
 abbrev pub subjects_of : List (Correlation × List ℕ) → List ℕ

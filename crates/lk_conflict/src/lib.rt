@@ -1,12 +1,10 @@
-//! Which accesses race, and what that says of each location.
+//! Which accesses race.
 #![tactic(auto)]
 
 mod bases;
 mod grounds;
-mod judging;
 mod pairs;
 mod places;
 mod racing;
 
-pub use judging::verdicts;
 pub use racing::conflicts;

@@ -1,7 +1,6 @@
 //! What rises from functions to those that run or start them: accesses, with the locks that are held at them.
 #![tactic(auto)]
 
-mod above;
 mod accesses;
 mod conflicts;
 mod correlations;

@@ -14,9 +14,9 @@ ghost use Rattle.lk_rise.specs.Tables.{Fits, IsSound, Steps, Works, Grows, HasBa
 ghost use Rattle.lk_rise.specs.Tables.{AreAbove, AreAboveWithin, IsOffer, AreMet, HasPassed, IsSettled};
 ghost use Rattle.lk_rise.specs.declared.correlations.Correlation.{Correlation};
 
-use crate::above::with_kept;
 use crate::correlations::{Correlation, Correlations};
 use crate::rising::{Rising, Subjects};
+use lk_above::{is_child_above, with_kept};
 use lk_base::{NoMemory, Seq};
 use lk_facts::Way;
 use lk_links::{Link, outside, risen};
@@ -45,19 +45,12 @@ fn are_same(a: Way, b: Way) -> bool
     a == b
 }
 
-/// Whether the item above is a child's, for an item below.
-fn is_child_above(link: Link, item: Correlation) -> bool
-    ensures { result ≡ (item.child || link.starts) }
-{
-    item.child || link.starts
-}
-
 /// The item above, for an item below and what its subject is above.
 fn above(link: Link, item: Correlation, subject: u32) -> Correlation
     ensures { result ≡ above_of link item subject }
 {
     let function = link.above;
-    let child = is_child_above(link, item);
+    let child = is_child_above(link, item.child);
     let access = item.access;
     Correlation {
         function,
@@ -207,7 +200,7 @@ impl Rising<'_> {
             (AreMet (setting self.now) link.now passage.now.item passage.now.locks)
             table.old table.new again.old.items again.new.items) }
     {
-        let child = is_child_above(*link, passage.item);
+        let child = is_child_above(*link, passage.item.child);
         let set = with_kept(self.held, link.point, child, &passage.risen)?;
         self.offer_above(alloc, link, passage, &set, table, again)?;
         Ok(())

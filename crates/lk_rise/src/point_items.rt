@@ -15,11 +15,11 @@ ghost use Rattle.lk_rise.specs.PointItems.{own_access_of, point_functions, point
 ghost use Rattle.lk_rise.specs.declared.point_items.ItemAt.{ItemAt};
 ghost use Rattle.lk_sets.specs.Ids.{has_id};
 
-use crate::above::with_kept;
 use crate::accesses::accessed;
 use crate::correlations::{Correlation, Correlations};
 use crate::groups::Groups;
 use crate::items::Items;
+use lk_above::with_kept;
 use lk_base::{MOST_POINTS, NoMemory};
 use lk_facts::{Facts, Held, Source, Way};
 use lk_links::{Link, Links, push_over, risen};

@@ -11,11 +11,12 @@ ghost use Rattle.lk_graph.specs.Single.{ArePlaceNodes};
 
 pub use fault::SolveFault;
 use lk_base::NoMemory;
-use lk_conflict::{conflicts, verdicts};
+use lk_conflict::conflicts;
 use lk_facts::{Facts, Verdict};
 use lk_graph::{after, linear, many};
 use lk_held::held;
 use lk_items::items;
+use lk_verdicts::verdicts;
 pub use points::verdicts_of;
 use std::alloc::Global;
 

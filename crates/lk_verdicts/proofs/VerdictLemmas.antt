@@ -14,7 +14,7 @@ use Rattle.lk_facts.specs.Verdicts.IsVerdict.{unshared, guarded, suspect}
 use Rattle.lk_facts.specs.declared.verdict.Racing.{Racing}
 use Rattle.lk_facts.specs.declared.verdict.Verdict.{Verdict}
 use Rattle.lk_sets.specs.Ids.{has_id, IsSetOf}
-use Rattle.lk_conflict.specs.Listing.{IsCommon, in_all, state_of}
+use Rattle.lk_verdicts.specs.Judging.{IsCommon, in_all, state_of}
 
 -- the meet with one more set
 pub common_more : (first : List ℕ) (others : List Racing) (i : ℕ) (r : Racing) (old new : List ℕ) → i < length others → r ≡ get_or others i r →

@@ -2,7 +2,7 @@ use Rattle.std.proofs.Common.{◌<◌, ◌∙◌, sym, ⊎_elim}
 use Rattle.std.proofs.lemmas.Bool.{or_cases}
 use Rattle.lk_links.proofs.SetLemmas.{All-from_has_id, All-has_id}
 use Rattle.lk_sets.specs.Ids.{has_id}
-use Rattle.lk_rise.proofs.above.with_kept.Goals as goal
+use Rattle.lk_above.proofs.above.with_kept.Goals as goal
 
 pub returns-clause-in_range : goal.returns-clause-in_range
 returns-clause-in_range c =

@@ -9,7 +9,7 @@ use Rattle.lk_rise.specs.Conflicts.{every_place}
 use Rattle.lk_rise.specs.Correlations.{has_of, locks_of}
 use Rattle.lk_sets.specs.Ids.{has_id}
 use Rattle.lk_conflict.proofs.PlaceLemmas.{set_narrowed}
-use Rattle.lk_conflict.proofs.judging.Judging.racing.Goals as goal
+use Rattle.lk_verdicts.proofs.judging.Judging.racing.Goals as goal
 
 pub loop-access-preserved : goal.loop-access-preserved
 loop-access-preserved c =

@@ -5,8 +5,8 @@ use Rattle.lk_facts.specs.Verdicts.{IsVerdictOf}
 use Rattle.lk_facts.specs.declared.verdict.Verdict.{Verdict}
 use Rattle.lk_rise.specs.Correlations.{has_of, locks_of}
 use Rattle.lk_sets.specs.Ids.{has_id}
-use Rattle.lk_conflict.proofs.VerdictLemmas.{got_more}
-use Rattle.lk_conflict.proofs.judging.verdicts.Goals as goal
+use Rattle.lk_verdicts.proofs.VerdictLemmas.{got_more}
+use Rattle.lk_verdicts.proofs.judging.verdicts.Goals as goal
 
 pub loop-location-preserved : goal.loop-location-preserved
 loop-location-preserved c =

@@ -5,7 +5,7 @@ use Rattle.lk_facts.specs.Verdicts.{IsVerdictOf}
 use Rattle.lk_facts.specs.declared.verdict.Verdict.{Verdict}
 use Rattle.lk_rise.specs.Correlations.{has_of, locks_of}
 use Rattle.lk_sets.specs.Ids.{has_id}
-use Rattle.lk_conflict.proofs.judging.verdicts.Given as goal
+use Rattle.lk_verdicts.proofs.judging.verdicts.Given as goal
 
 abbrev pub invariant-loop-location : goal.invariant-loop-location
 invariant-loop-location l = record {

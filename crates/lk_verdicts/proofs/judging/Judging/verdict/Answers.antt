@@ -4,9 +4,9 @@ use Rattle.lk_facts.specs.Verdicts.{AreRacing}
 use Rattle.lk_facts.specs.declared.verdict.Racing.{Racing}
 use Rattle.lk_rise.specs.Correlations.{has_of, locks_of}
 use Rattle.lk_sets.specs.Ids.{has_id}
-use Rattle.lk_conflict.specs.Listing.{IsCommon, state_of}
-use Rattle.lk_conflict.proofs.VerdictLemmas.{verdict_is}
-use Rattle.lk_conflict.proofs.judging.Judging.verdict.Goals as goal
+use Rattle.lk_verdicts.specs.Judging.{IsCommon, state_of}
+use Rattle.lk_verdicts.proofs.VerdictLemmas.{verdict_is}
+use Rattle.lk_verdicts.proofs.judging.Judging.verdict.Goals as goal
 
 pub returns : goal.returns
 returns c =

@@ -1,6 +1,6 @@
 //! What racing accesses say of each location.
 ghost use Rattle.std.specs.Prelude.{◌≡◌, ◌<◌, ◌&&◌, IfOk};
-ghost use Rattle.lk_conflict.specs.Listing.{IsCommon, in_all, state_of};
+ghost use Rattle.lk_verdicts.specs.Judging.{IsCommon, in_all, state_of};
 ghost use Rattle.lk_facts.specs.Facts.{basis_of};
 ghost use Rattle.lk_facts.specs.Verdicts.{AreRacing, AreVerdicts, IsVerdictOf};
 ghost use Rattle.lk_rise.specs.Conflicts.{AreRacingLists};

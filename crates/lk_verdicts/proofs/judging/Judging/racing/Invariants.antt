@@ -5,7 +5,7 @@ use Rattle.lk_facts.specs.Verdicts.{InLockSet}
 use Rattle.lk_facts.specs.declared.verdict.Racing.{Racing}
 use Rattle.lk_rise.specs.Correlations.{has_of, locks_of}
 use Rattle.lk_sets.specs.Ids.{has_id}
-use Rattle.lk_conflict.proofs.judging.Judging.racing.Given as goal
+use Rattle.lk_verdicts.proofs.judging.Judging.racing.Given as goal
 
 abbrev pub invariant-loop-access : goal.invariant-loop-access
 invariant-loop-access l = record {
