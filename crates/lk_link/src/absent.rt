@@ -148,6 +148,5 @@ pub fn not_defined(
 {
     let users = users(alloc, units, names.externals())?;
     let listed = Leasts::of_list(alloc, externs)?;
-    let clashes = clashes_of(alloc, units, names, &users, &listed)?;
-    Ok(clashes)
+    clashes_of(alloc, units, names, &users, &listed)
 }

@@ -84,6 +84,24 @@ fn undefined(
     Ok(clashes)
 }
 
+/// All clashes of the sources with these names: 61 to 63.
+fn clashes_of(
+    alloc: Global,
+    units: &[TypedUnit],
+    names: &Names,
+    externs: &[Name],
+) -> Result<Vec<Clash>, NoMemory>
+    requires sources { AreSources units.now }
+    requires few { length units.now < 2 ^ 32 }
+    requires names { AreNames units.now names.now }
+    ensures { IfOk result (λ clashes. AreAll (IsClash units.now externs.now) clashes.items) }
+{
+    let declared = of_declarations(alloc, units, names)?;
+    let undefined = undefined(alloc, units, names, externs)?;
+    let clashes = join(declared, undefined)?;
+    Ok(clashes)
+}
+
 /// All clashes of the sources: 61 to 63.
 fn clashes(alloc: Global, units: &[TypedUnit], externs: &[Name]) -> Result<Vec<Clash>, NoMemory>
     requires sources { AreSources units.now }
@@ -91,10 +109,7 @@ fn clashes(alloc: Global, units: &[TypedUnit], externs: &[Name]) -> Result<Vec<C
     ensures { IfOk result (λ clashes. AreAll (IsClash units.now externs.now) clashes.items) }
 {
     let names = Names::of(alloc, units)?;
-    let declared = of_declarations(alloc, units, &names)?;
-    let undefined = undefined(alloc, units, &names, externs)?;
-    let clashes = join(declared, undefined)?;
-    Ok(clashes)
+    clashes_of(alloc, units, &names, externs)
 }
 
 /// A copy of the clash that is told of these.

@@ -1,6 +1,6 @@
 use Rattle.lk_link.specs.First.{IsOfDeclarations, IsUndefined}
 use Rattle.lk_link.proofs.Gathering.{all_joined, all_kinds}
-use Rattle.lk_link.proofs.first.clashes.Goals as goal
+use Rattle.lk_link.proofs.first.clashes_of.Goals as goal
 
 pub returns : goal.returns
 returns c =
