@@ -405,8 +405,7 @@ fn put_name(
     checker.names.declare(declared)
 }
 
-/// Declares a name, behind its declarator: its codes are kept, but for that of a tentative definition; and
-/// from here on it
+/// Declares a name, behind its declarator: its codes are kept, but for that of a tentative definition; and from here on it
 /// stands for an entity of its type.
 pub(crate) fn declare_name(
     checker: &mut Checker,
