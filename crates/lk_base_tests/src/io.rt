@@ -1,3 +1,4 @@
+use lk_base::NoMemory;
 use lk_io::{
     Failed, FileShelf, MemShelf, MemSink, ReadFault, Shelf, ShelfFault, Sink, StdSink, read_whole,
     write_whole,
@@ -19,8 +20,22 @@ fn check_whole<F: Shelf>(
     let limit = bytes.len() as u64;
     assert!(rt; name.len() > 0 && name.len() < 20);
     let read = read_whole(alloc, shelf, name, limit)?;
-    assert!(rt; read.as_slice() == bytes, "{name}");
+    assert!(rt; read.as_slice() == bytes);
     Ok(())
+}
+
+/// A file of a shelf isn't read whole, where it may have so many bytes.
+fn check_fault<F: Shelf>(
+    rt: &impl Abort,
+    alloc: Global,
+    shelf: &mut F,
+    name: &str,
+    limit: u64,
+    want: ReadFault,
+) {
+    assert!(rt; name.len() > 0 && name.len() < 20);
+    let fault = read_whole(alloc, shelf, name, limit).err();
+    assert!(rt; fault == Some(want));
 }
 
 /// A read of 4 bytes from a place on gives these bytes, or fails.
@@ -34,70 +49,91 @@ fn check_piece<F: Shelf>(
     let mut piece = [0; 4];
     assert!(rt; name.len() > 0 && name.len() < 20);
     match shelf.read(name, from, &mut piece) {
-        Ok(count) => assert!(rt; piece.get(..count) == want, "{name} from {from}"),
-        Err(fault) => assert!(rt;
-            fault == ShelfFault::Failed && want.is_none(),
-            "{name} from {from}"
-        ),
+        Ok(count) => assert!(rt; piece.get(..count) == want),
+        Err(fault) => assert!(rt; fault == ShelfFault::Failed && want.is_none()),
     }
+}
+
+/// A file of more than one piece.
+fn long(alloc: Global) -> Result<Vec<u8>, NoMemory> {
+    let bytes = vec![in alloc; b'x'; 9000]?;
+    Ok(bytes)
+}
+
+/// A shelf in memory with two files, of which one is long.
+fn two_files(alloc: Global, long: &[u8]) -> Result<MemShelf, NoMemory> {
+    let mut shelf = MemShelf::new(alloc);
+    shelf.put("a.c", b"int n;")?;
+    shelf.put("b.c", long)?;
+    Ok(shelf)
 }
 
 #[test]
 fn a_shelf_in_memory_is_read(rt: HostRuntime) -> Result<(), Fail> {
-    let alloc = rt.alloc();
-    let long = vec![in alloc; b'x'; 9000]?;
-    let mut shelf = MemShelf::new(alloc);
+    let long = long(rt.alloc())?;
+    let mut shelf = two_files(rt.alloc(), &long)?;
+    check_whole(&rt, rt.alloc(), &mut shelf, "b.c", &long)
+}
+
+/// Puts a file on a shelf, of which the read with this number fails.
+fn put_failing(shelf: &mut MemShelf, call: u64) -> Result<(), Fail> {
     shelf.put("a.c", b"int n;")?;
-    shelf.put("b.c", &long)?;
-    check_whole(&rt, alloc, &mut shelf, "b.c", &long)
+    shelf.fail_at(call)?;
+    Ok(())
 }
 
 #[test]
 fn a_listed_read_of_a_shelf_in_memory_fails(rt: HostRuntime) -> Result<(), Fail> {
     let mut shelf = MemShelf::new(rt.alloc());
-    shelf.put("a.c", b"int n;")?;
-    shelf.fail_at(2)?;
+    let put = put_failing(&mut shelf, 2);
     check_piece(&rt, &mut shelf, "a.c", 0, Some(b"int "));
     check_piece(&rt, &mut shelf, "a.c", 4, None);
     check_piece(&rt, &mut shelf, "a.c", 4, Some(b"n;"));
-    Ok(())
+    put
 }
 
-/// Writes a text to a sink with room for 10 bytes, of which a write may fail.
-fn check_sink(rt: &impl Abort, alloc: Global, fails: Option<u64>, want: &[u8]) -> Result<(), Fail> {
-    let mut sink = MemSink::with_room(alloc, 10, 4)?;
-    if let Some(call) = fails {
-        sink.fail_at(call)?;
-    }
-    let written = write_whole(&mut sink, b"n unshared").is_ok();
-    assert!(rt; written == fails.is_none() && sink.bytes() == want);
-    Ok(())
+/// Writes a text of 10 bytes to a sink, which takes it whole or a front of it.
+fn check_sink(rt: &impl Abort, sink: &mut MemSink, is_whole: bool, want: &[u8]) {
+    let written = write_whole(sink, b"n unshared").is_ok();
+    assert!(rt; written == is_whole && sink.bytes() == want);
 }
 
 #[test]
 fn a_sink_in_memory_is_written(rt: HostRuntime) -> Result<(), Fail> {
-    check_sink(&rt, rt.alloc(), None, b"n unshared")?;
-    check_sink(&rt, rt.alloc(), Some(2), b"n un")
+    let mut sink = MemSink::with_room(rt.alloc(), 10, 4)?;
+    check_sink(&rt, &mut sink, true, b"n unshared");
+    Ok(())
+}
+
+#[test]
+fn a_listed_write_of_a_sink_in_memory_fails(rt: HostRuntime) -> Result<(), Fail> {
+    let mut sink = MemSink::with_room(rt.alloc(), 10, 4)?;
+    let listed = sink.fail_at(2);
+    check_sink(&rt, &mut sink, false, b"n un");
+    Ok(listed?)
+}
+
+/// Reads two files of the system whole, and others that can't be.
+fn check_files<F: Shelf>(
+    rt: &impl Abort,
+    alloc: Global,
+    shelf: &mut F,
+    long: &[u8],
+) -> Result<(), Fail> {
+    check_whole(rt, alloc, shelf, "first.c", b"int n;\n")?;
+    check_whole(rt, alloc, shelf, "second.c", long)?;
+    check_fault(rt, alloc, shelf, "second.c", 8999, ReadFault::TooLong);
+    check_fault(rt, alloc, shelf, "third.c", 8999, ReadFault::Failed);
+    Ok(())
 }
 
 #[test]
 fn whole_files_of_the_system_are_read(rt: HostRuntime) -> Result<(), Fail> {
-    let alloc = rt.alloc();
-    let long = vec![in alloc; b'y'; 9000]?;
     fs::write(&rt, "first.c", "int n;\n")?;
+    let long = long(rt.alloc())?;
     fs::write(&rt, "second.c", &long)?;
     let mut shelf = FileShelf::new(&rt);
-    check_whole(&rt, alloc, &mut shelf, "first.c", b"int n;\n")?;
-    check_whole(&rt, alloc, &mut shelf, "second.c", &long)?;
-    for (name, fault) in [
-        ("second.c", ReadFault::TooLong),
-        ("third.c", ReadFault::Failed),
-    ] {
-        assert!(&rt; name.len() > 0 && name.len() < 20);
-        let answer = read_whole(alloc, &mut shelf, name, 8999).err();
-        assert!(&rt; answer == Some(fault), "{name}");
-    }
-    Ok(())
+    check_files(&rt, rt.alloc(), &mut shelf, &long)
 }
 
 #[test]
@@ -106,12 +142,12 @@ fn a_file_that_is_open_is_read_on_without_its_name(rt: HostRuntime) -> Result<()
     fs::write(&rt, "second.c", "int k;\n")?;
     let mut shelf = FileShelf::new(&rt);
     check_piece(&rt, &mut shelf, "first.c", 2, Some(b"t n;"));
-    fs::remove_file(&rt, "first.c")?;
+    let removed = fs::remove_file(&rt, "first.c");
     check_piece(&rt, &mut shelf, "first.c", 6, Some(b"\n"));
     check_piece(&rt, &mut shelf, "first.c", 100, Some(b""));
     check_piece(&rt, &mut shelf, "second.c", 0, Some(b"int "));
     check_piece(&rt, &mut shelf, "first.c", 0, None);
-    Ok(())
+    Ok(removed?)
 }
 
 #[test]
@@ -133,10 +169,15 @@ fn what_went_is_in_the_file_while_the_sink_is_there(rt: HostRuntime) -> Result<(
 }
 
 #[test]
-fn a_file_for_reading_and_a_full_buffer_take_nothing(rt: HostRuntime) -> Result<(), Fail> {
+fn a_file_for_reading_takes_nothing(rt: HostRuntime) -> Result<(), Fail> {
     fs::write(&rt, "report", "n unshared\n")?;
     let mut closed = StdSink::new(fs::open(&rt, "report")?);
     assert!(&rt; closed.write(b"more") == Err(Failed));
+    Ok(())
+}
+
+#[test]
+fn a_full_buffer_takes_nothing(rt: HostRuntime) -> Result<(), Fail> {
     let mut room = [0; 2];
     let mut full = StdSink::new(room.as_mut_slice());
     assert!(&rt; full.write(b"") == Ok(0));
