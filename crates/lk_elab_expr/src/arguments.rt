@@ -10,7 +10,9 @@ use crate::expressions::part_node;
 use crate::operators::promoted_at;
 use lk_base::{NoMemory, Seq};
 use lk_check_expr::{Argument, Passing, passing};
-use lk_elaborator::{Elaborator, Part, converted_operand, found_of, given, nowhere, typing_at};
+use lk_elaborator::{
+    Elaborator, Part, converted_operand, found_of, given_part, nowhere, typing_at,
+};
 use lk_tree::Expr;
 use lk_typed::TypedExpr;
 
@@ -58,7 +60,7 @@ fn passed_to(walk: &mut Elaborator, pass: Passing, argument: u32) -> Result<Opti
 {
     match pass {
         Passing::Converted(target) => {
-            let part = given(walk, argument, &target)?;
+            let part = given_part(walk, argument, &target)?;
             Ok(Some(part))
         }
         Passing::NullFor(_) | Passing::Routine => Ok(None),

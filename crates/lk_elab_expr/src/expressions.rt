@@ -14,7 +14,8 @@ use crate::ways::Way;
 use crate::without_operands::leaf;
 use lk_base::{Boxed, NoMemory};
 use lk_elaborator::{
-    Elaborator, One, Part, Three, Two, form_of_one, form_of_two, given, made, node_type_at,
+    Elaborator, One, Part, Three, Two, form_of_one, form_of_two, given_part, made_node,
+    node_type_at,
 };
 use lk_tree::{Expr, ExprForm};
 use lk_typed::{ExprType, TypedExpr, TypedForm};
@@ -46,7 +47,7 @@ pub(crate) fn part_node(
     match part {
         Part::Operand(role, making) => {
             let node = expression_in(walk, e, Way { role, folded })?;
-            made(walk.alloc, making, node)
+            made_node(walk.alloc, making, node)
         }
         Part::Null(ty) => Ok(node_of(e, ty, TypedForm::Null)),
         Part::Number(number, ty) => Ok(node_of(e, ty, TypedForm::Number(number))),
@@ -258,7 +259,7 @@ pub fn given_value(
     ensures made { IfOk result (ElaboratesTo walk.old walk.new e.now target.now folded) }
     ensures grows { OnOk result (Grows walk.old walk.new) }
 {
-    match given(walk, e.ordinal, target) {
+    match given_part(walk, e.ordinal, target) {
         Ok(part) => part_node(walk, e, part, folded),
         Err(NoMemory) => Err(NoMemory),
     }

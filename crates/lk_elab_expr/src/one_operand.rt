@@ -8,7 +8,7 @@ use crate::operators::prefix;
 use crate::places::{arrow, member};
 use crate::sides::step;
 use lk_base::NoMemory;
-use lk_elaborator::{Elaborator, One, OneForm, itself, nowhere};
+use lk_elaborator::{Elaborator, One, OneForm, itself_part, nowhere};
 use lk_tree::ExprForm;
 use lk_typed::Change;
 
@@ -24,7 +24,7 @@ pub(crate) fn one_of(walk: &mut Elaborator, form: &ExprForm, operand: u32) -> Re
         ExprForm::Member(_, name) => member(walk, operand, name),
         ExprForm::Arrow(_, name) => arrow(walk, operand, name),
         ExprForm::Post(op, _) => step(walk, *op, Change::After, operand),
-        ExprForm::Paren(_) => Ok(One::Of(OneForm::Paren, itself())),
+        ExprForm::Paren(_) => Ok(One::Of(OneForm::Paren, itself_part())),
         ExprForm::Comma(_, _)
         | ExprForm::Assign(_, _, _)
         | ExprForm::Choice(_, _, _)

@@ -22,8 +22,8 @@ use lk_arith::{Op, UnaryOp};
 use lk_base::NoMemory;
 use lk_check_expr::row_of;
 use lk_elaborator::{
-    Elaborator, One, OneForm, Three, Two, TwoForm, converted_operand, nowhere, operand, typing_at,
-    value_at, value_of,
+    Elaborator, One, OneForm, Three, Two, TwoForm, converted_operand, nowhere, operand_part,
+    typing_at, value_at, value_of,
 };
 use lk_tree::{BinaryOperator, PrefixOperator};
 use lk_typed::{BinaryRow, ExprType};
@@ -160,7 +160,7 @@ fn computed(
     let operands = operands_at(walk, row, left, right)?;
     let first = converted_operand(walk, left, &operands.types.left)?;
     let moves = moves_folded(folded, operands.moves);
-    let second = operand(walk, right, &operands.types.right, moves)?;
+    let second = operand_part(walk, right, &operands.types.right, moves)?;
     Ok(Two {
         form: TwoForm::Binary(op),
         left: first,

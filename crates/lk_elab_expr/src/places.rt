@@ -11,8 +11,8 @@ ghost use Rattle.lk_elab_expr.specs.Deciding.{DecidesOne, DecidesTwo};
 
 use lk_base::{Name, NoMemory};
 use lk_elaborator::{
-    Elaborator, One, OneForm, Two, TwoForm, itself, number_behind, number_of, operand, value_at,
-    value_of,
+    Elaborator, One, OneForm, Two, TwoForm, itself_part, number_behind, number_of, operand_part,
+    value_at, value_of,
 };
 
 /// A member of the struct with a number.
@@ -21,7 +21,7 @@ pub(crate) fn member(walk: &Elaborator, object: u32, name: &Name) -> Result<One,
         DecidesOne walk.now walk.now object (λ p i. form_of p ≡ ExprForm-F.Member i name.now)) }
 {
     let number = number_of(walk, object, name)?;
-    Ok(One::Of(OneForm::Member(number), itself()))
+    Ok(One::Of(OneForm::Member(number), itself_part()))
 }
 
 /// A member of the struct to which the pointer with a number points.
@@ -48,7 +48,7 @@ pub(crate) fn index(
 {
     let v = value_at(walk, inner)?;
     let left = value_of(walk, array)?;
-    let right = operand(walk, inner, &v.ty, folded)?;
+    let right = operand_part(walk, inner, &v.ty, folded)?;
     Ok(Two {
         form: TwoForm::Index,
         left,
@@ -61,7 +61,7 @@ pub(crate) fn address() -> One
     ensures { (p i : InPlace) → form_of p ≡ ExprForm-F.Prefix prefixes.Address i →
         (table : Table) (tables : Tables) (folded : Bool) → IsOne table tables folded p i result }
 {
-    One::Of(OneForm::Address, itself())
+    One::Of(OneForm::Address, itself_part())
 }
 
 /// `*` of the operand with a number.

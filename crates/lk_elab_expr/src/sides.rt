@@ -21,8 +21,8 @@ use lk_arith::Op;
 use lk_base::NoMemory;
 use lk_check_expr::{operator_of, row_of};
 use lk_elaborator::{
-    Elaborator, One, OneForm, Two, TwoForm, converted_operand, given, itself, known_type, listed,
-    nowhere, typing_at,
+    Elaborator, One, OneForm, Two, TwoForm, converted_operand, given_part, itself_part, known_type,
+    listed, nowhere, typing_at,
 };
 use lk_tree::{AssignOperator, BinaryOperator, StepOperator};
 use lk_typed::{BinaryRow, Change, ExprType, is_function};
@@ -56,10 +56,10 @@ fn assignment(walk: &mut Elaborator, left: u32, right: u32) -> Result<Two, NoMem
     if is_function(walk.types.table(), &typing.ty) {
         return Err(nowhere());
     }
-    let value = given(walk, right, &typing.ty)?;
+    let value = given_part(walk, right, &typing.ty)?;
     Ok(Two {
         form: TwoForm::Assign,
-        left: itself(),
+        left: itself_part(),
         right: value,
     })
 }
@@ -100,7 +100,7 @@ fn compound_by(
     let value = converted_operand(walk, right, &operands.types.right)?;
     Ok(Two {
         form: TwoForm::Compound(op, at),
-        left: itself(),
+        left: itself_part(),
         right: value,
     })
 }
@@ -139,5 +139,5 @@ pub(crate) fn step(
     ensures grows { OnOk result (Grows walk.old walk.new) }
 {
     let at = stepped_at(walk, place)?;
-    Ok(One::Of(OneForm::Step(op, change, at), itself()))
+    Ok(One::Of(OneForm::Step(op, change, at), itself_part()))
 }

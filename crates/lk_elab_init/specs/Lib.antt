@@ -1,7 +1,6 @@
 pub mod Cells
 pub mod Giving
 pub mod Places
-pub mod PuttingParameters
 pub mod Reaching
 pub mod Settled
 pub mod Source

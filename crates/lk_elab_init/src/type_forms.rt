@@ -1,24 +1,22 @@
-//! What is asked of a type by its number.
+//! What is asked of the type of an object, or of a part of one, by its number.
 ghost use Rattle.std.specs.Prelude.{◌≡◌, ◌||◌, IfOk, OnOk, Some, nat_eq, nat_le, not, slice_get, true};
 ghost use Rattle.lk_base.specs.declared.cell.CellStep.TheVariants.{Field, Index};
 ghost use Rattle.lk_types.specs.Table.{IsKnown};
 ghost use Rattle.lk_typed.specs.Initialised.{step_to};
 ghost use Rattle.lk_typed.specs.InitialiserRules.{entry_type};
 ghost use Rattle.lk_typed.specs.Meaning.{meaning};
-ghost use Rattle.lk_typed.specs.NodeParts.{result_of};
 ghost use Rattle.lk_typed.specs.Ty as spec;
 ghost use Rattle.lk_elab_init.specs.Giving.{count_in, element_in};
-ghost use Rattle.lk_elab_init.specs.PuttingParameters.{AreTypesOf};
 ghost use Rattle.lk_elab_init.specs.Settled.{fields_listed};
 
 use lk_base::{CellStep, Kind, NoMemory};
 use lk_elaborator::{known, nowhere};
 use lk_typed::{ExprType, form, is_pointer, kind_of};
-use lk_types::{CType, TypeId, TypeIds, TypeTable};
+use lk_types::{CType, TypeId, TypeTable};
 
 /// A part of an object.
 #[derive(Clone, Copy)]
-pub(crate) struct Part {
+pub(crate) struct ObjectPart {
     /// The step from the object to it.
     pub(crate) step: CellStep,
     /// Its type.
@@ -83,7 +81,7 @@ pub fn element_of(types: &TypeTable, t: TypeId) -> Result<TypeId, NoMemory>
 }
 
 /// The member with this number of a struct, which has it.
-fn member_part(types: &TypeTable, s: u32, number: u32) -> Result<Part, NoMemory>
+fn member_part(types: &TypeTable, s: u32, number: u32) -> Result<ObjectPart, NoMemory>
     ensures step { IfOk result (λ part. part.step ≡ Field number) }
     ensures member { IfOk result (λ part.
         slice_get (fields_listed types.now s) number ≡ Some (meaning types.now part.ty)) }
@@ -92,7 +90,7 @@ fn member_part(types: &TypeTable, s: u32, number: u32) -> Result<Part, NoMemory>
         return Err(nowhere());
     }
     match types.members(s).get(number as usize) {
-        Some(member) => Ok(Part {
+        Some(member) => Ok(ObjectPart {
             step: CellStep::Field(number),
             ty: member.ty,
         }),
@@ -108,13 +106,13 @@ fn has_element(count: u64, number: u32) -> bool
 }
 
 /// The element with this number of an array of so many.
-fn element_part(element: TypeId, count: u64, number: u32) -> Result<Part, NoMemory>
+fn element_part(element: TypeId, count: u64, number: u32) -> Result<ObjectPart, NoMemory>
     ensures step { IfOk result (λ part. part.step ≡ Index number) }
     ensures ty { IfOk result (λ part. part.ty ≡ element) }
     ensures there { OnOk result ((nat_eq count 0 || not (nat_le count number)) ≡ true) }
 {
     if has_element(count, number) {
-        Ok(Part {
+        Ok(ObjectPart {
             step: CellStep::Index(u64::from(number)),
             ty: element,
         })
@@ -124,7 +122,7 @@ fn element_part(element: TypeId, count: u64, number: u32) -> Result<Part, NoMemo
 }
 
 /// The part of an object that the entry with this number of its list initialises (C99 6.7.8, 17). Each entry has one (27).
-pub(crate) fn part_at(types: &TypeTable, t: TypeId, number: u32) -> Result<Part, NoMemory>
+pub(crate) fn part_at(types: &TypeTable, t: TypeId, number: u32) -> Result<ObjectPart, NoMemory>
     ensures known { OnOk result (IsKnown types.now t) }
     ensures step { IfOk result (λ part. step_to (meaning types.now t) number ≡ Some part.step) }
     ensures part { IfOk result (λ part.
@@ -141,46 +139,6 @@ pub(crate) fn part_at(types: &TypeTable, t: TypeId, number: u32) -> Result<Part,
         | CType::Cond
         | CType::Pointer(_)
         | CType::Function { .. }
-        | CType::Opaque(_) => Err(nowhere()),
-    }
-}
-
-/// The types of the parameters of a function. What is defined with a body is one (C99 6.9.1, 2).
-pub fn parameter_types(types: &TypeTable, t: TypeId) -> Result<TypeIds, NoMemory>
-    ensures { IfOk result (λ list. AreTypesOf types.now (meaning types.now t) list) }
-{
-    let t = known(types, t)?;
-    match form(types, t) {
-        CType::Function { params, .. } => Ok(params.copy()?),
-        CType::Void
-        | CType::Int(_)
-        | CType::ThreadId
-        | CType::Mutex
-        | CType::Cond
-        | CType::Pointer(_)
-        | CType::Array(_, _)
-        | CType::Struct(_)
-        | CType::Opaque(_) => Err(nowhere()),
-    }
-}
-
-/// The result of a function.
-pub fn result_type(types: &TypeTable, t: TypeId) -> Result<TypeId, NoMemory>
-    ensures known { IfOk result (IsKnown types.now) }
-    ensures value { IfOk result (λ r.
-        result_of (Some (meaning types.now t)) ≡ Some (meaning types.now r)) }
-{
-    let t = known(types, t)?;
-    match form(types, t) {
-        CType::Function { result, .. } => Ok(*result),
-        CType::Void
-        | CType::Int(_)
-        | CType::ThreadId
-        | CType::Mutex
-        | CType::Cond
-        | CType::Pointer(_)
-        | CType::Array(_, _)
-        | CType::Struct(_)
         | CType::Opaque(_) => Err(nowhere()),
     }
 }

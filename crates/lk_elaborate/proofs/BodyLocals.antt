@@ -16,7 +16,7 @@ use Rattle.lk_typed.specs.declared.unit.Local.{Local}
 use Rattle.lk_elaborator.proofs.Gathering.{at_contained, contains_at}
 use Rattle.lk_elaborator.specs.PuttingLocals as put
 use Rattle.lk_elaborator.specs.declared.elaborator.Elaborator.{Elaborator}
-use Rattle.lk_elab_init.specs.PuttingParameters.{PutsParameters, scope_of}
+use Rattle.lk_elaborate.specs.PuttingParameters.{PutsParameters, scope_of}
 use Rattle.lk_elab_init.specs.Source.{IsToldSource}
 use Rattle.lk_elaborate.proofs.InDefinitions.{inside_local, local_inside}
 use Rattle.lk_elaborate.proofs.LocalsOf.{local_of}

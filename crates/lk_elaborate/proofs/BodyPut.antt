@@ -31,7 +31,7 @@ use Rattle.lk_elaborator.specs.Leading.{GoesOn, Leads}
 use Rattle.lk_elaborator.specs.PuttingLocals.{AreNumbered}
 use Rattle.lk_elaborator.specs.declared.elaborator.Elaborator.{Elaborator}
 use Rattle.lk_elaborator.specs.declared.entities.NamedEntity.{NamedEntity}
-use Rattle.lk_elab_init.specs.PuttingParameters.{PutsParameters}
+use Rattle.lk_elaborate.specs.PuttingParameters.{PutsParameters}
 use Rattle.lk_elab_init.specs.Source.{IsToldSource}
 use Rattle.lk_elaborate.proofs.BodyLocals.{locals_are}
 use Rattle.lk_elaborate.proofs.Carried.{goes_same, goes_then, in_rest, node_part}

@@ -38,7 +38,7 @@ use Rattle.lk_nodes.proofs.Lists.{With}
 use Rattle.lk_nodes.proofs.Trees.{extend_nothing}
 use Rattle.lk_found.proofs.FormsOf.{told_by, form_of}
 use Rattle.lk_found.specs.Walked.{layer_of}
-use Rattle.lk_elab_init.specs.PuttingParameters.{HasBeside, HasBesideInside}
+use Rattle.lk_elaborate.specs.PuttingParameters.{HasBeside, HasBesideInside}
 
 -- ---- a declarator that is a name alone makes nothing of the type on its left
 

@@ -12,8 +12,8 @@ use Rattle.lk_typed.specs.declared.unit.Local.{Local}
 use Rattle.lk_elaborator.specs.Leading.{GoesOn}
 use Rattle.lk_elaborator.specs.PuttingLocals.{IsLocalSo, PutsLocal, PutsLocalOf}
 use Rattle.lk_elaborator.specs.declared.elaborator.Elaborator.{Elaborator}
-use Rattle.lk_elab_init.specs.PuttingParameters.{AreParametersSo, IsParameterSo, PutsMore, PutsParameter, PutsTyped}
-use Rattle.lk_elab_init.specs.PuttingParameters.AreParametersSo.{all_put, one_put}
+use Rattle.lk_elaborate.specs.PuttingParameters.{AreParametersSo, IsParameterSo, PutsMore, PutsParameter, PutsTyped}
+use Rattle.lk_elaborate.specs.PuttingParameters.AreParametersSo.{all_put, one_put}
 
 -- ---- states
 

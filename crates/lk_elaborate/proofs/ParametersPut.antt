@@ -23,8 +23,8 @@ use Rattle.lk_typed.specs.Ty.{Function, Ty, Tys, list_of, types_of}
 use Rattle.lk_typed.specs.declared.unit.Local.{Local}
 use Rattle.lk_rules.proofs.Layered.{parameters_follow_their_parts}
 use Rattle.lk_elaborator.specs.declared.elaborator.Elaborator.{Elaborator}
-use Rattle.lk_elab_init.specs.PuttingParameters.{AreParametersOf, AreParametersSo, AreTypesOf, HasBeside}
-use Rattle.lk_elab_init.specs.PuttingParameters.AreParametersSo.{all_put, one_put}
+use Rattle.lk_elaborate.specs.PuttingParameters.{AreParametersOf, AreParametersSo, AreTypesOf, HasBeside}
+use Rattle.lk_elaborate.specs.PuttingParameters.AreParametersSo.{all_put, one_put}
 use Rattle.lk_elab_init.specs.Source.{IsToldSource}
 use Rattle.lk_elaborate.proofs.FunctionTypes.{made_beside}
 use Rattle.lk_elaborate.proofs.LocalsOf.{local_of}

@@ -11,5 +11,6 @@ pub mod Outlining
 pub mod Outside
 pub mod Putting
 pub mod PuttingDeclared
+pub mod PuttingParameters
 pub mod PuttingStatements
 pub mod StaticParts

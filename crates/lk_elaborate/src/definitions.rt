@@ -8,11 +8,11 @@ ghost use Rattle.lk_elaborate.specs.Outside.{GoesOutside};
 ghost use Rattle.lk_elaborate.specs.PuttingStatements.{PutsBlock};
 
 use crate::declarations::{declared_type, name_in, put_name};
+use crate::function_types::result_type;
 use crate::parameters::put_parameters;
 use crate::statements::{Around, block_items};
 use lk_base::{NoMemory, Seq};
 use lk_check_decl::Scope;
-use lk_elab_init::result_type;
 use lk_elaborator::{Elaborator, Locals};
 use lk_labels::{items_of, labels_of};
 use lk_tree::Function;

@@ -9,6 +9,7 @@ mod beside;
 mod cases;
 mod declarations;
 mod definitions;
+mod function_types;
 mod labels;
 mod local_inits;
 mod parameters;

@@ -8,11 +8,11 @@ ghost use Rattle.lk_found.specs.Named.{name_in};
 ghost use Rattle.lk_found.specs.Walked.{layer_of};
 ghost use Rattle.lk_elaborator.specs.Leading.{GoesOn};
 ghost use Rattle.lk_elaborator.specs.PuttingLocals.{PutsLocalOf};
-ghost use Rattle.lk_elab_init.specs.PuttingParameters.{AreTypesOf, HasBeside, HasBesideInside};
-ghost use Rattle.lk_elab_init.specs.PuttingParameters.{PutsParameter, PutsParameters, PutsTyped};
+ghost use Rattle.lk_elaborate.specs.PuttingParameters.{AreTypesOf, HasBeside, HasBesideInside};
+ghost use Rattle.lk_elaborate.specs.PuttingParameters.{PutsParameter, PutsParameters, PutsTyped};
 
+use crate::function_types::parameter_types;
 use lk_base::{Boxed, Name, NoMemory, Spot};
-use lk_elab_init::parameter_types;
 use lk_elaborator::{Elaborator, nowhere, put_local};
 use lk_found::{DeclaredName, declared_name};
 use lk_tree::{Declarator, DeclaratorForm, Parameter};

@@ -25,8 +25,10 @@ pub use found::{
 };
 pub use locals::{Locals, put_local};
 pub use members::{number_behind, number_of};
-pub use parts::{Part, converted_operand, given, itself, operand, value_as, value_of};
+pub use parts::{
+    Part, converted_operand, given_part, itself_part, operand_part, value_as, value_of,
+};
 pub use source_types::SourceTypes;
 pub use type_numbers::{known, known_type, listed};
 pub use unreached::nowhere;
-pub use values::{converted, made, value_node};
+pub use values::{converted, made_node, value_node};

@@ -32,7 +32,7 @@ pub enum Part {
 }
 
 /// An operand itself: it isn't read.
-pub fn itself() -> Part
+pub fn itself_part() -> Part
     ensures typed { (tables : Tables) (folded : Bool) (p : InPlace) (t : TypedExpr) →
         IsPart tables folded p result t → IsTyped tables folded p t }
     ensures role { StandsAnyhow result }
@@ -101,7 +101,7 @@ pub fn converted_operand(
 
 /// The value with a number that is converted to a type directly, as by an assignment, an argument, a result or an
 /// initialiser.
-pub fn given(walk: &mut Elaborator, ordinal: u32, target: &ExprType) -> Result<Part, NoMemory>
+pub fn given_part(walk: &mut Elaborator, ordinal: u32, target: &ExprType) -> Result<Part, NoMemory>
     ensures converted { IfOk result (λ part.
         Gives walk.old walk.new ordinal part (ConvertedTo (meaning_of walk.old.types target.now))) }
     ensures role { IfOk result (IsGivenAs walk.old walk.new target.now) }
@@ -149,7 +149,7 @@ fn moving(walk: &mut Elaborator, ordinal: u32, target: &ExprType) -> Result<Part
 }
 
 /// The operand with a number, converted to a type, and whether a pointer moves by it in an address constant (`IsOperand`).
-pub fn operand(
+pub fn operand_part(
     walk: &mut Elaborator,
     ordinal: u32,
     target: &ExprType,

@@ -129,7 +129,7 @@ fn valued_node(alloc: Global, valued: Valued, node: TypedExpr) -> Result<TypedEx
 }
 
 /// What is made so of the node of an expression.
-pub fn made(alloc: Global, making: Making, node: TypedExpr) -> Result<TypedExpr, NoMemory>
+pub fn made_node(alloc: Global, making: Making, node: TypedExpr) -> Result<TypedExpr, NoMemory>
     ensures { IfOk result (IsMadeBy making node) }
 {
     let value = valued_node(alloc, making.valued, node)?;
@@ -246,7 +246,7 @@ fn converted_node(
 {
     match conversion {
         Conversion::Null(ty) => Ok(null_node(node, ty)),
-        Conversion::Made(making) => made(alloc, making, node),
+        Conversion::Made(making) => made_node(alloc, making, node),
     }
 }
 

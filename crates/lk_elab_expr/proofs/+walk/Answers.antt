@@ -74,13 +74,13 @@ expressions::form_of-returns-in-Comma-clause-made t c = IfOk-weaker c.with_two.r
     forms at_end p two.left two.right refl two.at (two.left_is ∙ sym c.get-in-Comma.ensures) (two.right_is ∙ sym c.get-in-Comma-2.ensures) told tables leads) c.with_two.ensures.made
 
 pub expressions::part_node-returns-in_ok-node-in-Operand-clause-made : goal.expressions::part_node-returns-in_ok-node-in-Operand-clause-made
-expressions::part_node-returns-in_ok-node-in-Operand-clause-made t c = IfOk-weaker c.made.result _ _ (λ made is at_end i same told stands tables leads.
+expressions::part_node-returns-in_ok-node-in-Operand-clause-made t c = IfOk-weaker c.made_node.result _ _ (λ made is at_end i same told stands tables leads.
     let old = c.args.walk.now in
     let there = placed_of at_end old i c.args.e.now same told in
     let as_ = subst (λ part. PartStandsAs old.types part i.0.role) c.in-Operand.is stands in
     let typed = c.in_ok-node-in-Operand.ensures.made at_end i.0 there as_ tables leads in
     subst (λ part. IsPart tables c.args.folded i part made) (sym c.in-Operand.is)
-    (record { itself = c.in_ok-node-in-Operand.node; typed = subst (λ e. IsTyped tables c.args.folded (i.0, e) c.in_ok-node-in-Operand.node) (sym same) typed; made = is })) c.made.ensures
+    (record { itself = c.in_ok-node-in-Operand.node; typed = subst (λ e. IsTyped tables c.args.folded (i.0, e) c.in_ok-node-in-Operand.node) (sym same) typed; made = is })) c.made_node.ensures
 
 pub expressions::of_one-returns-in_ok-a-in-Of-clause-made : goal.expressions::of_one-returns-in_ok-a-in-Of-clause-made
 expressions::of_one-returns-in_ok-a-in-Of-clause-made t c = λ at_end p i same told tables leads is.

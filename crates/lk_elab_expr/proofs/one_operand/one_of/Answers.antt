@@ -52,4 +52,4 @@ returns-in-Cast-clause-one c = IfOk-weaker c.cast.result _ _ (λ one decides at_
 pub returns-in-Paren-clause-one : goal.returns-in-Paren-clause-one
 returns-in-Paren-clause-one c = λ at_end p i of_form at same told tables leads folded.
     let form = one_form p i _ (λ k. ExprForm-F.Paren k) (λ k. refl) (form_at p (tree.Paren c.in-Paren.field-0) (ExprForm-F.Paren c.in-Paren.field-0) (of_form ∙ c.in-Paren.is) (tree.rolls-Paren c.in-Paren.field-0)) at in
-    record { role = c.itself.ensures.role _ _; gives = λ x is t makes. paren form (c.itself.ensures.typed tables folded i x is) makes }
+    record { role = c.itself_part.ensures.role _ _; gives = λ x is t makes. paren form (c.itself_part.ensures.typed tables folded i x is) makes }

@@ -30,7 +30,7 @@ returns-clause-two c = λ o is_row computes p l r form first second own left rig
       gives = λ x y is_x is_y t makes.
           operator form (ap computed_by is_row ∙ computes) are.left_found are.right_found
           (subst (λ ty. IsConverted tables c.args.folded l ty x) (ap (λ (t : spec.OperandTypes). t.left) types)
-          (c.in_ok-first.ensures.converted l first left tables (leads_before middle c.operand.new.walk tables c.in_ok-second.ensures.grows leads) c.args.folded x is_x))
+          (c.in_ok-first.ensures.converted l first left tables (leads_before middle c.operand_part.new.walk tables c.in_ok-second.ensures.grows leads) c.args.folded x is_x))
           (subst (λ ty. IsOperand tables c.args.folded (moves_by_right (row_of o) a b) r ty y) of_right
           (c.in_ok-second.ensures.operand r second (true_on old middle c.in_ok-first.ensures.grows r right) tables leads c.args.folded y is_y (moves_by_right (row_of o) a b) moves))
           makes;

@@ -20,7 +20,7 @@ returns-clause-two c = λ p l r form first second own left right tables leads.
       right = c.in_ok-right.ensures.role _ _;
       gives = λ x y is_x is_y t makes.
           index form has.found
-          (c.in_ok-left.ensures.value l first left tables (leads_before middle c.operand.new.walk tables c.in_ok-right.ensures.grows leads) c.args.folded x is_x)
+          (c.in_ok-left.ensures.value l first left tables (leads_before middle c.operand_part.new.walk tables c.in_ok-right.ensures.grows leads) c.args.folded x is_x)
           (subst (λ ty. IsOperand tables c.args.folded true r ty y) target
           (c.in_ok-right.ensures.operand r second (true_on old middle grows r right) tables leads c.args.folded y is_y true (and_true c.args.folded)))
           makes;

@@ -14,9 +14,9 @@ returns-clause-two c = λ folded p l r form first second own left right tables l
     let test : is_function (meaning_of c.args.walk.now.types c.in_ok-typing.typing.ty) ≡ false = rw (sym c.table.ensures.value) (sym c.is_function.ensures ∙ c.if-is_function.false) in
     let plain : is_function has.typing.type ≡ false = ap is_function (sym has.is.type) ∙ test in
     record {
-      left = c.itself.ensures.role _ _;
+      left = c.itself_part.ensures.role _ _;
       right = c.in_ok-value.ensures.role r.0.role own.ready (right_given p assigning.Plain l r form has.typing refl has.found plain ∙ ap ConvertedTo (sym has.is.type));
       gives = λ x y is_x is_y t makes.
-          assignment form has.found (c.itself.ensures.typed tables folded l x is_x)
+          assignment form has.found (c.itself_part.ensures.typed tables folded l x is_x)
           (subst (λ ty. IsConverted tables folded r ty y) has.is.type (c.in_ok-value.ensures.converted r second right tables leads folded y is_y)) makes;
     }

@@ -26,10 +26,10 @@ returns-clause-two c = λ o by is_by is_row computes folded p l r form first sec
     let means = means_led middle tables (grows.ready own.ready) (leads_before middle c.converted_operand.new.walk tables c.in_ok-value.ensures.grows leads) c.in_ok-at.at _
     c.in_ok-at.ensures.known (c.in_ok-at.ensures.means ∙ ap (λ (t : spec.OperandTypes). t.left) types) in
     record {
-      left = c.itself.ensures.role _ _;
+      left = c.itself_part.ensures.role _ _;
       right = c.in_ok-value.ensures.role _ _;
       gives = λ x y is_x is_y t makes.
-          compound form is_by (ap computed_by is_row ∙ computes) are.left_found are.right_found (c.itself.ensures.typed tables folded l x is_x)
+          compound form is_by (ap computed_by is_row ∙ computes) are.left_found are.right_found (c.itself_part.ensures.typed tables folded l x is_x)
           (subst (λ ty. IsConverted tables folded r ty y) of_right (c.in_ok-value.ensures.converted r second (true_on old middle grows r right) tables leads folded y is_y))
           means makes;
     }

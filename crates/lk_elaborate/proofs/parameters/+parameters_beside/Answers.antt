@@ -3,7 +3,7 @@ use Rattle.std.proofs.lemmas.Option.{IfSome_then}
 use Rattle.lk_tree.specs.declared.expression.DeclaratorForm.TheOpen.{DeclaratorForm-F}
 use Rattle.lk_tree.specs.declared.expression.DeclaratorForm.TheVariants as form
 use Rattle.lk_found.proofs.FormsOf.{form_of}
-use Rattle.lk_elab_init.specs.PuttingParameters.{HasBeside}
+use Rattle.lk_elaborate.specs.PuttingParameters.{HasBeside}
 use Rattle.lk_elaborate.proofs.FunctionTypes.{beside_there, inside_array, inside_function, inside_group, inside_pointer}
 use Rattle.lk_elaborate.proofs.parameters.+parameters_beside.Goals as goal
 

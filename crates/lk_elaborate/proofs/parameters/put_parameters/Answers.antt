@@ -1,6 +1,6 @@
 use Rattle.std.proofs.Common.{sym, subst}
 use Rattle.lk_typed.specs.Meaning.{meaning}
-use Rattle.lk_elab_init.specs.PuttingParameters.{AreTypesOf}
+use Rattle.lk_elaborate.specs.PuttingParameters.{AreTypesOf}
 use Rattle.lk_elaborate.proofs.ParametersMore.{goes_more}
 use Rattle.lk_elaborate.proofs.ParametersPut.{parameters_put}
 use Rattle.lk_elaborate.proofs.parameters.put_parameters.Goals as goal

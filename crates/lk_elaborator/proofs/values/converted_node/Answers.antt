@@ -12,5 +12,5 @@ returns-in-Null c = λ tables folded p typed.
     (record { spot = is.spot ∙ own.spot; ordinal = is.ordinal ∙ own.ordinal; type = is.type; made = is.made })
 
 pub returns-in-Made : goal.returns-in-Made
-returns-in-Made c = IfOk-weaker c.made.result _ _ (λ t is tables folded p typed.
-    subst (λ made. IsConversion tables folded p made t) (sym c.in-Made.is) (record { itself = c.args.node; typed = typed; made = is })) c.made.ensures
+returns-in-Made c = IfOk-weaker c.made_node.result _ _ (λ t is tables folded p typed.
+    subst (λ made. IsConversion tables folded p made t) (sym c.in-Made.is) (record { itself = c.args.node; typed = typed; made = is })) c.made_node.ensures

@@ -1,7 +1,7 @@
 use Rattle.std.proofs.Common.{◌∙◌, sym, ap}
 use Rattle.lk_typed.specs.Env.{ConvertedTo}
 use Rattle.lk_elaborator.proofs.Growing.{known_type_stays, type_on}
-use Rattle.lk_elaborator.proofs.parts.given.Goals as goal
+use Rattle.lk_elaborator.proofs.parts.given_part.Goals as goal
 
 pub returns-clause-role : goal.returns-clause-role
 returns-clause-role c = λ r ready is.

@@ -1,7 +1,7 @@
 use Rattle.std.proofs.Common.{refl, sym, subst}
 use Rattle.std.proofs.lemmas.Result.{IfOk-weaker}
 use Rattle.lk_elaborator.specs.Standing.{IsConvertedBy}
-use Rattle.lk_elaborator.proofs.values.made.Goals as goal
+use Rattle.lk_elaborator.proofs.values.made_node.Goals as goal
 
 pub returns-in-Some : goal.returns-in-Some
 returns-in-Some c = IfOk-weaker c.convert.result _ _ (λ t is. record {
