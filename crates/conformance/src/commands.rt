@@ -1,9 +1,10 @@
 //! Whole commands over files.
 //!
-//! The file `cases.txt` lists the cases, one a line: a name, the status that is expected, then what fails and how much
-//! room there is, each as `key=number` (`read_fails`, `write_fails`, `err_fails`, `room`, `err_room`, `most`), and the
-//! words of the command. The sources that the words name, each by a name that ends in `.c`, stand beside it. What the command must write to standard
-//! output is in NAME.out and to standard error in NAME.err; where there is no such file, it must write nothing.
+//! The file `cases.txt` lists the cases, one a line: a name, the status that is expected, then what fails and
+//! how much room there is, each as `key=number` (`read_fails`, `write_fails`, `err_fails`, `room`,
+//! `err_room`, `most`), and the words of the command. The sources that the words name, each by a name that
+//! ends in `.c`, stand beside it. What the command must write to standard output is in NAME.out and to
+//! standard error in NAME.err; where there is no such file, it must write nothing.
 
 use anyhow::{Context, Result};
 use lk_cases::{Case, differing_line, parse_case};

@@ -1,8 +1,8 @@
-//! `conformance`: runs whole commands over files (`commands`), and small programs step by step (`traces`), and compares what each
-//! answers with what is expected.
+//! `conformance`: runs whole commands over files (`commands`), and small programs step by step (`traces`),
+//! and compares what each answers with what is expected.
 //!
-//! Two files list the cases, `cases.txt` those of commands and `traces/traces.txt` those of programs. In both, and in the schedules
-//! of programs, a line that is empty or begins with `#` is for the reader.
+//! Two files list the cases, `cases.txt` those of commands and `traces/traces.txt` those of programs. In
+//! both, and in the schedules of programs, a line that is empty or begins with `#` is for the reader.
 #![tactic(auto)]
 
 mod commands;

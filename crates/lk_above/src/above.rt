@@ -9,15 +9,16 @@ use lk_facts::Held;
 use lk_links::Link;
 use lk_sets::IdSet;
 
-/// Whether the item above is a child's, a thread's that was started, where the one below is a child's or is not.
+/// Whether the item above is a child's, a thread's that was started, where the one
+/// below is a child's or is not.
 pub fn is_child_above(link: Link, child: bool) -> bool
     ensures { result ≡ (child || link.starts) }
 {
     child || link.starts
 }
 
-/// The locks of an item of a point, by those with which it rises: an item of the thread itself, which is no child's, has
-/// those too that the point keeps while it runs the function.
+/// The locks of an item of a point, by those with which it rises: an item of the thread itself, which is no
+/// child's, has those too that the point keeps while it runs the function.
 ///
 /// `Err` comes for want of memory.
 pub fn with_kept(held: &Held, point: u32, child: bool, risen: &IdSet) -> Result<IdSet, NoMemory>

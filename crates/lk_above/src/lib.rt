@@ -1,5 +1,5 @@
-//! What becomes of an item where it rises from a function to a point that runs or starts it: whether it is a child's there, and
-//! which locks it has.
+//! What becomes of an item where it rises from a function to a point that runs or starts it: whether it is a
+//! child's there, and which locks it has.
 #![tactic(auto)]
 
 mod above;

@@ -18,7 +18,8 @@ is_zero a = int_eq a (pos 0)
 abbrev pub size : Kind → ℤ
 size k = pos (2 ^ width k)
 
--- the low bits of a number in two's complement, as many as the kind has: the number modulo 2 to the width (C99 6.2.6.2)
+-- the low bits of a number in two's complement, as many as the kind has: the number
+-- modulo 2 to the width (C99 6.2.6.2)
 abbrev pub bits_of : Kind → ℤ → ℕ
 bits_of k a = unsigned_abs (int_rem_euclid a (size k))
 
@@ -30,7 +31,8 @@ from_bits k n = if is_value k (pos n) then pos n else pos n -ℤ size k
 abbrev pub by_low_bits : Kind → ℤ → ℤ
 by_low_bits k a = from_bits k (bits_of k a)
 
--- the number converted: to _Bool, whether it isn't zero (C99 6.3.1.2); to any other kind, by its low bits (C99 6.3.1.3)
+-- the number converted: to _Bool, whether it isn't zero (C99 6.3.1.2); to any other kind,
+-- by its low bits (C99 6.3.1.3)
 unfoldable pub convert : Kind → ℤ → ℤ
 convert kind.Bool a = truth (not (is_zero a))
 convert kind.Char a = by_low_bits kind.Char a
@@ -64,9 +66,11 @@ rank kind.ULLong = 5
 abbrev pub holds_all : Kind → Kind → Bool
 holds_all k j = is_value k (least j) && is_value k (greatest j)
 
--- the integer promotions (C99 6.3.1.1, 2): a kind of lower rank than int becomes int where that has all its values, else unsigned int
+-- the integer promotions (C99 6.3.1.1, 2): a kind of lower rank than int becomes int where that has all
+-- its values, else unsigned int
 unfoldable pub promoted : Kind → Kind
-promoted k = if nat_lt (rank k) (rank kind.Int) then (if holds_all kind.Int k then kind.Int else kind.UInt) else k
+promoted k =
+    if nat_lt (rank k) (rank kind.Int) then (if holds_all kind.Int k then kind.Int else kind.UInt) else k
 
 -- the unsigned kind of the same rank (C99 6.2.5, 6)
 abbrev pub unsigned_of : Kind → Kind
@@ -83,8 +87,8 @@ unsigned_of kind.ULong = kind.ULong
 unsigned_of kind.LLong = kind.ULLong
 unsigned_of kind.ULLong = kind.ULLong
 
--- of an unsigned kind and a signed one: the unsigned one where its rank isn't lower; else the signed one where it has all
--- values of the unsigned one; else the unsigned kind of the signed one
+-- of an unsigned kind and a signed one: the unsigned one where its rank isn't lower; else the signed one
+-- where it has all values of the unsigned one; else the unsigned kind of the signed one
 abbrev pub mixed_kind : Kind → Kind → Kind
 mixed_kind u s = if nat_le (rank s) (rank u) then u else if holds_all s u then s else unsigned_of s
 

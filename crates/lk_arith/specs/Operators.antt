@@ -42,7 +42,8 @@ is_shift op.And = false
 is_shift op.Xor = false
 is_shift op.Or = false
 
--- whether it may be the second operand beside a value of the kind: a value of it too or, in a shift, any number of places
+-- whether it may be the second operand beside a value of the kind: a value of it too or, in
+-- a shift, any number of places
 abbrev pub is_second : Op → Kind → ℤ → Bool
 is_second op k b = is_value k b || is_shift op
 
@@ -65,11 +66,14 @@ result_kind op.And k = k
 result_kind op.Xor k = k
 result_kind op.Or k = k
 
--- what an exact result comes to at a kind: a signed kind has it or overflows (C99 6.5, 5), any other one converts it (C99 6.2.5, 9)
+-- what an exact result comes to at a kind: a signed kind has it or overflows (C99 6.5, 5), any other
+-- one converts it (C99 6.2.5, 9)
 unfoldable pub result_at : Kind → ℤ → Outcome
-result_at k a = if is_signed k then (if is_value k a then defined a else undefined_by Overflow) else defined (convert k a)
+result_at k a = if is_signed k then (if is_value k a then defined a else undefined_by Overflow)
+    else defined (convert k a)
 
--- a quotient or remainder of a and b: b isn't zero, and the quotient is a value of the kind (C99 6.5.5, 5 and 6)
+-- a quotient or remainder of a and b: b isn't zero, and the quotient is a value of
+-- the kind (C99 6.5.5, 5 and 6)
 unfoldable pub division : Kind → ℤ → ℤ → ℤ → Outcome
 division k a b result =
     if is_zero b then undefined_by DivideByZero

@@ -137,10 +137,11 @@ fn right_shift(kind: Kind, a: i128, count: i128) -> Result<i128, Undefined>
     Ok(a >> places)
 }
 
-/// What `a op b` comes to, where `a` is a value of the kind, and `b` one too or, in a shift, any number of places: its value,
-/// or why C calls it undefined (C99 6.5.5 to 6.5.12).
+/// What `a op b` comes to, where `a` is a value of the kind, and `b` one too or, in a shift, any number of
+/// places: its value, or why C calls it undefined (C99 6.5.5 to 6.5.12).
 ///
-/// A comparison gives 1 or 0. Other results that a signed kind doesn't have are `Overflow`; any other kind converts them.
+/// A comparison gives 1 or 0. Other results that a signed kind doesn't have are `Overflow`;
+/// any other kind converts them.
 #[tactic(auto, unfolding(crate::specs::Operators::outcome, crate::specs::Operators::bit_by_bit))]
 pub fn outcome(op: Op, kind: Kind, a: i128, b: i128) -> Result<i128, Undefined>
     requires first { IsValue kind a }
@@ -168,8 +169,8 @@ pub fn outcome(op: Op, kind: Kind, a: i128, b: i128) -> Result<i128, Undefined>
     }
 }
 
-/// The value of `a op b`, where `a` is a value of the kind, and `b` one too or, in a shift, any number of places: none
-/// exactly where C calls it undefined.
+/// The value of `a op b`, where `a` is a value of the kind, and `b` one too or, in a shift, any number of
+/// places: none exactly where C calls it undefined.
 pub fn arith(op: Op, kind: Kind, a: i128, b: i128) -> Option<i128>
     requires first { IsValue kind a }
     requires second { IsTrue (spec.is_second op kind b) }
@@ -179,8 +180,8 @@ pub fn arith(op: Op, kind: Kind, a: i128, b: i128) -> Option<i128>
     outcome(op, kind, a, b).ok()
 }
 
-/// What `op a` comes to, where `a` is a value of the kind: its value, or `Overflow` where C calls it undefined (C99
-/// 6.5.3.3).
+/// What `op a` comes to, where `a` is a value of the kind: its value, or `Overflow` where C
+/// calls it undefined (C99 6.5.3.3).
 #[tactic(auto, unfolding(crate::specs::Operators::unary_outcome))]
 pub fn unary_outcome(op: UnaryOp, kind: Kind, a: i128) -> Result<i128, Undefined>
     requires { IsValue kind a }

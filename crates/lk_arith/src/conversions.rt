@@ -43,8 +43,9 @@ fn from_bits(kind: Kind, bits: u64) -> i128
     }
 }
 
-/// The number converted to the kind, for any number: to `_Bool` 1 where it isn't zero, else 0 (C99 6.3.1.2); to any other
-/// kind the value that has the number's low bits in two's complement (C99 6.3.1.3). What the kind has stays as it is.
+/// The number converted to the kind, for any number: to `_Bool` 1 where it isn't zero, else 0
+/// (C99 6.3.1.2); to any other kind the value that has the number's low bits in two's complement
+/// (C99 6.3.1.3). What the kind has stays as it is.
 #[tactic(auto, unfolding(crate::specs::Conversions::convert))]
 pub fn convert(kind: Kind, number: i128) -> i128
     ensures exact { result ≡ spec.convert kind number }

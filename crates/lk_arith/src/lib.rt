@@ -1,4 +1,5 @@
-//! The arithmetic of C on its integer kinds: what each operator gives, where it is undefined, and the conversions.
+//! The arithmetic of C on its integer kinds: what each operator gives, where it is
+//! undefined, and the conversions.
 #![tactic(auto)]
 
 mod arithmetic;

@@ -61,8 +61,8 @@ pub enum Undefined {
     Overflow,
     /// The divisor is zero (C99 6.5.5, 5).
     DivideByZero,
-    /// A shift by a negative number of places, or by as many as the kind has bits or more, or to the left of a negative
-    /// number (C99 6.5.7, 3 and 4).
+    /// A shift by a negative number of places, or by as many as the kind has bits or more, or to the left of
+    /// a negative number (C99 6.5.7, 3 and 4).
     Shift,
 }
 

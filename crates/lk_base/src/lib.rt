@@ -1,4 +1,5 @@
-//! What every other crate of `lsrace` speaks of: names, places, refusals, limits, and lists that contracts see as lists.
+//! What every other crate of `lsrace` speaks of: names, places, refusals, limits, and lists
+//! that contracts see as lists.
 #![tactic(auto)]
 
 mod boxed;

@@ -47,7 +47,8 @@ impl<T> Seq<T> {
 
     /// The elements, as a slice for writing.
     pub fn list_mut(&mut self) -> &mut [T]
-        ensures* writes_back { sem 𝓛 (Lends (the_row T.row) (Array T.row 0) self.entry result (written self.old)) }
+        ensures* writes_back { sem 𝓛
+            (Lends (the_row T.row) (Array T.row 0) self.entry result (written self.old)) }
         ensures value { result.now ≡ self.old }
     {
         self.inner.as_mut_slice()
@@ -77,7 +78,8 @@ impl<T> Seq<T> {
 
     /// Takes the last element away.
     pub fn pop(&mut self) -> Option<T>
-        ensures { MatchOption result ((self.old ≡ []) × (self.new ≡ [])) (λ last. self.old ≡ self.new ++ last ∷ []) }
+        ensures { MatchOption result ((self.old ≡ []) × (self.new ≡ []))
+            (λ last. self.old ≡ self.new ++ last ∷ []) }
     {
         self.inner.pop()
     }

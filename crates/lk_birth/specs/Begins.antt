@@ -1,6 +1,7 @@
--- Programs whose static initialisers are right: each address that a point of theirs gives is one of a part of the type to which its own type
--- points, or its type is `void *`. In a function the conversion of a `void *` to a pointer to another type has no defined step (C99 6.3.2.3, 1
--- and 7; 6.5, 7); those of static initialisers are performed before the program begins (C99 5.1.2).
+-- Programs whose static initialisers are right: each address that a point of theirs gives is one of a part of
+-- the type to which its own type points, or its type is `void *`. In a function the conversion of a `void *`
+-- to a pointer to another type has no defined step (C99 6.3.2.3, 1 and 7; 6.5, 7); those of static
+-- initialisers are performed before the program begins (C99 5.1.2).
 use Rattle.std.specs.Prelude.{◌≡◌, ◌⊎◌, ℕ, Bool, true, List, Some, length}
 use Rattle.lk_base.specs.declared.cell.CellStep.{CellStep}
 use Rattle.lk_cells.specs.Parts.{node_along}
@@ -26,4 +27,6 @@ module _ (program : Program) where
 
   abbrev pub StartsRight : Type 0
   StartsRight =
-      (p r : ℕ) (path : List CellStep) (past : Bool) (t : ℕ) → function_at program p ≡ Some (length program.functions) → GivesAddress program p r path past → GivesForm program p (Pointer t) → IsPartOfType r path t
+      (p r : ℕ) (path : List CellStep) (past : Bool) (t : ℕ) →
+      function_at program p ≡ Some (length program.functions) → GivesAddress program p r path past →
+      GivesForm program p (Pointer t) → IsPartOfType r path t

@@ -1,4 +1,5 @@
--- The births and ends of objects and frames (C99 5.1.2.2.1, 6.2.4, 6.5.2.2, 6.9.1; POSIX pthread_create, pthread_exit).
+-- The births and ends of objects and frames (C99 5.1.2.2.1, 6.2.4, 6.5.2.2, 6.9.1; POSIX
+-- pthread_create, pthread_exit).
 use Rattle.std.specs.Prelude.{ℕ, ◌+◌, zero, suc, ◌++◌, Bool, true, false, ◌&&◌, List, [], ◌∷◌, map, Option, None, Some, slice_get, slice_set, option_and_then, unwrap_or, if◌then◌else◌, nat_eq, length}
 use Rattle.std.specs.List.{position_from}
 use Rattle.std.specs.Option.{option_map_or, option_eq}
@@ -40,7 +41,8 @@ listed (Some x) = x ∷ []
 
 -- the number of a root, where it is that of a local of the function
 abbrev pub local_at : Program → ℕ → ℕ → Option ℕ
-local_at program f r = option_and_then (λ root. if is_local_of f root then Some r else None) (slice_get program.roots r)
+local_at program f r =
+    option_and_then (λ root. if is_local_of f root then Some r else None) (slice_get program.roots r)
 
 -- the roots of the locals of a function among the first so many roots, in their order
 abbrev pub locals_below : Program → ℕ → ℕ → List ℕ
@@ -71,9 +73,11 @@ is_root r (holder.Point p) = false
 module _ (program : Program) (f : ℕ) (args : List Value) where
   -- the argument for the first parameter that passes the test (C99 6.5.2.2, 4)
   abbrev pub argument : (Holder → Bool) → Option Value
-  argument test = option_and_then (slice_get args) (position_from test 0 (unwrap_or (parameters_of program f) []))
+  argument test =
+      option_and_then (slice_get args) (position_from test 0 (unwrap_or (parameters_of program f) []))
 
-  -- what a slot begins with: a parameter with its argument, any other is indeterminate (C99 6.2.4, 5; 6.9.1, 10)
+  -- what a slot begins with: a parameter with its argument, any other is
+  -- indeterminate (C99 6.2.4, 5; 6.9.1, 10)
   abbrev pub first_in_slot : ℕ → Value
   first_in_slot slot = unwrap_or (argument (is_slot slot)) Indeterminate
 
@@ -85,7 +89,8 @@ module _ (program : Program) (f : ℕ) (args : List Value) where
   abbrev pub first_slots : List Value
   first_slots = slots_below (option_map_or length (slots_of program f) 0)
 
-  -- a local's object: a parameter begins with its argument, any other is indeterminate (C99 6.2.4, 5; 6.7.8, 10; 6.9.1, 10)
+  -- a local's object: a parameter begins with its argument, any other is indeterminate
+  -- (C99 6.2.4, 5; 6.7.8, 10; 6.9.1, 10)
   abbrev pub bare_local : ℕ → Object
   bare_local r = new_object r (type_of_root program r) 1 initial.Indeterminate
 
@@ -100,8 +105,8 @@ abbrev pub numbered_from : ℕ → List ℕ → List Local
 numbered_from first [] = []
 numbered_from first (r ∷ more) = record { root = r; object = first } ∷ numbered_from (first + 1) more
 
--- the frame of a call, which begins at its entry, and the objects of its locals, where so many objects are there already
--- (C99 6.2.4, 5 and 6)
+-- the frame of a call, which begins at its entry, and the objects of its locals, where so many objects are
+-- there already (C99 6.2.4, 5 and 6)
 abbrev pub made_for : Program → ℕ → ℕ → ℕ → List Value → Made
 made_for program first f entry args = record {
   frame = record {

@@ -135,7 +135,8 @@ fn argument_at(args: &[Value], place: Option<usize>) -> Result<Option<Value>, No
     }
 }
 
-/// What a slot begins with: a parameter with its argument, any other is indeterminate (C99 6.2.4, 5; 6.9.1, 10).
+/// What a slot begins with: a parameter with its argument, any other is
+/// indeterminate (C99 6.2.4, 5; 6.9.1, 10).
 fn first_in_slot(
     points: &Points,
     function: u32,
@@ -171,7 +172,8 @@ fn first_slots(
     Ok(Seq::new(slots))
 }
 
-/// A local's object: a parameter begins with its argument, any other is indeterminate (C99 6.2.4, 5; 6.9.1, 10).
+/// A local's object: a parameter begins with its argument, any other is
+/// indeterminate (C99 6.2.4, 5; 6.9.1, 10).
 fn local_object(
     alloc: Global,
     points: &Points,
@@ -226,8 +228,8 @@ fn numbered_from(alloc: Global, first: u32, locals: &[u32]) -> Result<Seq<Local>
     Ok(Seq::new(numbered))
 }
 
-/// The frame of a call of a function with these arguments, which begins at its entry, and the objects of its locals, where so many
-/// objects are there already (C99 6.2.4, 5 and 6).
+/// The frame of a call of a function with these arguments, which begins at its entry, and the objects of its
+/// locals, where so many objects are there already (C99 6.2.4, 5 and 6).
 pub fn made_for(
     alloc: Global,
     points: &Points,

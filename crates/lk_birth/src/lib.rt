@@ -1,4 +1,5 @@
-//! The births of objects, frames and threads, and the first state of a program (C99 5.1.2.2.1, 6.2.4, 6.7.8, 6.9.1).
+//! The births of objects, frames and threads, and the first state of a program
+//! (C99 5.1.2.2.1, 6.2.4, 6.7.8, 6.9.1).
 #![tactic(auto)]
 
 mod births;

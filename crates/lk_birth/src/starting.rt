@@ -184,8 +184,8 @@ fn object_of_root(objects: &[Object], root: u32) -> Option<usize>
     None
 }
 
-/// What a cell of static storage begins with by its initialiser, where its type is of this form; nothing where it is ready as it is
-/// (C99 6.6, 6.7.8).
+/// What a cell of static storage begins with by its initialiser, where its type is of this form; nothing
+/// where it is ready as it is (C99 6.6, 6.7.8).
 fn first_value(
     alloc: Global,
     objects: &[Object],
@@ -279,7 +279,8 @@ fn first_objects(
     Ok(objects)
 }
 
-/// The arguments of main: how many strings there are, and the pointer to the pointers to them (C99 5.1.2.2.1, 2).
+/// The arguments of main: how many strings there are, and the pointer to the
+/// pointers to them (C99 5.1.2.2.1, 2).
 fn main_args(
     alloc: Global,
     points: &Points,
@@ -351,9 +352,9 @@ fn call_main(
     Ok(state)
 }
 
-/// The first state of a program with these strings as the arguments of main (C99 5.1.2.2.1). No string holds a zero byte.
-/// Where main has no parameters they are there, and have no use. Objects that there are no numbers for count as memory that
-/// isn't found.
+/// The first state of a program with these strings as the arguments of main (C99 5.1.2.2.1). No string holds
+/// a zero byte. Where main has no parameters they are there, and have no use. Objects that there are no
+/// numbers for count as memory that isn't found.
 pub fn start(alloc: Global, points: &Points, args: &[Vec<u8>]) -> Result<State, NoMemory>
     requires { length args.now < 2 ^ 31 }
     ensures value { IfOk result (λ state.

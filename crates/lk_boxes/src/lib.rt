@@ -1,6 +1,7 @@
 //! Several values at once in boxes: where there is no memory for one of them, all are let go here.
 //!
-//! What reads or makes a tree puts its parts into boxes together, so that how they are let go is proved once, for values of any types.
+//! What reads or makes a tree puts its parts into boxes together, so that how they are let go is proved
+//! once, for values of any types.
 #![tactic(auto)]
 
 ghost use Rattle.std.specs.Prelude.{◌≡◌, IfOk};

@@ -1,4 +1,5 @@
-//! Cases of whole programs: how a list of them is read, and where an answer differs from the one that is expected.
+//! Cases of whole programs: how a list of them is read, and where an answer differs
+//! from the one that is expected.
 #![tactic(auto)]
 
 mod case;

@@ -24,7 +24,8 @@ use Rattle.lk_values.specs.declared.value.Mutex.TheVariants as mutex
 use Rattle.lk_values.specs.declared.value.Value.{Value}
 use Rattle.lk_values.specs.declared.value.Value.TheVariants.{Number, Null, Thread, Indeterminate}
 
--- the value of a scalar type whose bits are zero, as static storage begins with (C99 6.7.8, 10); others have none
+-- the value of a scalar type whose bits are zero, as static storage begins with
+-- (C99 6.7.8, 10); others have none
 abbrev pub zero_of : CType → Option Value
 zero_of type.Void = None
 zero_of (type.Int kind) = Some (Number kind (pos 0))
@@ -106,7 +107,8 @@ module _ (table : Table) (object : Object) (path : List CellStep) where
   abbrev condition_of_kind : CellKind → Option Condition
   condition_of_kind cell.Value = None
   condition_of_kind cell.Mutex = None
-  condition_of_kind cell.Condition = Some (unwrap_or (found_at object.conditions path) (first_condition object.initial))
+  condition_of_kind cell.Condition =
+      Some (unwrap_or (found_at object.conditions path) (first_condition object.initial))
 
   -- what the cell at a path is
   abbrev pub kind_at : Option CellKind
@@ -126,9 +128,11 @@ has_owned object = is_any_owned object.mutexes
 
 -- an object that begins its life
 abbrev pub new_object : ℕ → ℕ → ℕ → Initial → Object
-new_object r ty count first = record { root = r; ty = ty; length = count; lives = true; initial = first; values = []; mutexes = []; conditions = [] }
+new_object r ty count first =
+    record { root = r; ty = ty; length = count; lives = true; initial = first; values = []; mutexes = []; conditions = [] }
 
--- the object with a value, a mutex or a condition variable put at a path; and the object after its life (C99 6.2.4, 2)
+-- the object with a value, a mutex or a condition variable put at a path; and the object
+-- after its life (C99 6.2.4, 2)
 abbrev pub with_value : Object → List CellStep → Value → Object
 with_value object path v = record object { values = put_at object.values path v }
 

@@ -1,5 +1,5 @@
--- What operators give of values: a value, or the cause by which C calls them undefined; nothing for operands that they don't take
--- (C99 6.5.3.3, 6.5.5 to 6.5.14).
+-- What operators give of values: a value, or the cause by which C calls them undefined; nothing for operands
+-- that they don't take (C99 6.5.3.3, 6.5.5 to 6.5.14).
 use Rattle.std.specs.Prelude.{ℕ, Bool, true, false, not, Option, None, Some, Result, Ok, Err, slice_get, option_and_then, if◌then◌else◌, nat_eq, ◌&&◌, ◌||◌, ℤ, pos, neg_ℤ, ◌-ℤ◌, int_lt, int_le}
 use Rattle.std.specs.Option.{option_map_or}
 use Rattle.lk_arith.specs.Conversions.{truth}
@@ -54,12 +54,15 @@ abbrev pub points : Option PointerTo → Computed
 points None = undefined_by why.Outside
 points (Some p) = gives (Pointer p)
 
--- two numbers, of which the first has its kind and, but for a shift, the second one has it too (C99 6.5.5 to 6.5.12)
+-- two numbers, of which the first has its kind and, but for a shift, the second one has
+-- it too (C99 6.5.5 to 6.5.12)
 abbrev pub of_numbers : Op → Kind → ℤ → ℤ → Computed
-of_numbers o k a b = if is_value k a && (arith.is_shift o || is_value k b) then of_kind (arith.result_kind o k) (arith.outcome o k a b) else None
+of_numbers o k a b =
+    if is_value k a && (arith.is_shift o || is_value k b)
+    then of_kind (arith.result_kind o k) (arith.outcome o k a b) else None
 
--- two addresses, of which it is known whether they are equal, and by how many elements the first stands after the second
--- where they point into one array (C99 6.5.6, 9; 6.5.8, 5; 6.5.9, 6)
+-- two addresses, of which it is known whether they are equal, and by how many elements the first stands after
+-- the second where they point into one array (C99 6.5.6, 9; 6.5.8, 5; 6.5.9, 6)
 abbrev pub by_distance : Option ℤ → (ℤ → Computed) → Computed
 by_distance None result = undefined_by why.Outside
 by_distance (Some distance) result = result distance
@@ -138,7 +141,8 @@ of_address unary.Complement is_null = None
 of_address unary.Not is_null = tells is_null
 
 abbrev pub unary_of : UnaryOp → Value → Computed
-unary_of o (Number k a) = if is_value k a then of_kind (arith.unary_kind o k) (arith.unary_outcome o k a) else None
+unary_of o (Number k a) =
+    if is_value k a then of_kind (arith.unary_kind o k) (arith.unary_outcome o k a) else None
 unary_of o (Pointer p) = of_address o false
 unary_of o (Function f) = of_address o false
 unary_of o Null = of_address o true
@@ -148,11 +152,16 @@ unary_of o Indeterminate = None
 module _ (table : Table) (s : State) where
   -- whether two pointers to parts of objects are equal (C99 6.5.9, 6)
   abbrev pub is_equal : PointerTo → PointerTo → Bool
-  is_equal p q = nat_eq p.part.object q.part.object && option_map_or (λ object. moves.is_same_place table object p q) (slice_get s.objects p.part.object) false
+  is_equal p q =
+      nat_eq p.part.object q.part.object
+      && option_map_or (λ object. moves.is_same_place table object p q)
+      (slice_get s.objects p.part.object) false
 
   -- by how many elements p stands after q, where they point into one array (C99 6.5.6, 9)
   abbrev pub distance : PointerTo → PointerTo → Option ℤ
-  distance p q = if pointers.is_same_array p q then Some (pos (pointers.position_of p) -ℤ pos (pointers.position_of q)) else None
+  distance p q =
+      if pointers.is_same_array p q
+      then Some (pos (pointers.position_of p) -ℤ pos (pointers.position_of q)) else None
 
   abbrev pub with_pointer : Op → PointerTo → Value → Computed
   with_pointer o p (Number j b) = option_and_then (λ n. points (moved_by table s p n)) (amount_of o j b)

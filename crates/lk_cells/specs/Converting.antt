@@ -1,5 +1,5 @@
--- What conversions give of values: a value, or the cause by which C calls them undefined; nothing for values that they don't take
--- (C99 6.3).
+-- What conversions give of values: a value, or the cause by which C calls them undefined; nothing for values
+-- that they don't take (C99 6.3).
 use Rattle.std.specs.Prelude.{ℕ, Bool, true, false, not, Option, None, Some, slice_get, option_and_then, if◌then◌else◌, nat_eq, ◌&&◌, ◌||◌}
 use Rattle.std.specs.Option.{option_map_or, option_eq}
 use Rattle.lk_arith.specs.Conversions.{truth, convert}
@@ -43,9 +43,11 @@ target_of (type.Opaque n) = None
 
 -- whether a type is `void *`
 abbrev pub is_void_pointer : Table → Option ℕ → Bool
-is_void_pointer table t = option_map_or is_void (option_and_then (form_of table) (option_and_then target_of (option_and_then (form_of table) t))) false
+is_void_pointer table t =
+    option_map_or is_void (option_and_then (form_of table) (option_and_then target_of (option_and_then (form_of table) t))) false
 
--- a value converted to an integer kind; an address is converted to _Bool alone, as whether it isn't null (C99 6.3.1.2)
+-- a value converted to an integer kind; an address is converted to _Bool alone, as
+-- whether it isn't null (C99 6.3.1.2)
 abbrev pub to_kind : Kind → Value → Computed
 to_kind k (Number j n) = gives (Number k (convert k n))
 to_kind k (Pointer p) = gives (Number k (truth true))
@@ -66,19 +68,23 @@ to_id Indeterminate = None
 module _ (table : Table) (s : State) where
   -- whether the part that a pointer points to or one past has this type
   abbrev pub is_part_of_type : ℕ → PointerTo → Bool
-  is_part_of_type t p = option_eq nat_eq (option_and_then (λ object. type_along table object.length p.part.path object.ty) (slice_get s.objects p.part.object)) (Some t)
+  is_part_of_type t p =
+      option_eq nat_eq (option_and_then (λ object. type_along table object.length p.part.path object.ty)
+      (slice_get s.objects p.part.object)) (Some t)
 
-  -- a value converted to a pointer to the type t; from void, to that of the part that it points to (C99 6.3.2.3, 1)
+  -- a value converted to a pointer to the type t; from void, to that of the part that
+  -- it points to (C99 6.3.2.3, 1)
   abbrev pub to_pointer : Bool → ℕ → Value → Computed
   to_pointer from_void t (Number j n) = None
-  to_pointer from_void t (Pointer p) = if not from_void || is_part_of_type t p then gives (Pointer p) else undefined_by why.WrongType
+  to_pointer from_void t (Pointer p) =
+      if not from_void || is_part_of_type t p then gives (Pointer p) else undefined_by why.WrongType
   to_pointer from_void t (Function f) = gives (Function f)
   to_pointer from_void t Null = gives Null
   to_pointer from_void t (Thread u) = None
   to_pointer from_void t Indeterminate = None
 
-  -- a value converted to a type of this form; `from_void` tells whether it is converted from `void *` to a pointer to another
-  -- type (C99 6.3)
+  -- a value converted to a type of this form; `from_void` tells whether it is converted from `void *` to a
+  -- pointer to another type (C99 6.3)
   abbrev pub converted : (ℕ → Bool) → CType → Value → Computed
   converted from_void type.Void v = None
   converted from_void (type.Int k) v = to_kind k v

@@ -94,6 +94,7 @@ condition_in (Some Indeterminate) = None
 abbrev pub operand : Thread → ℕ → Option Value
 operand thread a = given_by thread.frame a
 
--- the pointer with which a point that goes from cell to cell stands: to the next cell, or at first its operand
+-- the pointer with which a point that goes from cell to cell stands: to the next
+-- cell, or at first its operand
 abbrev pub current : Thread → ℕ → Option Value
 current thread a = option_map_or (λ p. Some (Pointer p)) thread.frame.next_cell (operand thread a)

@@ -53,10 +53,12 @@ form_of table t = slice_get table.types t
 abbrev pub part_at : Table → ℕ → ℕ → CellStep → Option ℕ
 part_at table own t step = option_and_then (λ form. part_type table own form step) (form_of table t)
 
--- the type of the part that a path leads to from a type, where there is one; `own` is the length of the object
+-- the type of the part that a path leads to from a type, where there is one;
+-- `own` is the length of the object
 abbrev pub type_along : Table → ℕ → List CellStep → ℕ → Option ℕ
 type_along table own [] t = Some t
-type_along table own (step ∷ path) t = option_and_then (λ u. type_along table own path u) (part_at table own t step)
+type_along table own (step ∷ path) t =
+    option_and_then (λ u. type_along table own path u) (part_at table own t step)
 
 -- a step to a part, its index forgotten
 abbrev pub sel_of : CellStep → Sel

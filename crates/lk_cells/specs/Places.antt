@@ -1,4 +1,5 @@
--- The parts that pointers lead to, and when they may be reached (C99 6.2.4, 6.4.5, 6.5.3.2, 6.5.6; POSIX pthread_mutex_lock).
+-- The parts that pointers lead to, and when they may be reached
+-- (C99 6.2.4, 6.4.5, 6.5.3.2, 6.5.6; POSIX pthread_mutex_lock).
 use Rattle.std.specs.Prelude.{ℕ, Bool, true, false, not, ◌&&◌, List, Option, None, Some, slice_get, option_and_then, if◌then◌else◌, nat_eq, ℤ}
 use Rattle.std.specs.Option.{option_map_or}
 use Rattle.lk_types.specs.declared.c_type.CType.{CType}

@@ -10,7 +10,8 @@ use lk_base::{Kind, NoMemory};
 use lk_types::TypeTable;
 use lk_values::{Pointer, Value, Why};
 
-/// What computing comes to, where the operands are ones that it takes: a value, or the cause by which C calls it undefined.
+/// What computing comes to, where the operands are ones that it takes: a value, or the cause
+/// by which C calls it undefined.
 pub type Computed = Option<Result<Value, Why>>;
 
 /// The cause by which C calls an operation on integers undefined.
@@ -62,8 +63,8 @@ fn of_numbers(op: Op, kind: Kind, a: i128, b: i128) -> Computed
     }
 }
 
-/// An operator of two addresses, of which it is known whether they are equal, and by how many elements the first stands after
-/// the second where they point into one array (C99 6.5.6, 9; 6.5.8, 5; 6.5.9, 6).
+/// An operator of two addresses, of which it is known whether they are equal, and by how many elements the
+/// first stands after the second where they point into one array (C99 6.5.6, 9; 6.5.8, 5; 6.5.9, 6).
 fn of_addresses(op: Op, same: bool, distance: Option<i128>) -> Computed
     ensures { result ≡ spec.of_addresses op same distance }
 {

@@ -38,7 +38,8 @@ fn is_part_of_type(types: &TypeTable, state: &State, ty: TypeId, p: &Pointer) ->
     }
 }
 
-/// A value converted to a pointer to a type; from void, to that of the part that it points to (C99 6.3.2.3, 1).
+/// A value converted to a pointer to a type; from void, to that of the part that
+/// it points to (C99 6.3.2.3, 1).
 fn to_pointer(
     types: &TypeTable,
     state: &State,

@@ -1,5 +1,6 @@
-//! What the memory of a running program holds, and what values come to: the cells of objects, the frames of threads, pointers
-//! that move and are followed, operators and conversions (C99 6.2.4, 6.2.5, 6.3, 6.5; POSIX Base Definitions 4.11).
+//! What the memory of a running program holds, and what values come to: the cells of objects, the frames of
+//! threads, pointers that move and are followed, operators and conversions (C99 6.2.4, 6.2.5, 6.3, 6.5;
+//! POSIX Base Definitions 4.11).
 #![tactic(auto)]
 
 mod computing;

@@ -26,7 +26,8 @@ fn count_at(types: &TypeTable, object: &Object, path: &[CellStep]) -> u64
     }
 }
 
-/// How many elements the array has that a part is an element of; any other part counts as an array of one (C99 6.5.6, 7).
+/// How many elements the array has that a part is an element of; any other part counts as an
+/// array of one (C99 6.5.6, 7).
 fn room_of(types: &TypeTable, object: &Object, path: &Path) -> u64
     ensures { result ≡ spec.room_of types.now object.now path.now }
 {
@@ -65,7 +66,8 @@ fn moved_position(position: u128, room: u64, by: i128) -> Option<u64>
     Some((at + by) as u64)
 }
 
-/// The pointer moved by a number of elements, where it then points to an element or one past the last (C99 6.5.6, 8).
+/// The pointer moved by a number of elements, where it then points to an element or one
+/// past the last (C99 6.5.6, 8).
 pub fn moved(
     types: &TypeTable,
     object: &Object,
@@ -84,7 +86,8 @@ pub fn moved(
     }
 }
 
-/// The step to the part that stands directly after the one that a step leads to, where both are parts of a type.
+/// The step to the part that stands directly after the one that a step leads to,
+/// where both are parts of a type.
 fn next_step(types: &TypeTable, own: u64, form: &CType, step: CellStep) -> Option<CellStep>
     ensures { result ≡ spec.next_step types.now own form.now step }
 {
@@ -130,8 +133,8 @@ pub fn newer(
     }
 }
 
-/// The last step of a path that leads to a part after which another one stands in the same whole: its place, and the step to that
-/// other part.
+/// The last step of a path that leads to a part after which another one stands in the same whole: its place,
+/// and the step to that other part.
 fn last_turn(types: &TypeTable, object: &Object, steps: &[CellStep]) -> Option<(usize, CellStep)>
     ensures value { spec.path_after types.now object.now.length steps.now object.now.ty ≡
         spec.path_turned steps.now result }
@@ -151,7 +154,8 @@ fn last_turn(types: &TypeTable, object: &Object, steps: &[CellStep]) -> Option<(
     found
 }
 
-/// The path to the part of an object that stands directly after the part at a path, where there is one (C99 6.5.9, 6).
+/// The path to the part of an object that stands directly after the part at a path, where
+/// there is one (C99 6.5.9, 6).
 fn path_after(types: &TypeTable, object: &Object, path: &Path) -> Result<Option<Path>, NoMemory>
     ensures { IfOk result (λ after. after ≡
         spec.path_after types.now object.now.length path.now object.now.ty) }

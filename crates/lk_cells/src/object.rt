@@ -14,7 +14,8 @@ use std::alloc::Global;
 /// What the cells of an object hold before anything is put into them.
 #[derive(Clone, Copy)]
 pub enum Initial {
-    /// Zero, a null pointer or the id of no thread; its mutexes and condition variables are ready (C99 6.7.8, 10).
+    /// Zero, a null pointer or the id of no thread; its mutexes and condition
+    /// variables are ready (C99 6.7.8, 10).
     Zero,
     /// An indeterminate value; its mutexes and condition variables aren't ready (C99 6.7.8, 10; 7.20.3.3).
     Indeterminate,

@@ -155,7 +155,8 @@ pub fn all_given(
     Ok(Some(Seq::new(values)))
 }
 
-/// The pointer with which a point that goes from cell to cell stands: to the next cell, or at first its operand.
+/// The pointer with which a point that goes from cell to cell stands: to the next
+/// cell, or at first its operand.
 pub fn current(thread: &Thread, point: u32) -> Result<Option<Value>, NoMemory>
     ensures { IfOk result (λ value. value ≡ spec.current thread.now point) }
 {

@@ -88,7 +88,8 @@ pub(crate) fn member_count(types: &TypeTable, form: &CType) -> usize
     }
 }
 
-/// The type of the part that a step leads to from a type, where there is one; `own` is the length of the object.
+/// The type of the part that a step leads to from a type, where there is one; `own`
+/// is the length of the object.
 pub fn part_at(types: &TypeTable, own: u64, ty: TypeId, step: CellStep) -> Option<TypeId>
     ensures { result ≡ spec.part_at types.now own ty step }
 {
@@ -106,7 +107,8 @@ pub fn part_at(types: &TypeTable, own: u64, ty: TypeId, step: CellStep) -> Optio
     }
 }
 
-/// The type of the part that a path leads to from a type, where there is one; `own` is the length of the object.
+/// The type of the part that a path leads to from a type, where there is one; `own`
+/// is the length of the object.
 pub fn type_along(types: &TypeTable, own: u64, path: &[CellStep], ty: TypeId) -> Option<TypeId>
     ensures { result ≡ spec.type_along types.now own path.now ty }
 {

@@ -22,20 +22,25 @@ abbrev pub first_of : Bool → Initial
 first_of true = initial.Zero
 first_of false = initial.Indeterminate
 
--- makes an object with so many elements, and gives the pointer to a part of it: to the object itself, or to the first of several;
--- null by the word, and for no elements (C99 7.20.3)
+-- makes an object with so many elements, and gives the pointer to a part of it: to the object itself, or to
+-- the first of several; null by the word, and for no elements (C99 7.20.3)
 abbrev pub bears : Program → State → ℕ → ℕ → Bool → ℕ → List CellStep → Option Change
-bears program s p r zero n path = goes program p 0 (Some (Pointer (pointers.pointer_to (length s.objects) path))) (effect.Bear (record { root = r; length = n; initial = first_of zero }))
+bears program s p r zero n path =
+    goes program p 0 (Some (Pointer (pointers.pointer_to (length s.objects) path)))
+    (effect.Bear (record { root = r; length = n; initial = first_of zero }))
 
 abbrev pub allocates : Program → State → ℕ → ℕ → ℕ → Bool → ℕ → List CellStep → Option Change
-allocates program s p w r zero n path = if nat_eq w 0 || nat_eq n 0 then gives program p (Some Null) else bears program s p r zero n path
+allocates program s p w r zero n path =
+    if nat_eq w 0 || nat_eq n 0 then gives program p (Some Null) else bears program s p r zero n path
 
 -- so many elements as a size tells (C99 7.20.3)
 abbrev pub count_of : ℤ → Option ℕ
 count_of n = if is_value kind.ULong n then Some (unsigned_abs n) else None
 
 abbrev pub allocates_many : Program → State → ℕ → ℕ → ℕ → Bool → Option Value → Option Change
-allocates_many program s p w r zero v = option_and_then (λ n. allocates program s p w r zero n (Index 0 ∷ [])) (option_and_then count_of (number_in v))
+allocates_many program s p w r zero v =
+    option_and_then (λ n. allocates program s p w r zero n (Index 0 ∷ []))
+    (option_and_then count_of (number_in v))
 
 -- one object, or as many elements as an operand says (C99 7.20.3)
 abbrev pub allocates_by : Program → State → Thread → ℕ → ℕ → Bool → Option ℕ → Option Change

@@ -1,6 +1,7 @@
--- What the step of each action does, where no cause makes it undefined and it doesn't wait: what its point gives, where the thread
--- goes, and what else it changes (C99 6.3, 6.5, 6.7.8, 6.8, 7.19, 7.20; the POSIX pages of the functions). There is nothing where
--- an operand is none that the action takes, which lowered points never have.
+-- What the step of each action does, where no cause makes it undefined and it doesn't wait: what its
+-- point gives, where the thread goes, and what else it changes (C99 6.3, 6.5, 6.7.8, 6.8, 7.19, 7.20;
+-- the POSIX pages of the functions). There is nothing where an operand is none that the action takes,
+-- which lowered points never have.
 use Rattle.std.specs.Prelude.{ℕ, Option, Some, slice_get, option_and_then}
 use Rattle.lk_facts.specs.declared.action.Action.{Action}
 use Rattle.lk_facts.specs.declared.action.Action.TheVariants as does
@@ -36,7 +37,8 @@ module _ (program : Program) (s : State) (t : ℕ) (thread : Thread) (w : ℕ) w
 
   -- What the step of each action does.
   abbrev pub change : Action → Option Change
-  change (does.Value number ty) = gives program p (option_and_then (λ form. number_of_type form number) (form_of program.types ty))
+  change (does.Value number ty) =
+      gives program p (option_and_then (λ form. number_of_type form number) (form_of program.types ty))
   change (does.Null ty) = gives program p (Some Null)
   change (does.Func f) = gives program p (Some (Function f))
   change does.SelfId = gives program p (Some (Id (Some t)))

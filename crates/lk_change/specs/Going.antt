@@ -25,7 +25,8 @@ module _ (program : Program) (p : ℕ) where
 
   -- goes on to the successor of this number, where the point gives this and changes this
   abbrev pub goes : ℕ → Option Value → Effect → Option Change
-  goes k given changed = option_map (λ q. Goes (record { gives = given; turn = turn.To q; effect = changed })) (successor k)
+  goes k given changed =
+      option_map (λ q. Goes (record { gives = given; turn = turn.To q; effect = changed })) (successor k)
 
   -- gives a value and goes on, where there is one
   abbrev pub gives : Option Value → Option Change

@@ -21,7 +21,9 @@ use Rattle.lk_change.specs.Going.{changes, succeeds}
 module _ (program : Program) (s : State) where
   -- puts a mutex that a pointer leads to into a state, where it leads to one
   abbrev pub mutex_made : Option Value → Mutex → Option Effect
-  mutex_made v state = option_and_then (λ found. option_map (λ c. effect.PutMutex c state) (places.part_of s v)) (places.mutex_through program.types s v)
+  mutex_made v state =
+      option_and_then (λ found. option_map (λ c. effect.PutMutex c state) (places.part_of s v))
+      (places.mutex_through program.types s v)
 
   abbrev ready_of_kind : Cell → CellKind → Option Effect
   ready_of_kind c cell.Value = None
@@ -33,20 +35,30 @@ module _ (program : Program) (s : State) where
   unready_of_kind c cell.Mutex = Some (effect.PutMutex c mutex.NotReady)
   unready_of_kind c cell.Condition = Some (effect.PutCondition c condition.NotReady)
 
-  -- makes a mutex or condition variable ready, the mutex free (POSIX pthread_mutex_init, pthread_cond_init); or not ready
+  -- makes a mutex or condition variable ready, the mutex free (POSIX pthread_mutex_init,
+  -- pthread_cond_init); or not ready
   abbrev pub made_ready : Option Value → Option Effect
-  made_ready v = option_and_then (λ c. option_and_then (ready_of_kind c) (places.kind_through program.types s v)) (places.part_of s v)
+  made_ready v =
+      option_and_then (λ c. option_and_then (ready_of_kind c) (places.kind_through program.types s v))
+      (places.part_of s v)
 
   abbrev pub made_unready : Option Value → Option Effect
-  made_unready v = option_and_then (λ c. option_and_then (unready_of_kind c) (places.kind_through program.types s v)) (places.part_of s v)
+  made_unready v =
+      option_and_then (λ c. option_and_then (unready_of_kind c) (places.kind_through program.types s v))
+      (places.part_of s v)
 
 -- frees the mutex while the thread waits on the condition variable (POSIX pthread_cond_wait)
 abbrev pub releases : Program → State → ℕ → Option Value → Option Value → Option Change
-releases program s p c v = option_and_then (λ condition. succeeds program p (mutex_made program s v mutex.Free)) (places.condition_through program.types s c)
+releases program s p c v =
+    option_and_then (λ condition. succeeds program p (mutex_made program s v mutex.Free))
+    (places.condition_through program.types s c)
 
--- wakes threads that wait on a condition variable: any may wake at any time, so nothing changes (POSIX pthread_cond_signal)
+-- wakes threads that wait on a condition variable: any may wake at any time, so nothing
+-- changes (POSIX pthread_cond_signal)
 abbrev pub signals : Program → State → ℕ → Option Value → Option Change
-signals program s p c = option_and_then (λ condition. succeeds program p (Some effect.Nothing)) (places.condition_through program.types s c)
+signals program s p c =
+    option_and_then (λ condition. succeeds program p (Some effect.Nothing))
+    (places.condition_through program.types s c)
 
 -- the thread owns the mutex, at once or when it has waited (POSIX pthread_mutex_lock, pthread_cond_wait)
 abbrev pub locks : Program → State → ℕ → Thread → ℕ → Option Change
@@ -62,7 +74,8 @@ abbrev pub unlocks : Program → State → Thread → ℕ → Option Change
 unlocks program s thread a =
     succeeds program thread.frame.point (mutex_made program s (operand thread a) mutex.Free)
 
--- makes ready, or not ready, what an operand leads to (the POSIX pages of pthread_mutex_init, pthread_cond_init and their opposites)
+-- makes ready, or not ready, what an operand leads to (the POSIX pages of pthread_mutex_init,
+-- pthread_cond_init and their opposites)
 abbrev pub initialises : Program → State → Thread → ℕ → Option Change
 initialises program s thread a = succeeds program thread.frame.point (made_ready program s (operand thread a))
 

@@ -28,7 +28,9 @@ value_of computed = option_and_then result_ok computed
 
 -- an integer by the word, converted to a type (C99 6.3.1.3)
 abbrev pub by_word : Program → ℕ → Option ℕ → Option Value
-by_word program w ty = option_map (λ k. Number k (convert k (pos w))) (option_and_then int_kind (option_and_then (form_of program.types) ty))
+by_word program w ty =
+    option_map (λ k. Number k (convert k (pos w)))
+    (option_and_then int_kind (option_and_then (form_of program.types) ty))
 
 -- `pthread_equal`: whether two ids name one thread, or both name none
 abbrev pub equal_ids : Option (Option ℕ) → Option (Option ℕ) → Option Value
@@ -46,15 +48,21 @@ abbrev pub unary_value : UnaryOp → Option Value → Option Value
 unary_value op v = option_and_then (λ x. value_of (computing.unary_of op x)) v
 
 abbrev pub binary_value : Program → State → Op → Option Value → Option Value → Option Value
-binary_value program s op a b = option_and_then (λ x. option_and_then (λ y. value_of (computing.binary program.types s op x y)) b) a
+binary_value program s op a b =
+    option_and_then (λ x. option_and_then (λ y. value_of (computing.binary program.types s op x y)) b) a
 
 abbrev pub converted_value : Program → State → ℕ → ℕ → Option Value → Option Value
-converted_value program s a ty v = option_and_then (λ x. value_of (converting.converted_to program.types s (value_type_at program a) ty x)) v
+converted_value program s a ty v =
+    option_and_then (λ x. value_of (converting.converted_to program.types s (value_type_at program a) ty x)) v
 
 abbrev pub gives_binary : Program → State → Thread → Op → ℕ → ℕ → Option Change
-gives_binary program s thread op a b = gives program thread.frame.point (binary_value program s op (operand thread a) (operand thread b))
+gives_binary program s thread op a b =
+    gives program thread.frame.point (binary_value program s op (operand thread a) (operand thread b))
 
--- what a call gives that touches nothing: for `pthread_equal` whether its ids are equal, else an integer by the word
+-- what a call gives that touches nothing: for `pthread_equal` whether its ids are
+-- equal, else an integer by the word
 abbrev pub computes : Program → Thread → ℕ → List ℕ → ℕ → Bool → Option Change
-computes program thread w args ty true = gives program thread.frame.point (ids_equal (map (operand thread) args))
-computes program thread w args ty false = goes program thread.frame.point 0 (by_word program w (Some ty)) effect.Nothing
+computes program thread w args ty true =
+    gives program thread.frame.point (ids_equal (map (operand thread) args))
+computes program thread w args ty false =
+    goes program thread.frame.point 0 (by_word program w (Some ty)) effect.Nothing

@@ -31,11 +31,15 @@ object_of s frame r root.Function = None
 
 -- the pointer to a root's object (C99 6.3.2.1, 6.4.5, 6.5.1)
 abbrev pub pointer_to_root : Program → State → Frame → ℕ → Option Value
-pointer_to_root program s frame r = option_map (λ object. Pointer (pointers.pointer_to object [])) (option_and_then (λ root. object_of s frame r root.kind) (slice_get program.roots r))
+pointer_to_root program s frame r =
+    option_map (λ object. Pointer (pointers.pointer_to object []))
+    (option_and_then (λ root. object_of s frame r root.kind) (slice_get program.roots r))
 
 -- the pointer to a member of the struct that a pointer leads to (C99 6.5.2.3)
 abbrev pub member_of : State → Option Value → ℕ → Option Value
-member_of s v k = option_map (λ c. Pointer (pointers.into_member (record { part = c; past = false }) k)) (places.part_of s v)
+member_of s v k =
+    option_map (λ c. Pointer (pointers.into_member (record { part = c; past = false }) k))
+    (places.part_of s v)
 
 module _ (program : Program) (s : State) where
   -- the pointer to an element of an array, or a pointer moved by a number of elements (C99 6.5.2.1)

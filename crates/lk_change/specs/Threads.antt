@@ -15,9 +15,11 @@ use Rattle.lk_change.specs.Calls.{call_of}
 abbrev pub thread_in : Option Value → Option ℕ
 thread_in v = option_and_then (λ id. id) (id_in v)
 
--- begins a thread; or fails with 11 by the word, and goes on past the step that stores its id (POSIX pthread_create)
+-- begins a thread; or fails with 11 by the word, and goes on past the step that stores
+-- its id (POSIX pthread_create)
 abbrev pub begins : Program → ℕ → ℕ → ℕ → Value → Option Change
-begins program p w f v = if nat_eq w 0 then goes program p 1 (Some (Number kind.Int (pos 11))) effect.Nothing else succeeds program p (option_map effect.Begin (call_of program f (v ∷ [])))
+begins program p w f v = if nat_eq w 0 then goes program p 1 (Some (Number kind.Int (pos 11))) effect.Nothing
+    else succeeds program p (option_map effect.Begin (call_of program f (v ∷ [])))
 
 -- the thread of an id is joined or detached (POSIX pthread_join, pthread_detach)
 abbrev pub joins : Program → ℕ → Option Value → Option Change

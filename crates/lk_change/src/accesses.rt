@@ -65,7 +65,8 @@ pub(crate) fn slot_put(
     }
 }
 
-/// Reads a character of a text, and stays with the next one; after the zero it goes on (C99 7.19.7.10, 7.20.1.2).
+/// Reads a character of a text, and stays with the next one; after the zero it goes
+/// on (C99 7.19.7.10, 7.20.1.2).
 fn scans(
     points: &Points,
     state: &State,

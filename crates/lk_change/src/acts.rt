@@ -18,8 +18,8 @@ use lk_facts::{Action, Points};
 use lk_values::Value;
 use std::alloc::Global;
 
-/// What the step of an action does, where no cause makes it undefined and it doesn't wait. There is nothing where an operand
-/// is none that the action takes, which lowered points never have.
+/// What the step of an action does, where no cause makes it undefined and it doesn't wait. There is nothing
+/// where an operand is none that the action takes, which lowered points never have.
 pub fn change_of(
     alloc: Global,
     points: &Points,

@@ -24,8 +24,8 @@ fn first_of(zero: bool) -> Initial
     }
 }
 
-/// Makes an object with so many elements, and gives the pointer to the part at a path; or null by the word, and for no elements
-/// (C99 7.20.3).
+/// Makes an object with so many elements, and gives the pointer to the part at a path; or null by the word,
+/// and for no elements (C99 7.20.3).
 fn allocates(
     points: &Points,
     state: &State,

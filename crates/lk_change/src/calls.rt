@@ -101,7 +101,8 @@ pub(crate) fn enters_through(
     }
 }
 
-/// Returns to the frame below; from a thread's first frame ends the thread, from main's the process (C99 5.1.2.2.3, 6.8.6.4).
+/// Returns to the frame below; from a thread's first frame ends the thread, from main's the
+/// process (C99 5.1.2.2.3, 6.8.6.4).
 fn returns(points: &Points, t: u32, thread: &Thread, value: Option<Value>) -> Option<Change>
     ensures { result ≡ spec.returns points.now t thread.now value }
 {

@@ -44,7 +44,8 @@ fn index_after(types: &TypeTable, own: u64, ty: TypeId, step: CellStep) -> Optio
     }
 }
 
-/// The last step of a path that leads to an element after which another one stands: its place, and the step to that one.
+/// The last step of a path that leads to an element after which another one stands: its
+/// place, and the step to that one.
 fn last_turn(types: &TypeTable, object: &Object, steps: &[CellStep]) -> Option<(usize, CellStep)>
     ensures value { spec.next_path types.now object.now.length steps.now object.now.ty ≡
         spec.path_counted steps.now result }

@@ -109,7 +109,8 @@ pub(crate) fn releases_by(
     Ok(change)
 }
 
-/// Wakes threads that wait on a condition variable: any may wake at any time, so nothing changes (POSIX pthread_cond_signal).
+/// Wakes threads that wait on a condition variable: any may wake at any time, so nothing changes
+/// (POSIX pthread_cond_signal).
 pub(crate) fn signals(
     points: &Points,
     state: &State,

@@ -24,7 +24,8 @@ fn thread_in(value: Option<&Value>) -> Option<u32>
     }
 }
 
-/// Begins a thread; or fails with 11 by the word, and goes on past the step that stores its id (POSIX pthread_create).
+/// Begins a thread; or fails with 11 by the word, and goes on past the step that stores
+/// its id (POSIX pthread_create).
 fn begins(
     alloc: Global,
     points: &Points,

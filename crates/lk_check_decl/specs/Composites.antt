@@ -14,7 +14,8 @@ abbrev pub array_tree : Table → ArrayParts → Ty
 array_tree table parts = Array (meaning table parts.element) parts.size
 
 abbrev pub function_tree : Table → FunctionParts → Ty
-function_tree table parts = Function (meaning table parts.result) (types_of (map (meaning table) parts.params)) parts.dots
+function_tree table parts =
+    Function (meaning table parts.result) (types_of (map (meaning table) parts.params)) parts.dots
 
 -- a pointer to this type
 pub record PointsTo (table : Table) (t target : ℕ) : Type 0 where
@@ -41,7 +42,8 @@ pub record Stands (table : Table) (tree : Ty) (t : ℕ) : Type 0 where
 -- numbers for the composites of two lists of types, one by one
 pub data StandEach (old new : Table) : List ℕ → List ℕ → List ℕ → Type 0 where
   none : StandEach old new [] [] []
-  more : {p q t : ℕ} {ps qs ts : List ℕ} → Stands new (composite (meaning old p) (meaning old q)) t → StandEach old new ps qs ts → StandEach old new (p ∷ ps) (q ∷ qs) (t ∷ ts)
+  more : {p q t : ℕ} {ps qs ts : List ℕ} → Stands new (composite (meaning old p) (meaning old q)) t →
+      StandEach old new ps qs ts → StandEach old new (p ∷ ps) (q ∷ qs) (t ∷ ts)
 
 -- the table has more types, all of few elements, and the same members
 pub record AddsTypes (old new : Table) : Type 0 where

@@ -12,11 +12,13 @@ use Rattle.lk_check_decl.specs.declared.completing.ArrayParts.{ArrayParts}
 
 -- an array without a size has elements of this type; anything else is left as it is by an initialiser
 abbrev pub IsUnsized : Table → Ty → Option ℕ → Type 0
-IsUnsized table tree element = MatchOption element ((init : Init) → completed_by init tree ≡ tree) (λ u. tree ≡ Array (meaning table u) 0)
+IsUnsized table tree element =
+    MatchOption element ((init : Init) → completed_by init tree ≡ tree) (λ u. tree ≡ Array (meaning table u) 0)
 
 -- the size that an initialiser gives to an array of such elements
 abbrev pub GivesSize : Init → Ty → ℕ → Type 0
-GivesSize init tree size = (element : Ty) (n : ℕ) → tree ≡ Array element n → size_of_init element (out-Init init) ≡ size
+GivesSize init tree size = (element : Ty) (n : ℕ) → tree ≡ Array element n →
+    size_of_init element (out-Init init) ≡ size
 
 -- the elements of an array as a tree, and how many there are
 abbrev pub elements_in : Table → ArrayParts → Ty × ℕ

@@ -22,7 +22,9 @@ pub record IsSeen (table : Table) (seen : Seen) (x : spec.Seen) : Type 0 where
   pub constant : seen.is_constant ≡ x.is_constant
 
 abbrev pub object_in : Table → Target → spec.Object
-object_in table target = record { type = meaning table target.ty; is_inner = target.is_inner; is_static = target.is_static }
+object_in table target =
+    record { type = meaning table target.ty; is_inner = target.is_inner; is_static = target.is_static }
 
 abbrev pub braces_of : Braces → spec.Braces
-braces_of braces = record { entries = braces.entries; has_designator = braces.has_designator; text = braces.text }
+braces_of braces =
+    record { entries = braces.entries; has_designator = braces.has_designator; text = braces.text }

@@ -10,7 +10,8 @@ use Rattle.lk_typed.specs.Meaning.{meaning}
 use Rattle.lk_typed.specs.Ty.{Ty, Pointer, Function, types_of}
 
 abbrev pub function_tree : Table → ℕ → List ℕ → Bool → Ty
-function_tree table returned params dots = Function (meaning table returned) (types_of (map (meaning table) params)) dots
+function_tree table returned params dots =
+    Function (meaning table returned) (types_of (map (meaning table) params)) dots
 
 -- the types of the members of each struct, as the table has them
 abbrev pub AreFields : Table → (ℕ → List Ty) → Type 0
@@ -44,4 +45,5 @@ IsDerived (forms.Opaque n) = ⊥
 
 -- a parameter's type is adjusted to a pointer to this type, or stays as it is
 abbrev pub IsAdjusted : Table → Ty → Option ℕ → Type 0
-IsAdjusted table tree target = MatchOption target (adjusted tree ≡ tree) (λ u. adjusted tree ≡ Pointer (meaning table u))
+IsAdjusted table tree target =
+    MatchOption target (adjusted tree ≡ tree) (λ u. adjusted tree ≡ Pointer (meaning table u))

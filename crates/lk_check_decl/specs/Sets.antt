@@ -1,4 +1,5 @@
--- What a set keeps that stands beside a list, and by which it is known at once whether something is in the list.
+-- What a set keeps that stands beside a list, and by which it is known at once
+-- whether something is in the list.
 use Rattle.std.specs.Prelude.{◌≡◌, Bool, List}
 use Rattle.std.specs.List.{list_any}
 

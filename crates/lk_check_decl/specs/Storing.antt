@@ -9,7 +9,8 @@ use Rattle.lk_check_decl.specs.Making.{AreFields}
 
 -- whether a type is over one of the bounds of a table
 abbrev pub IsOver : Table → Ty → Bool → Type 0
-IsOver table tree over = (fields : ℕ → List Ty) → AreFields table fields → is_over (size_of fields tree) ≡ over
+IsOver table tree over = (fields : ℕ → List Ty) → AreFields table fields →
+    is_over (size_of fields tree) ≡ over
 
 -- the type stands in the table, or is over one of the table's bounds
 abbrev pub IsStored : Table → Table → Ty → Option ℕ → Type 0

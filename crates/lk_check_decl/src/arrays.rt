@@ -101,8 +101,8 @@ fn count_of(value: i128) -> Option<u64>
     }
 }
 
-/// Whether a size is a constant in range, and with the arrays inside not too many elements; it is missing only where that
-/// is admitted.
+/// Whether a size is a constant in range, and with the arrays inside not too many elements; it is missing
+/// only where that is admitted.
 fn has_size(
     types: &TypeTable,
     may_be_absent: bool,
@@ -145,9 +145,9 @@ fn sized_code(
     lesser(incomplete, variable)
 }
 
-/// The code of an array: 25 where its elements are of no complete type (C99 6.7.5.2, 1), 31 where its size is no constant
-/// in range, or makes with the arrays inside too many elements, or is missing though it may not be. `is_complete` says of the
-/// elements whether their type is complete where the declarator begins.
+/// The code of an array: 25 where its elements are of no complete type (C99 6.7.5.2, 1), 31 where its size is
+/// no constant in range, or makes with the arrays inside too many elements, or is missing though it may not
+/// be. `is_complete` says of the elements whether their type is complete where the declarator begins.
 pub fn array_code(
     types: &TypeTable,
     may_be_absent: bool,
@@ -171,7 +171,8 @@ pub fn array_code(
     }
 }
 
-/// How many elements an array has by its size: 0 where none is written, nothing where it is no constant in range.
+/// How many elements an array has by its size: 0 where none is written, nothing
+/// where it is no constant in range.
 pub fn array_count(size: ArraySize) -> Option<u64>
     ensures { is_in_range size ≡ true → (t : Ty) →
         option_map (Array t) result ≡ spec.array_type (size_of size) t }

@@ -8,8 +8,8 @@ use lk_base::NoMemory;
 use std::alloc::Global;
 use std::marker::Model;
 
-/// The values of the cases of a `switch` so far, in the order of the text. Whether a value is among them is found in
-/// constant time.
+/// The values of the cases of a `switch` so far, in the order of the text. Whether a value is among
+/// them is found in constant time.
 ///
 /// A contract sees them as a list, with nothing for a case of which no value is known.
 #[derive(Drop)]

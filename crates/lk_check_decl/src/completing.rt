@@ -67,8 +67,8 @@ fn unsized_element(types: &TypeTable, t: TypeId) -> Option<TypeId>
     }
 }
 
-/// The type of arrays of so many elements; nothing exactly where they are more than an array may have, or the type is over one
-/// of the bounds of a table.
+/// The type of arrays of so many elements; nothing exactly where they are more than an array may have, or the
+/// type is over one of the bounds of a table.
 fn sized(types: &mut TypeTable, element: TypeId, size: u64) -> Result<Option<TypeId>, NoMemory>
     requires { IsPartOfObjects types.old element }
     ensures ok { IfOk result (IsSizedBy types.old types.new (meaning types.old element) size) }
@@ -84,8 +84,8 @@ fn sized(types: &mut TypeTable, element: TypeId, size: u64) -> Result<Option<Typ
     Ok(made)
 }
 
-/// The code of the size of an object with an initialiser, where that gives an array such a size: 31 where it has more
-/// elements than an array may have. It stands at the declared name.
+/// The code of the size of an object with an initialiser, where that gives an array such a size: 31 where it
+/// has more elements than an array may have. It stands at the declared name.
 pub fn given_code(types: &TypeTable, t: TypeId, size: u64) -> Option<Code>
     requires { IsKnown types.now t }
     ensures { (init : Init) → GivesSize init (meaning types.now t) size →
@@ -98,8 +98,8 @@ pub fn given_code(types: &TypeTable, t: TypeId, size: u64) -> Option<Code>
     unless(is_few, Code::VariableArray)
 }
 
-/// The type of an object with the size that its initialiser gives, where it is an array without one; nothing exactly where
-/// `given_code` has a code.
+/// The type of an object with the size that its initialiser gives, where it is an array without one; nothing
+/// exactly where `given_code` has a code.
 pub fn completed(types: &mut TypeTable, t: TypeId, size: u64) -> Result<Option<TypeId>, NoMemory>
     requires { IsKnown types.old t }
     ensures means { IfOk result (λ made. (init : Init) → GivesSize init (meaning types.old t) size →

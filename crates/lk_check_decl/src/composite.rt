@@ -155,7 +155,8 @@ fn of_pointers(
     requires equal { is_redeclarable (meaning types.old t) (meaning types.old old) ≡ true }
     requires few { HasFewElements types.old }
     requires points { PointsTo types.old t target }
-    ensures made { IfOk result (Stands types.new (spec.composite (meaning types.old t) (meaning types.old old))) }
+    ensures made { IfOk result
+        (Stands types.new (spec.composite (meaning types.old t) (meaning types.old old))) }
     ensures adds { OnOk result (AddsTypes types.old types.new) }
 {
     types.is_table();
@@ -185,7 +186,8 @@ fn of_arrays(
     requires equal { is_redeclarable (meaning types.old t) (meaning types.old old) ≡ true }
     requires few { HasFewElements types.old }
     requires parts { IsArrayOf types.old t parts }
-    ensures made { IfOk result (Stands types.new (spec.composite (meaning types.old t) (meaning types.old old))) }
+    ensures made { IfOk result
+        (Stands types.new (spec.composite (meaning types.old t) (meaning types.old old))) }
     ensures adds { OnOk result (AddsTypes types.old types.new) }
 {
     types.is_table();
@@ -215,7 +217,8 @@ fn of_functions(
     requires equal { is_redeclarable (meaning types.old t) (meaning types.old old) ≡ true }
     requires few { HasFewElements types.old }
     requires parts { IsFunctionOf types.old t parts.now }
-    ensures made { IfOk result (Stands types.new (spec.composite (meaning types.old t) (meaning types.old old))) }
+    ensures made { IfOk result
+        (Stands types.new (spec.composite (meaning types.old t) (meaning types.old old))) }
     ensures adds { OnOk result (AddsTypes types.old types.new) }
 {
     types.is_table();

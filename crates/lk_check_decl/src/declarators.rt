@@ -68,8 +68,8 @@ fn returned_code(types: &TypeTable, t: TypeId) -> Option<Code>
     }
 }
 
-/// The code of `declarator(parameters)`: 22 where it returns a function or an array (C99 6.7.5.3, 1), 41 where it returns a
-/// struct, 45 where it returns a mutex or a condition variable.
+/// The code of `declarator(parameters)`: 22 where it returns a function or an array (C99 6.7.5.3, 1), 41
+/// where it returns a struct, 45 where it returns a mutex or a condition variable.
 pub fn function_code(types: &TypeTable, returned: Option<TypeId>) -> Option<Code>
     requires { IfSome returned (IsKnown types.now) }
     ensures { result ≡ told (spec.function_rules (option_map (meaning types.now) returned)) }
@@ -98,9 +98,9 @@ fn passed_code(types: &TypeTable, is_named: bool, t: TypeId) -> Option<Code>
     }
 }
 
-/// The code of a parameter by its type as it is written: 40 of a function with `...`, 41 of a struct, 45 of a mutex or a
-/// condition variable, and 25 of `void` where it has no name; with a name 25 stands at that. `(void)` alone breaks no rule
-/// (C99 6.7.5.3, 10).
+/// The code of a parameter by its type as it is written: 40 of a function with `...`, 41 of a struct, 45 of a
+/// mutex or a condition variable, and 25 of `void` where it has no name; with a name 25 stands at that.
+/// `(void)` alone breaks no rule (C99 6.7.5.3, 10).
 pub fn parameter_code(
     types: &TypeTable,
     is_named: bool,

@@ -18,8 +18,8 @@ fn in_int(value: i128) -> Option<i32>
     }
 }
 
-/// The value of an enumerator that is written as an expression, by what that is as an integer constant expression; nothing
-/// where a fault stands in it, or code 24 holds at the enumerator.
+/// The value of an enumerator that is written as an expression, by what that is as an integer constant
+/// expression; nothing where a fault stands in it, or code 24 holds at the enumerator.
 pub fn written_value(value: Option<Constant>) -> Option<i32>
     ensures { result ≡ written_value value }
 {
@@ -40,8 +40,8 @@ pub fn written_code(value: Option<Constant>) -> Option<Code>
     }
 }
 
-/// The value of an enumerator without an expression: one more than the one before it, where that has one. Before the first
-/// enumerator stands -1 (C99 6.7.2.2, 3).
+/// The value of an enumerator without an expression: one more than the one before it, where that has one.
+/// Before the first enumerator stands -1 (C99 6.7.2.2, 3).
 pub fn next_value(before: Option<i32>) -> Option<i32>
     ensures { result ≡ next_value before }
 {

@@ -1,5 +1,5 @@
-//! The rules of initialisers (C99 6.7.8). Each inner struct and each inner array has braces of its own, or is an array that
-//! a text initialises; so an entry of a list initialises one element or one member, in order.
+//! The rules of initialisers (C99 6.7.8). Each inner struct and each inner array has braces of its own, or is
+//! an array that a text initialises; so an entry of a list initialises one element or one member, in order.
 ghost use Rattle.std.specs.Prelude.{◌≡◌, ◌||◌, ◌∷◌, [], not, All, Some, IfSome, map, length, slice_get, if◌then◌else◌};
 ghost use Rattle.lk_base.specs.declared.code.Code.TheVariants.{BadInitialiser, NotConstant};
 ghost use Rattle.std.specs.Option.{option_map};
@@ -120,8 +120,8 @@ fn struct_code(types: &TypeTable, target: &Target, seen: &Seen) -> Option<Code>
     }
 }
 
-/// The code of an expression that initialises an array: a text fits into an array of characters, where its zero may be left
-/// out (C99 6.7.8, 14); an array without a size has room.
+/// The code of an expression that initialises an array: a text fits into an array of characters, where its
+/// zero may be left out (C99 6.7.8, 14); an array without a size has room.
 fn text_code(
     types: &TypeTable,
     target: &Target,
@@ -160,8 +160,8 @@ fn is_word_of(types: &TypeTable, lock: TypeId, word: Option<TypeId>) -> bool
     }
 }
 
-/// The code of an expression that initialises a mutex or a condition variable: 45 unless it is the word for its type (POSIX,
-/// `pthread_mutex_init`).
+/// The code of an expression that initialises a mutex or a condition variable: 45 unless it is the word for
+/// its type (POSIX, `pthread_mutex_init`).
 fn lock_code(types: &TypeTable, target: &Target, seen: &Seen) -> Option<Code>
     requires target { IsKnown types.now target.now.ty }
     requires seen { IsKnownSeen types.now seen.now }
@@ -183,8 +183,8 @@ fn constant_code(target: &Target, seen: &Seen) -> Option<Code>
     }
 }
 
-/// The code of an expression that initialises an object which holds a value: that of the conversion (C99 6.7.8, 11), and 24
-/// of a static object where it isn't constant (6.7.8, 4).
+/// The code of an expression that initialises an object which holds a value: that of the conversion
+/// (C99 6.7.8, 11), and 24 of a static object where it isn't constant (6.7.8, 4).
 fn scalar_code(target: &Target, seen: &Seen) -> Option<Code>
     ensures { (table : Table) (x : spec.Seen) → IsSeen table seen.now x →
         result ≡ told (spec.scalar_rules (object_in table target.now) x) }
@@ -217,8 +217,8 @@ fn is_text(types: &TypeTable, element: TypeId, text: Option<u32>) -> bool
     text.is_some() && is_character_type(types, element)
 }
 
-/// Whether a list that is a text alone initialises an object of this type, as the text would without the braces
-/// (C99 6.7.8, 14).
+/// Whether a list that is a text alone initialises an object of this type, as the text would
+/// without the braces (C99 6.7.8, 14).
 pub fn is_text_for(types: &TypeTable, t: TypeId, text: Option<u32>) -> bool
     requires { IsKnown types.now t }
     ensures { result ≡ spec.is_text_for (meaning types.now t) text }
@@ -260,8 +260,8 @@ fn field_count(structs: &[Members], s: u32) -> usize
     fields_of(structs, s).len()
 }
 
-/// The code of so many entries: 27 where they are more than what is initialised has parts (C99 6.7.8, 2). An array without a
-/// size has as many as its list.
+/// The code of so many entries: 27 where they are more than what is initialised has parts (C99 6.7.8, 2). An
+/// array without a size has as many as its list.
 fn count_code(entries: u32, count: u64) -> Option<Code>
     ensures { result ≡ told (spec.count_rules entries count) }
 {
@@ -271,8 +271,8 @@ fn count_code(entries: u32, count: u64) -> Option<Code>
     )
 }
 
-/// The code of a list in braces by what it initialises: 27 round a scalar, a mutex or a condition variable, or where it has
-/// too many entries.
+/// The code of a list in braces by what it initialises: 27 round a scalar, a mutex or a condition variable,
+/// or where it has too many entries.
 fn listed_code(types: &TypeTable, structs: &[Members], braces: Braces, t: TypeId) -> Option<Code>
     requires { IsKnown types.now t }
     ensures { (env : Env) → env.structs ≡ structs_in types.now structs.now → result
@@ -294,8 +294,8 @@ fn listed_code(types: &TypeTable, structs: &[Members], braces: Braces, t: TypeId
     }
 }
 
-/// The code of a list in braces: 27 where an entry has a designator, where it stands round a scalar, a mutex or a condition
-/// variable, or where it has too many entries.
+/// The code of a list in braces: 27 where an entry has a designator, where it stands round a scalar, a mutex
+/// or a condition variable, or where it has too many entries.
 pub fn list_code(
     types: &TypeTable,
     structs: &[Members],
@@ -327,8 +327,8 @@ fn field_type(structs: &[Members], s: u32, number: u32) -> Option<TypeId>
     }
 }
 
-/// The type of what the entry with this number, from 0 on, of a list round an object initialises, where there is something:
-/// the element, or the member.
+/// The type of what the entry with this number, from 0 on, of a list round an object initialises, where there
+/// is something: the element, or the member.
 pub fn entry_type(types: &TypeTable, structs: &[Members], t: TypeId, number: u32) -> Option<TypeId>
     requires { IsKnown types.now t }
     ensures value { (env : Env) → env.structs ≡ structs_in types.now structs.now →
@@ -356,8 +356,8 @@ pub fn entry_type(types: &TypeTable, structs: &[Members], t: TypeId, number: u32
     }
 }
 
-/// What the entry with this number, from 0 on, of a list round an object initialises, where there is something: a text that
-/// is all of the list the array itself, where it may, else the element or member.
+/// What the entry with this number, from 0 on, of a list round an object initialises, where there is
+/// something: a text that is all of the list the array itself, where it may, else the element or member.
 pub fn entry_target(
     types: &TypeTable,
     structs: &[Members],
@@ -407,7 +407,8 @@ pub fn list_size(types: &TypeTable, element: TypeId, braces: Braces) -> u64
     }
 }
 
-/// The code of a size that an initialiser gives: 31 where it is more than an array may have. It stands at the declared name.
+/// The code of a size that an initialiser gives: 31 where it is more than an array may have. It
+/// stands at the declared name.
 #[tactic(auto, unfolding(lk_typed::specs::DeclaratorRules::most_elements))]
 pub fn size_code(size: u64) -> Option<Code>
     ensures { result ≡ told (spec.given_rules size) }

@@ -1,8 +1,10 @@
-//! The checker of types and faults, its layer of declarations and statements: the rules of specifiers, declarators, members,
-//! enumerators, declared names, initialisers and statements over values (C99 6.7, 6.8, 6.9).
+//! The checker of types and faults, its layer of declarations and statements: the rules of
+//! specifiers, declarators, members, enumerators, declared names, initialisers and statements
+//! over values (C99 6.7, 6.8, 6.9).
 //!
-//! A rule takes the table of types, what is known of the structs, and types by their numbers, a type missing where
-//! something that it needs is faulty. It answers the least code of those that hold, or the type that is made.
+//! A rule takes the table of types, what is known of the structs, and types by their numbers, a
+//! type missing where something that it needs is faulty. It answers the least code of those that
+//! hold, or the type that is made.
 #![tactic(auto)]
 
 mod arrays;

@@ -1,4 +1,5 @@
-//! Types that declarators make (C99 6.7.5). A type over one of the bounds of the language isn't made: code 32 holds there.
+//! Types that declarators make (C99 6.7.5). A type over one of the bounds of the language
+//! isn't made: code 32 holds there.
 ghost use Rattle.std.specs.Prelude.{◌≡◌, ◌∷◌, ◌*◌, ◌<◌, ◌^◌, All, OnErr, IfOk, IfSome};
 ghost use Rattle.lk_types.specs.Building.{IsForm, IsLonger, IsPartOfObjects, IsPassed};
 ghost use Rattle.lk_types.specs.Table.{IsKnown};
@@ -43,8 +44,8 @@ pub fn pointer_to(types: &mut TypeTable, target: TypeId) -> Result<Option<TypeId
     made(types, CType::Pointer(target))
 }
 
-/// The type of arrays of so many elements, 0 where no size is known; or nothing exactly where it is over one of the bounds of
-/// the language.
+/// The type of arrays of so many elements, 0 where no size is known; or nothing exactly where it is over one
+/// of the bounds of the language.
 pub fn array_of(
     types: &mut TypeTable,
     element: TypeId,
@@ -61,8 +62,8 @@ pub fn array_of(
     made(types, CType::Array(element, count))
 }
 
-/// The type of functions with this result and these parameters, or nothing exactly where it is over one of the bounds of the
-/// language.
+/// The type of functions with this result and these parameters, or nothing exactly where it is over one
+/// of the bounds of the language.
 pub fn function_of(
     types: &mut TypeTable,
     returned: TypeId,
@@ -118,8 +119,8 @@ fn bounded(types: &TypeTable, t: TypeId) -> Option<TypeId>
     Some(t)
 }
 
-/// The type of a parameter, which is a pointer where it is written as an array or a function (C99 6.7.5.3, 7 and 8); or
-/// nothing exactly where that is over one of the bounds of the language.
+/// The type of a parameter, which is a pointer where it is written as an array or a function (C99 6.7.5.3, 7
+/// and 8); or nothing exactly where that is over one of the bounds of the language.
 pub fn adjusted(types: &mut TypeTable, t: TypeId) -> Result<Option<TypeId>, NoMemory>
     requires { IsKnown types.old t }
     ensures ok { IfOk result (IsMade types.old types.new (adjusted (meaning types.old t))) }

@@ -1,5 +1,5 @@
-//! The rules of a declared name besides code 21: what may be given to it, where its type must be complete, and `main`
-//! (C99 5.1.2.2.1, 6.7, 6.7.1, 6.7.8, 6.9.2).
+//! The rules of a declared name besides code 21: what may be given to it, where its type must be complete,
+//! and `main` (C99 5.1.2.2.1, 6.7, 6.7.1, 6.7.8, 6.9.2).
 ghost use Rattle.std.specs.Prelude.{◌≡◌, All, IfSome, map, if◌then◌else◌};
 ghost use Rattle.std.specs.Option.{option_map};
 ghost use Rattle.lk_types.specs.Table.{IsKnown};
@@ -44,8 +44,8 @@ fn is_array_type(types: &TypeTable, t: TypeId) -> bool
     matches!(form(types, t), CType::Array(_, _))
 }
 
-/// Whether what gives a name its value may stand there: no initialiser on a typedef, on a function, or on an `extern` in a
-/// block (C99 6.7.8, 3 and 5).
+/// Whether what gives a name its value may stand there: no initialiser on a typedef, on a function, or on an
+/// `extern` in a block (C99 6.7.8, 3 and 5).
 fn may_be_given(types: &TypeTable, words: &[Storage], name: &NameUse) -> bool
     requires { IsKnown types.now name.now.ty }
     ensures { result ≡ spec.may_be_given (scope_of name.now.scope) words.now
@@ -163,8 +163,8 @@ fn is_main_type(types: &TypeTable, t: TypeId) -> bool
     }
 }
 
-/// Whether a name with this linkage may have its type if it is `main`: where it is a function of external linkage, it has one
-/// of its two types (C99 5.1.2.2.1, 1).
+/// Whether a name with this linkage may have its type if it is `main`: where it is a function of external
+/// linkage, it has one of its two types (C99 5.1.2.2.1, 1).
 fn may_be_main(types: &TypeTable, name: &Name, linkage: Linkage, t: TypeId) -> bool
     requires ready { IsReady types.now }
     requires known { IsKnown types.now t }
@@ -179,8 +179,8 @@ fn may_be_main(types: &TypeTable, name: &Name, linkage: Linkage, t: TypeId) -> b
     }
 }
 
-/// Whether an object wants a complete type where it is declared (C99 6.7, 7), with an initialiser behind `extern` too
-/// (6.9.2, 1).
+/// Whether an object wants a complete type where it is declared (C99 6.7, 7), with an initialiser
+/// behind `extern` too (6.9.2, 1).
 fn wants_type(types: &TypeTable, words: &[Storage], t: TypeId, given: Given) -> bool
     requires { IsKnown types.now t }
     ensures { result ≡ spec.wants_type words.now (meaning types.now t) (given_of given) }
@@ -192,8 +192,9 @@ fn wants_type(types: &TypeTable, words: &[Storage], t: TypeId, given: Given) -> 
     }
 }
 
-/// Whether the type of an object may be completed as late as at the end of the source: a tentative definition of external
-/// linkage may have a struct that is completed later (C99 6.9.2, 2 and 3). Else it is to be complete where it is declared.
+/// Whether the type of an object may be completed as late as at the end of the source: a tentative definition
+/// of external linkage may have a struct that is completed later (C99 6.9.2, 2 and 3). Else it is to be
+/// complete where it is declared.
 pub fn waits_for_end(scope: Scope, words: &[Storage], given: Given) -> bool
     ensures { (env at_end : Env) → spec.env_for env at_end (scope_of scope) words.now (given_of given)
         ≡ if result then at_end else env }
@@ -233,8 +234,9 @@ pub fn use_code(
     unless(may_stand, Code::Mismatch)
 }
 
-/// The code of an object that is declared: 25 where its type isn't complete, though its storage is here. `structs` are those
-/// at the end of the source where `waits_for_end` says so, else those where the name is declared.
+/// The code of an object that is declared: 25 where its type isn't complete, though its storage
+/// is here. `structs` are those at the end of the source where `waits_for_end` says so, else
+/// those where the name is declared.
 pub fn object_code(
     types: &TypeTable,
     structs: &[Members],
@@ -251,7 +253,8 @@ pub fn object_code(
     unless(is_fit, Code::Incomplete)
 }
 
-/// The code of a declared name besides 21: the lesser of `use_code` and `object_code`. `structs` are those of `object_code`.
+/// The code of a declared name besides 21: the lesser of `use_code` and `object_code`.
+/// `structs` are those of `object_code`.
 pub fn named_code(
     types: &TypeTable,
     structs: &[Members],

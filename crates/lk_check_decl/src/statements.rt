@@ -1,5 +1,5 @@
-//! The rules of statements over the types of their expressions (C99 6.8). A type is missing where an expression has none;
-//! then its statement breaks no rule. Types are those of values, as `value` gives them.
+//! The rules of statements over the types of their expressions (C99 6.8). A type is missing where an
+//! expression has none; then its statement breaks no rule. Types are those of values, as `value` gives them.
 ghost use Rattle.std.specs.Prelude.{◌≡◌, IfSome, List};
 ghost use Rattle.std.specs.Option.{option_map};
 ghost use Rattle.lk_types.specs.Table.{IsKnown};
@@ -13,8 +13,8 @@ use lk_base::Code;
 use lk_typed::{ExprType, is_integer, is_lock, is_pointer, is_void};
 use lk_types::{TypeId, TypeTable};
 
-/// The code of a controlling expression: 45 of a mutex or condition variable, 22 of what is neither an integer nor a
-/// pointer (C99 6.8.4.1, 1; 6.8.5, 2).
+/// The code of a controlling expression: 45 of a mutex or condition variable, 22 of what is neither an
+/// integer nor a pointer (C99 6.8.4.1, 1; 6.8.5, 2).
 pub fn condition_code(types: &TypeTable, value: Option<ExprType>) -> Option<Code>
     requires { IfSome value (IsKnownType types.now) }
     ensures { result ≡ told (spec.condition_rules (option_map (meaning_of types.now) value)) }
@@ -34,7 +34,8 @@ pub fn condition_code(types: &TypeTable, value: Option<ExprType>) -> Option<Code
     }
 }
 
-/// The code of the value of a `switch`: 45 of a mutex or condition variable, 22 of what is no integer (C99 6.8.4.2, 1).
+/// The code of the value of a `switch`: 45 of a mutex or condition variable, 22 of what is
+/// no integer (C99 6.8.4.2, 1).
 pub fn switch_code(types: &TypeTable, value: Option<ExprType>) -> Option<Code>
     requires { IfSome value (IsKnownType types.now) }
     ensures { result ≡ told (spec.switch_rules (option_map (meaning_of types.now) value)) }
@@ -51,8 +52,8 @@ pub fn switch_code(types: &TypeTable, value: Option<ExprType>) -> Option<Code>
     }
 }
 
-/// The code of an expression whose value is dropped, as that of an expression statement (C99 6.8.3, 6.8.5.3): 45 of a mutex
-/// or condition variable.
+/// The code of an expression whose value is dropped, as that of an expression statement
+/// (C99 6.8.3, 6.8.5.3): 45 of a mutex or condition variable.
 pub fn dropped_code(types: &TypeTable, value: Option<ExprType>) -> Option<Code>
     requires { IfSome value (IsKnownType types.now) }
     ensures { result ≡ told (spec.dropped_rules (option_map (meaning_of types.now) value)) }
@@ -74,8 +75,8 @@ pub fn return_code(types: &TypeTable, returned: Option<TypeId>) -> Option<Code>
     }
 }
 
-/// The code of a `return` with a value: 22 where the function's result is `void` (C99 6.8.6.4, 1), else that of the value's
-/// conversion to it, which `convert_code` tells.
+/// The code of a `return` with a value: 22 where the function's result is `void` (C99 6.8.6.4, 1), else that
+/// of the value's conversion to it, which `convert_code` tells.
 pub fn return_value_code(
     types: &TypeTable,
     returned: Option<TypeId>,

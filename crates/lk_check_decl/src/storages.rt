@@ -73,8 +73,8 @@ pub fn has_static(words: &[Storage]) -> bool
     false
 }
 
-/// Whether these storage classes may stand there: one of `typedef`, `extern` and `static` at most (C99 6.7.1, 2), none in a
-/// type (6.7.2.1, 6.7.5.3, 2; 6.7.6), and no `typedef` on a definition (6.9.1, 4).
+/// Whether these storage classes may stand there: one of `typedef`, `extern` and `static` at most
+/// (C99 6.7.1, 2), none in a type (6.7.2.1, 6.7.5.3, 2; 6.7.6), and no `typedef` on a definition (6.9.1, 4).
 pub fn may_have(holder: Holder, words: &[Storage]) -> bool
     ensures { result ≡ spec.may_have (holder_of holder) words.now }
 {
@@ -85,8 +85,8 @@ pub fn may_have(holder: Holder, words: &[Storage]) -> bool
     }
 }
 
-/// The code of specifiers: 22 where their words and types together name no type (C99 6.7.2, 2), or where a storage class
-/// can't stand there.
+/// The code of specifiers: 22 where their words and types together name no type (C99 6.7.2, 2), or where a
+/// storage class can't stand there.
 pub fn specifier_code(holder: Holder, words: &[Storage], names_type: bool) -> Option<Code>
     ensures { (found : SpecifierTold) → found.storages ≡ words.now →
         is_some (named_type found.words found.types) ≡ names_type →
@@ -135,7 +135,8 @@ fn own_linkage(scope: Scope, is_static: bool, is_function: bool, before: Option<
     }
 }
 
-/// The linkage of a declared name (C99 6.2.2, 3 to 6). `before` is that of the declaration of the name in scope.
+/// The linkage of a declared name (C99 6.2.2, 3 to 6). `before` is that of the
+/// declaration of the name in scope.
 pub fn linkage_of(
     scope: Scope,
     words: &[Storage],
@@ -170,7 +171,8 @@ pub fn defines_of(words: &[Storage], is_function: bool, given: Given) -> Defines
     }
 }
 
-/// Whether `[]` may stand in a declarator: behind `extern`, or where an initialiser gives the size (C99 6.7.5.2, 6.7.8, 22).
+/// Whether `[]` may stand in a declarator: behind `extern`, or where an initialiser gives the
+/// size (C99 6.7.5.2, 6.7.8, 22).
 pub fn may_lack_size(words: &[Storage], has_initialiser: bool) -> bool
     ensures { (init : Option Init) → is_some init ≡ has_initialiser → result ≡ may_lack_size words.now init }
 {

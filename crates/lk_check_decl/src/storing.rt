@@ -1,5 +1,6 @@
-//! Types that a table stores, whether a declarator can make them or not: the types of addresses, composites, and arrays with
-//! the size that an initialiser gives. A table has room for larger types than declarators make.
+//! Types that a table stores, whether a declarator can make them or not: the types of addresses,
+//! composites, and arrays with the size that an initialiser gives. A table has room for larger
+//! types than declarators make.
 ghost use Rattle.std.specs.Prelude.{◌≡◌, ◌∷◌, ◌*◌, ◌<◌, ◌^◌, false, All, IfOk, OnErr};
 ghost use Rattle.lk_types.specs.Building.{IsForm, IsLonger, IsPartOfObjects, IsPassed};
 ghost use Rattle.lk_types.specs.Sizes.{form_size, is_over};
@@ -53,8 +54,8 @@ fn stored(types: &mut TypeTable, form: CType) -> Result<Option<TypeId>, NoMemory
     Ok(Some(t))
 }
 
-/// The type of pointers to a type, or nothing exactly where it is over one of the bounds of a table: it never is where the
-/// type that it points to is within the bounds of the language.
+/// The type of pointers to a type, or nothing exactly where it is over one of the bounds of a table: it never
+/// is where the type that it points to is within the bounds of the language.
 pub fn stored_pointer(types: &mut TypeTable, target: TypeId) -> Result<Option<TypeId>, NoMemory>
     requires { IsKnown types.old target }
     ensures ok { IfOk result (IsStored types.old types.new (Pointer (meaning types.old target))) }
@@ -66,8 +67,8 @@ pub fn stored_pointer(types: &mut TypeTable, target: TypeId) -> Result<Option<Ty
     stored(types, CType::Pointer(target))
 }
 
-/// The type of arrays of so many elements, 0 where no size is known; or nothing exactly where it is over one of the bounds of
-/// a table.
+/// The type of arrays of so many elements, 0 where no size is known; or nothing exactly where it is over
+/// one of the bounds of a table.
 pub(crate) fn stored_array(
     types: &mut TypeTable,
     element: TypeId,
@@ -84,8 +85,8 @@ pub(crate) fn stored_array(
     stored(types, CType::Array(element, count))
 }
 
-/// The type of functions with this result and these parameters, or nothing exactly where it is over one of the bounds of a
-/// table.
+/// The type of functions with this result and these parameters, or nothing exactly where it is over
+/// one of the bounds of a table.
 pub(crate) fn stored_function(
     types: &mut TypeTable,
     returned: TypeId,

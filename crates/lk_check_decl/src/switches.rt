@@ -17,7 +17,8 @@ use lk_typed::{Constant, lesser};
 pub struct Switch {
     /// The kind of its value, where that is an integer.
     pub kind: Option<Kind>,
-    /// The values of its cases so far, converted to its promoted type; nothing for one of which none is known.
+    /// The values of its cases so far, converted to its promoted type; nothing
+    /// for one of which none is known.
     pub values: CaseValues,
     /// Whether it has a `default` already.
     pub has_default: bool,
@@ -38,8 +39,8 @@ pub fn continue_code(in_loop: bool) -> Option<Code>
     unless(in_loop, Code::BadLabel)
 }
 
-/// The value of a case: converted to the promoted type of its `switch` (C99 6.8.4.2, 5), where that has an integer kind and
-/// the value is known.
+/// The value of a case: converted to the promoted type of its `switch` (C99 6.8.4.2, 5), where that has an
+/// integer kind and the value is known.
 pub fn case_value(kind: Option<Kind>, value: Option<Constant>) -> Option<i128>
     ensures { result ≡ spec.case_value kind value }
 {
@@ -52,8 +53,8 @@ pub fn case_value(kind: Option<Kind>, value: Option<Constant>) -> Option<i128>
     }
 }
 
-/// The code of a case by the `switch` round it: 26 where there is none, or where an earlier case has its value (C99 6.8.1, 2;
-/// 6.8.4.2, 3).
+/// The code of a case by the `switch` round it: 26 where there is none, or where an earlier case has its
+/// value (C99 6.8.1, 2; 6.8.4.2, 3).
 fn place_code(switch: Option<&Switch>, value: Option<Constant>) -> Option<Code>
     ensures { result ≡ told (spec.place_rules (option_map switch_of (option_copied switch.entry)) value) }
 {
@@ -76,8 +77,8 @@ fn constant_code(value: Option<Constant>) -> Option<Code>
     }
 }
 
-/// The code of `case value:`: 24 where its value isn't constant; 26 outside a `switch`, or where an earlier case of it has its
-/// value. `switch` is the innermost one round it, as far as it stands before the case.
+/// The code of `case value:`: 24 where its value isn't constant; 26 outside a `switch`, or where an earlier
+/// case of it has its value. `switch` is the innermost one round it, as far as it stands before the case.
 pub fn case_code(switch: Option<&Switch>, value: Option<Constant>) -> Option<Code>
     ensures { (around : Around) → around.switch ≡ option_map switch_of (option_copied switch.entry) →
         result ≡ told (spec.case_rules around value) }
@@ -87,7 +88,8 @@ pub fn case_code(switch: Option<&Switch>, value: Option<Constant>) -> Option<Cod
     lesser(constant, place)
 }
 
-/// The code of `default:`: 26 outside a `switch`, or where that has an earlier one (C99 6.8.1, 2; 6.8.4.2, 3).
+/// The code of `default:`: 26 outside a `switch`, or where that has an earlier
+/// one (C99 6.8.1, 2; 6.8.4.2, 3).
 pub fn default_code(switch: Option<&Switch>) -> Option<Code>
     ensures { (around : Around) → around.switch ≡ option_map switch_of (option_copied switch.entry) →
         result ≡ told (spec.default_rules around) }

@@ -87,7 +87,8 @@ fn text_alone(entries: &[Entry]) -> Result<Option<u32>, NoMemory>
     }
 }
 
-/// A list in braces. `NoMemory` where its entries, or the bytes of the text that is all of it, are more than a `u32` counts.
+/// A list in braces. `NoMemory` where its entries, or the bytes of the text that is all of it,
+/// are more than a `u32` counts.
 pub fn braces_of(list: &InitList) -> Result<Braces, NoMemory>
     ensures { IfOk result (λ braces. spec_braces braces ≡ spec.braces_of (out-InitList list.now).entries) }
 {

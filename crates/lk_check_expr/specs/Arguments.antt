@@ -28,9 +28,11 @@ pub record IsArgument (table : Table) (env : Env) (a : Argument) (x : spec.Argum
   pub typing : IsTyping table a.typing x.typing
   pub look : IsLook env a.look x.look
 
-pub record AreArguments (table : Table) (env : Env) (arguments : List Argument) (xs : List spec.Argument) : Type 0 where
+pub record AreArguments (table : Table) (env : Env) (arguments : List Argument)
+    (xs : List spec.Argument) : Type 0 where
   pub count : length arguments ≡ length xs
-  pub each : (i : ℕ) (a : Argument) (x : spec.Argument) → slice_get arguments i ≡ Some a → slice_get xs i ≡ Some x → IsArgument table env a x
+  pub each : (i : ℕ) (a : Argument) (x : spec.Argument) → slice_get arguments i ≡ Some a →
+      slice_get xs i ≡ Some x → IsArgument table env a x
 
 -- ---- how they are passed
 
@@ -43,7 +45,8 @@ IsPassedAt table (Some pass) (Some other) = IsPassing table pass other
 -- as the parameters of a library function are, or each converted to its type
 abbrev pub ArePassedBy : Table → Passes → List rows.Passing → Type 0
 ArePassedBy table (passes.Library parameters) ps = map parameter_in parameters.now ≡ ps
-ArePassedBy table (passes.Parameters types) ps = (map (λ t. rows.Converted (meaning table t)) types.now ≡ ps) × All (IsKnown table) types.now
+ArePassedBy table (passes.Parameters types) ps =
+    (map (λ t. rows.Converted (meaning table t)) types.now ≡ ps) × All (IsKnown table) types.now
 
 abbrev pub IsKnownPasses : Table → Passes → Type 0
 IsKnownPasses table (passes.Library parameters) = ⊤

@@ -13,4 +13,5 @@ abbrev pub type_named : List Field → Name → Option ℕ
 type_named fields name = option_map (λ field. field.ty) (latest (λ field. is_name field.name name) fields)
 
 abbrev pub other_target_code : List Members → Ty → Code
-other_target_code structs target = if is_void target || is_function target || is_complete structs target then Mismatch else Incomplete
+other_target_code structs target = if is_void target || is_function target || is_complete structs target
+    then Mismatch else Incomplete

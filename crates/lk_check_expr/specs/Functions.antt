@@ -50,7 +50,11 @@ spelling f.Sleep = codes "sleep"
 
 -- all of them
 abbrev pub functions : List LibraryFunction
-functions = f.Create ∷ f.Join ∷ f.Detach ∷ f.ExitThread ∷ f.SelfId ∷ f.Equal ∷ f.MutexInit ∷ f.MutexDestroy ∷ f.MutexLock ∷ f.MutexUnlock ∷ f.CondInit ∷ f.CondDestroy ∷ f.CondSignal ∷ f.CondBroadcast ∷ f.CondWait ∷ f.Malloc ∷ f.Calloc ∷ f.Free ∷ f.Exit ∷ f.Abort ∷ f.Puts ∷ f.Perror ∷ f.Atoi ∷ f.Printf ∷ f.Putchar ∷ f.Getchar ∷ f.Rand ∷ f.Sleep ∷ []
+functions =
+    f.Create ∷ f.Join ∷ f.Detach ∷ f.ExitThread ∷ f.SelfId ∷ f.Equal ∷ f.MutexInit ∷ f.MutexDestroy ∷
+    f.MutexLock ∷ f.MutexUnlock ∷ f.CondInit ∷ f.CondDestroy ∷ f.CondSignal ∷ f.CondBroadcast ∷ f.CondWait ∷
+    f.Malloc ∷ f.Calloc ∷ f.Free ∷ f.Exit ∷ f.Abort ∷ f.Puts ∷ f.Perror ∷ f.Atoi ∷ f.Printf ∷ f.Putchar ∷
+    f.Getchar ∷ f.Rand ∷ f.Sleep ∷ []
 
 unfoldable pub function_named : Name → Option LibraryFunction
 function_named name = find (λ function. bytes_eq (spelling function) name) functions

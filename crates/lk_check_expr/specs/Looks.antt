@@ -68,4 +68,5 @@ abbrev pub prefix_look : PrefixOperator → typing.Look → typing.Look
 prefix_look op x = record (plain_look x.holds_sizeof) { routine = routine_behind op x.routine }
 
 abbrev pub binary_look : BinaryOperator → Judged → Judged → typing.Look
-binary_look op a b = record (plain_look (a.look.holds_sizeof || b.look.holds_sizeof)) { is_product = is_product_by op a b }
+binary_look op a b =
+    record (plain_look (a.look.holds_sizeof || b.look.holds_sizeof)) { is_product = is_product_by op a b }

@@ -8,4 +8,5 @@ use Rattle.lk_typed.specs.Ty.{Ty}
 use Rattle.lk_typed.specs.Typing.{Verdict, integer, unless}
 
 abbrev pub size_of_whole : List Members → Bool → Ty → Verdict
-size_of_whole structs in_size t = unless (sizeof_codes structs in_size t) (integer ULong (constant_of_bytes (bytes_in t)))
+size_of_whole structs in_size t =
+    unless (sizeof_codes structs in_size t) (integer ULong (constant_of_bytes (bytes_in t)))

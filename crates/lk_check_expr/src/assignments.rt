@@ -156,8 +156,8 @@ fn converted_constant(kind: Kind, constant: Constant) -> Constant
     }
 }
 
-/// A value that was converted to a type of the table. An integer constant expression stays one among integers (C99 6.6, 6);
-/// cast to `void *`, one of value 0 is a null pointer constant (C99 6.3.2.3, 3).
+/// A value that was converted to a type of the table. An integer constant expression stays one among integers
+/// (C99 6.6, 6); cast to `void *`, one of value 0 is a null pointer constant (C99 6.3.2.3, 3).
 pub fn converted(types: &TypeTable, target: TypeId, v: &Typed) -> Typed
     requires ready { IsReady types.now }
     requires target { IsKnown types.now target }

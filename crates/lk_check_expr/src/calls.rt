@@ -123,7 +123,8 @@ fn routine_code(types: &TypeTable, is_routine: bool, e: &Typed) -> Option<Code>
     lesser(other, whole)
 }
 
-/// The code of an argument behind those that have a parameter: it gets the promotions, so it is a scalar (C99 6.5.2.2, 7).
+/// The code of an argument behind those that have a parameter: it gets the promotions, so it
+/// is a scalar (C99 6.5.2.2, 7).
 fn further_code(types: &TypeTable, e: &Typed) -> Option<Code>
     requires { IsOperand types.now e.now }
     ensures { ForEach types.now e.now (λ x. result ≡ least_code (further_codes x)) }
@@ -172,7 +173,8 @@ fn passed_code(types: &TypeTable, pass: Option<Passing>, dots: bool, a: &Argumen
     }
 }
 
-/// The code of the arguments: there are as many as parameters, or where `...` ends them as many at least (C99 6.5.2.2, 2).
+/// The code of the arguments: there are as many as parameters, or where `...` ends them as
+/// many at least (C99 6.5.2.2, 2).
 fn arguments_code(
     types: &TypeTable,
     passes: &Passes,
@@ -182,8 +184,10 @@ fn arguments_code(
     requires ready { IsReady types.now }
     requires passes { IsKnownPasses types.now passes.now }
     requires operands { All (λ a. IsOperand types.now a.typing) arguments.now }
-    ensures { (env : Env) (ps : List rows.Passing) (xs : List spec.Argument) → ArePassedBy types.now passes.now ps →
-        AreArguments types.now env arguments.now xs → result ≡ least_code (spec.arguments_codes env dots ps xs) }
+    ensures { (env : Env) (ps : List rows.Passing) (xs : List spec.Argument) →
+        ArePassedBy types.now passes.now ps →
+        AreArguments types.now env arguments.now xs →
+        result ≡ least_code (spec.arguments_codes env dots ps xs) }
 {
     let behind = passes.at(arguments.len());
     let missing = behind.is_some();
@@ -229,8 +233,8 @@ fn counts_bytes(types: &TypeTable, role: &Role) -> bool
     }
 }
 
-/// Whether it is written as the size of an allocation: a `sizeof`; its product with what holds none; or no `sizeof`, where the
-/// call is directly converted to a pointer to bytes.
+/// Whether it is written as the size of an allocation: a `sizeof`; its product with what holds none; or no
+/// `sizeof`, where the call is directly converted to a pointer to bytes.
 fn is_size(look: &Look, counts_bytes: bool) -> bool
     ensures { result ≡ size_by look.now counts_bytes }
 {
@@ -257,7 +261,8 @@ fn format_code(arguments: &[Argument]) -> Option<Code>
 
 /// The code of the size that `malloc` is given: 47 for another shape.
 fn size_code(counts_bytes: bool, arguments: &[Argument]) -> Option<Code>
-    ensures { (table : Table) (env : Env) (xs : List spec.Argument) → spec.counts_bytes env.role ≡ counts_bytes →
+    ensures { (table : Table) (env : Env) (xs : List spec.Argument) →
+        spec.counts_bytes env.role ≡ counts_bytes →
         AreArguments table env arguments.now xs → result ≡ least_code (spec.asked env.role rows.ASize xs) }
 {
     match argument_at(arguments, 0) {
@@ -282,7 +287,8 @@ fn element_code(arguments: &[Argument]) -> Option<Code>
 
 /// The code of what a call asks beside its arguments: 22 of a format, 47 of the size of an allocation.
 fn asked_code(asks: Asks, counts_bytes: bool, arguments: &[Argument]) -> Option<Code>
-    ensures { (table : Table) (env : Env) (xs : List spec.Argument) → spec.counts_bytes env.role ≡ counts_bytes →
+    ensures { (table : Table) (env : Env) (xs : List spec.Argument) →
+        spec.counts_bytes env.role ≡ counts_bytes →
         AreArguments table env arguments.now xs → result ≡ least_code (spec.asked env.role (asked_by asks) xs) }
 {
     match asks {
@@ -315,7 +321,8 @@ fn asks_of(called: Option<LibraryFunction>) -> Asks
     }
 }
 
-/// The code of an operand that is no pointer to a function but has to be one: 45 for a mutex or condition variable, else 22.
+/// The code of an operand that is no pointer to a function but has to be one: 45 for a mutex or
+/// condition variable, else 22.
 fn no_function_code(types: &TypeTable, ty: &ExprType) -> Code
     requires { IsKnownType types.now ty.now }
     ensures { is_function_pointer (meaning_of types.now ty.now) ≡ false →
@@ -398,14 +405,15 @@ pub fn passing(types: &TypeTable, function: &Argument, index: usize) -> Option<P
     passing_by(types, function.look.called, &f.ty, index)
 }
 
-/// A call: its function is a pointer to one, and each argument converts to its parameter; the library's functions ask more of
-/// theirs.
+/// A call: its function is a pointer to one, and each argument converts to its parameter; the library's
+/// functions ask more of theirs.
 pub fn call(types: &TypeTable, role: &Role, function: &Argument, arguments: &[Argument]) -> Verdict
     requires ready { IsReady types.now }
     requires role { IsKnownRole types.now role.now }
     requires function { IsOperand types.now function.now.typing }
     requires operands { All (λ a. IsOperand types.now a.typing) arguments.now }
-    ensures { (env : Env) (f : spec.Argument) (xs : List spec.Argument) → role_in types.now role.now ≡ env.role →
+    ensures { (env : Env) (f : spec.Argument) (xs : List spec.Argument) →
+        role_in types.now role.now ≡ env.role →
         IsArgument types.now env function.now f → AreArguments types.now env arguments.now xs →
         IsVerdict types.now result (spec.call_rule env f xs) }
 {

@@ -69,8 +69,8 @@ fn truth_of(a: Constant) -> Constant
     }
 }
 
-/// `&&` or `||`, with the truth value of the first operand that decides: then the second isn't evaluated (C99 6.5.13, 4;
-/// 6.5.14, 4).
+/// `&&` or `||`, with the truth value of the first operand that decides: then the second isn't
+/// evaluated (C99 6.5.13, 4; 6.5.14, 4).
 pub(crate) fn logical_constant(decides: bool, a: Constant, b: Constant) -> Constant
     ensures { result ≡ spec.logical_constant decides a b }
 {

@@ -1,7 +1,8 @@
-//! The rules of expressions over operands whose types are known: the first layer of the checker of types and faults.
+//! The rules of expressions over operands whose types are known: the first layer of the
+//! checker of types and faults.
 //!
-//! A rule takes the table of types, what is known of the structs, and the typings of the operands; it answers the typing of
-//! the whole, or the code that is told. A typing here keeps no address.
+//! A rule takes the table of types, what is known of the structs, and the typings of the operands; it answers
+//! the typing of the whole, or the code that is told. A typing here keeps no address.
 #![tactic(auto)]
 
 mod assignments;

@@ -1,4 +1,5 @@
-//! The functions of the library (POSIX, `pthread.h`; C99 7.19, 7.20): their names, and how each of their arguments is passed.
+//! The functions of the library (POSIX, `pthread.h`; C99 7.19, 7.20): their names, and how each
+//! of their arguments is passed.
 ghost use Rattle.std.specs.Prelude.{◌≡◌, None, map};
 ghost use Rattle.lk_typed.specs.Calls.{asks_of, passes_by};
 ghost use Rattle.lk_typed.specs.Library as spec;

@@ -69,7 +69,8 @@ fn is_anything_pointer(types: &TypeTable, t: TypeId) -> bool
 /// Whether the parameters are one of type `void *`.
 fn are_one_pointer(types: &TypeTable, params: &[TypeId]) -> bool
     requires { All (IsKnown types.now) params.now }
-    ensures { result ≡ are_equal_but nat_eq (types_of (map (meaning types.now) params.now)) (more void_pointer none) }
+    ensures { result ≡ are_equal_but nat_eq (types_of (map (meaning types.now) params.now))
+        (more void_pointer none) }
 {
     params.len() == 1 && is_anything_pointer(types, params[0])
 }

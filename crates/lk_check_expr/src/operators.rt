@@ -1,5 +1,5 @@
-//! The operators between two operands, each a row of a table (C99 6.5.5 to 6.5.14). Operands are values, as `value` gives
-//! them.
+//! The operators between two operands, each a row of a table (C99 6.5.5 to 6.5.14). Operands are
+//! values, as `value` gives them.
 ghost use Rattle.std.specs.Prelude.{◌≡◌, ◌||◌, Option};
 ghost use Rattle.lk_types.specs.Table.{Table};
 ghost use Rattle.lk_typed.specs.declared.binary_row.BinaryRow.TheVariants.{Shift};
@@ -238,8 +238,8 @@ fn any_of(first: bool, second: bool, third: bool, fourth: bool) -> bool
     first || second || third || fourth
 }
 
-/// Whether they are pointers that `==` and `!=` compare: equal types, one beside a null pointer constant, or one beside
-/// `void *`.
+/// Whether they are pointers that `==` and `!=` compare: equal types, one beside a null pointer
+/// constant, or one beside `void *`.
 fn are_comparable(types: &TypeTable, a: &Typed, b: &Typed) -> bool
     requires first { IsOperand types.now a.now }
     requires second { IsOperand types.now b.now }

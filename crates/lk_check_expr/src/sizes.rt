@@ -32,8 +32,8 @@ fn is_faulty(structs: &[Members], s: u32) -> bool
     }
 }
 
-/// Whether a type is a struct with a faulty definition, or an array of such: what needs its members or size has neither a
-/// type nor a fault.
+/// Whether a type is a struct with a faulty definition, or an array of such: what needs its members or size
+/// has neither a type nor a fault.
 pub fn is_broken(types: &TypeTable, structs: &[Members], t: TypeId) -> bool
     requires { IsKnown types.now t }
     ensures { result ≡ spec.is_broken (structs_in types.now structs.now) (meaning types.now t) }
@@ -102,8 +102,8 @@ fn constant_of(bytes: Option<u128>) -> Constant
     }
 }
 
-/// Whether `sizeof` may not count a complete type: it holds a struct, mutex or condition variable, and this is no size of an
-/// allocation.
+/// Whether `sizeof` may not count a complete type: it holds a struct, mutex or condition variable, and this
+/// is no size of an allocation.
 fn is_uncounted(types: &TypeTable, t: TypeId, in_size: bool) -> bool
     requires { IsKnown types.now t }
     ensures { result ≡ (spec.holds_struct_or_lock (meaning types.now t) && not in_size) }
@@ -130,8 +130,9 @@ fn size_of_whole(types: &TypeTable, structs: &[Members], t: TypeId, in_size: boo
     unless(code, typed)
 }
 
-/// `sizeof` of a type, or of an expression of that type; `in_size` says whether it stands in the size of an allocation. Of a
-/// complete object type it counts bytes; one that holds a struct, mutex or condition variable has a size only there.
+/// `sizeof` of a type, or of an expression of that type; `in_size` says whether it stands in the size of an
+/// allocation. Of a complete object type it counts bytes; one that holds a struct, mutex or condition
+/// variable has a size only there.
 pub fn size_of(types: &TypeTable, structs: &[Members], ty: &ExprType, in_size: bool) -> Verdict
     requires ready { IsReady types.now }
     requires few { HasFewElements types.now }

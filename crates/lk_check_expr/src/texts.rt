@@ -19,8 +19,8 @@ fn count_of(bytes: &[u8]) -> u64
     bytes.len() as u64 + 1
 }
 
-/// String literals one after another, by the bytes that they stand for together: a place of static storage, an array of `char`
-/// with a zero at its end. The table gets its type.
+/// String literals one after another, by the bytes that they stand for together: a place of static storage,
+/// an array of `char` with a zero at its end. The table gets its type.
 pub fn text(types: &mut TypeTable, bytes: &[u8]) -> Result<Verdict, NoMemory>
     requires ready { IsReady types.old }
     requires few { HasFewElements types.old }

@@ -141,7 +141,8 @@ pub(crate) fn is_library(name: &Name) -> bool
 
 /// Whether it is a function that `--externs` names and the source doesn't define.
 pub fn is_extern(name: &Name, used: &NameUse) -> bool
-    ensures { (table : Table) (env : Env) → IsUse table env name.now used.now → result ≡ spec.is_extern env name.now }
+    ensures { (table : Table) (env : Env) → IsUse table env name.now used.now →
+        result ≡ spec.is_extern env name.now }
 {
     used.is_listed && !used.is_defined && !is_library(name) && !is_main(name)
 }
@@ -195,8 +196,8 @@ fn is_unknown(types: &TypeTable, name: &Name, used: &NameUse, t: TypeId) -> bool
     is_extern(name, used) && !gives_nothing_or_integer(types, t)
 }
 
-/// The code of the name of a function: 48 for `main`; 22 for a library or extern function that isn't called; 43 for an extern
-/// function of another result.
+/// The code of the name of a function: 48 for `main`; 22 for a library or extern function that isn't
+/// called; 43 for an extern function of another result.
 fn function_code(types: &TypeTable, name: &Name, used: &NameUse, t: TypeId) -> Option<Code>
     requires { IsKnown types.now t }
     ensures { (env : Env) → IsUse types.now env name.now used.now →
@@ -214,7 +215,8 @@ fn function_code(types: &TypeTable, name: &Name, used: &NameUse, t: TypeId) -> O
 
 /// A function by its name.
 fn function_named(t: TypeId) -> Typed
-    ensures { (table : Table) (n : ℕ) → IsKnown table t → IsTyping table result (spec.function_named (meaning table t) n) }
+    ensures { (table : Table) (n : ℕ) → IsKnown table t →
+        IsTyping table result (spec.function_named (meaning table t) n) }
 {
     Typed::of_type(ExprType::Listed(t))
 }
@@ -247,8 +249,9 @@ fn undeclared_unless(refused: Option<Code>) -> Verdict
     }
 }
 
-/// A name of this meaning as an expression: an object is a place, a function isn't, an enumerator is a constant; a typedef name and an
-/// initialiser word are no expressions. Of a faulty declaration nothing is said but that a name is refused.
+/// A name of this meaning as an expression: an object is a place, a function isn't, an enumerator is a
+/// constant; a typedef name and an initialiser word are no expressions. Of a faulty declaration nothing is
+/// said but that a name is refused.
 fn use_of(types: &TypeTable, name: &Name, used: &NameUse, meaning: &Meaning) -> Verdict
     requires ready { IsReady types.now }
     requires known { IsKnownMeaning types.now meaning.now }

@@ -15,10 +15,12 @@ use Rattle.lk_check_walk.specs.Walks.{Walks}
 use Rattle.lk_check_unit.specs.Bodies.{IsPlain}
 
 abbrev pub WalksOperand : Expr → Checker → Checker → Type 0
-WalksOperand e old new = (at_end env : Env) → IsPlain old env → Walks at_end old new env (expr_adds e env) (at env (AnExpression e) ∷ [])
+WalksOperand e old new = (at_end env : Env) → IsPlain old env →
+    Walks at_end old new env (expr_adds e env) (at env (AnExpression e) ∷ [])
 
 abbrev pub IsOperandFound : Expr → Checker → Table → Option Typed → Type 0
-IsOperandFound e old table typing = (env : Env) → IsPlain old env → IsResult table typing (expression e env).typing
+IsOperandFound e old table typing =
+    (env : Env) → IsPlain old env → IsResult table typing (expression e env).typing
 
 -- the type of its value
 abbrev pub value_in : Option Typing → Option Ty

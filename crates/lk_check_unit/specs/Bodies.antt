@@ -70,9 +70,12 @@ pub record Stays (old new : Checker) (before behind : Body) : Type 0 where
 
 -- ---- expressions of statements
 
--- the optional expression is walked, and it is known whether it has a type, and the code that holds by this rule
-pub record Asks (old new : Checker) (e : Option Expr) (rule : Option Ty → List Breach) (asked : Asked) : Type 0 where
-  pub walks : (at_end env : Env) → IsPlain old env → Walks at_end old new env (added_by e env) (perhaps env AnExpression e)
+-- the optional expression is walked, and it is known whether it has a type, and the
+-- code that holds by this rule
+pub record Asks (old new : Checker) (e : Option Expr) (rule : Option Ty → List Breach)
+    (asked : Asked) : Type 0 where
+  pub walks : (at_end env : Env) → IsPlain old env →
+      Walks at_end old new env (added_by e env) (perhaps env AnExpression e)
   pub typed : (env : Env) → IsPlain old env → asked.is_typed ≡ are_typed (perhaps env AnExpression e)
   pub code : (env : Env) → IsPlain old env → asked.code ≡ told (optional_rules env rule e)
 
@@ -80,39 +83,48 @@ pub record Asks (old new : Checker) (e : Option Expr) (rule : Option Ty → List
 
 -- the codes that hold at a statement of this form
 abbrev pub form_breaches : Around → Env → ℕ → StmtForm-F BlockItem StmtForm Stmt → List Breach
-form_breaches around env n f = if are_typed (statement_parts around env f) then stmt_rules around env n f else []
+form_breaches around env n f =
+    if are_typed (statement_parts around env f) then stmt_rules around env n f else []
 
 -- ---- what is left behind
 
 -- these nodes are walked, which tell this
-pub record Passes (at_end : Env) (old new : Checker) (behind : Body) (env : Env) (around : Around) (told : StmtTold) (nodes : List Placed) : Type 0 where
+pub record Passes (at_end : Env) (old new : Checker) (behind : Body) (env : Env) (around : Around)
+    (told : StmtTold) (nodes : List Placed) : Type 0 where
   pub walks : Walks at_end old new env told.additions nodes
   pub stands : IsAround behind (around_behind around told)
 
 -- behind the parts of a form; its code isn't kept yet
-abbrev pub WalksForm : StmtForm-F BlockItem StmtForm Stmt → ℕ → Checker → Checker → Body → Body → Option Code → Type 0
-WalksForm f n old new before behind code = (at_end env : Env) (around : Around) → IsRound old before env around →
-    Passes at_end old new behind env around (told_of f n env) (statement_parts around env f) × (code ≡ told (form_breaches around env n f))
+abbrev pub WalksForm : StmtForm-F BlockItem StmtForm Stmt → ℕ → Checker → Checker → Body → Body →
+    Option Code → Type 0
+WalksForm f n old new before behind code = (at_end env : Env) (around : Around) →
+    IsRound old before env around →
+    Passes at_end old new behind env around (told_of f n env) (statement_parts around env f)
+    × (code ≡ told (form_breaches around env n f))
 
 -- behind a statement
 abbrev pub WalksStatement : Stmt → Checker → Checker → Body → Body → Type 0
-WalksStatement s old new before behind = (at_end env : Env) (around : Around) → IsRound old before env around →
+WalksStatement s old new before behind = (at_end env : Env) (around : Around) →
+    IsRound old before env around →
     Passes at_end old new behind env around (statement s env) (at env (AStatement around s) ∷ [])
 
 -- behind one in a scope of its own, where there is one
 abbrev pub WalksScoped : Option Stmt → Checker → Checker → Body → Body → Type 0
 WalksScoped s old new before behind = (at_end env : Env) (around : Around) → IsRound old before env around →
-    Passes at_end old new behind env around (scoped (or_nothing (option_map statement s)) env) (perhaps (enter env) (AStatement around) s)
+    Passes at_end old new behind env around (scoped (or_nothing (option_map statement s)) env)
+    (perhaps (enter env) (AStatement around) s)
 
 -- behind the items of a block
 abbrev pub WalksItems : List BlockItem → Checker → Checker → Body → Body → Type 0
-WalksItems items old new before behind = (at_end env : Env) (around : Around) → IsRound old before env around →
+WalksItems items old new before behind = (at_end env : Env) (around : Around) →
+    IsRound old before env around →
     Passes at_end old new behind env around (items_told items env) (items_in_turn around env items)
 
 -- behind the body of a loop
 abbrev pub WalksTurning : Stmt → Checker → Checker → Body → Body → Type 0
 WalksTurning s old new before behind = (at_end env : Env) (around : Around) → IsRound old before env around →
-    Passes at_end old new behind env around (scoped (statement s) env) (at (enter env) (AStatement (in_body_of_loop around) s) ∷ [])
+    Passes at_end old new behind env around (scoped (statement s) env)
+    (at (enter env) (AStatement (in_body_of_loop around) s) ∷ [])
 
 -- ---- where a code of a statement stands
 
@@ -148,23 +160,30 @@ head_adds start condition step env =
 abbrev pub head_parts : ForFirst → Option Expr → Option Expr → Env → List Placed
 head_parts start condition step env =
     let behind_first = extend env (first_adds start env) in
-    (first_part env start ++ perhaps behind_first AnExpression condition) ++ perhaps (extend behind_first (added_by condition behind_first)) AnExpression step
+    (first_part env start ++ perhaps behind_first AnExpression condition) ++
+    perhaps (extend behind_first (added_by condition behind_first)) AnExpression step
 
-pub record WalksHead (start : ForFirst) (condition step : Option Expr) (old new : Checker) (answer : Option Code) : Type 0 where
-  pub walks : (at_end env : Env) → IsPlain old env → Walks at_end old new env (head_adds start condition step env) (head_parts start condition step env)
-  pub code : (env : Env) → IsPlain old env → answer ≡ told (if are_typed (head_parts start condition step env) then for_rules env start condition step else [])
+pub record WalksHead (start : ForFirst) (condition step : Option Expr) (old new : Checker)
+    (answer : Option Code) : Type 0 where
+  pub walks : (at_end env : Env) → IsPlain old env →
+      Walks at_end old new env (head_adds start condition step env) (head_parts start condition step env)
+  pub code : (env : Env) → IsPlain old env →
+      answer ≡ told (if are_typed (head_parts start condition step env) then for_rules env start condition step else [])
 
 pub record AsksFirst (start : ForFirst) (old new : Checker) (asked : Asked) : Type 0 where
-  pub walks : (at_end env : Env) → IsPlain old env → Walks at_end old new env (first_adds start env) (first_part env start)
+  pub walks : (at_end env : Env) → IsPlain old env →
+      Walks at_end old new env (first_adds start env) (first_part env start)
   pub typed : (env : Env) → IsPlain old env → asked.is_typed ≡ are_typed (first_part env start)
   pub code : (env : Env) → IsPlain old env → asked.code ≡ told (first_rules env start)
 
 -- a declaration in a block
 abbrev pub WalksDeclaration : Declare → Checker → Checker → Type 0
-WalksDeclaration node old new = (at_end env : Env) → IsPlain old env → Walks at_end old new env (declaration_adds InBlock env node) (at env (ADeclaration InBlock node) ∷ [])
+WalksDeclaration node old new = (at_end env : Env) → IsPlain old env →
+    Walks at_end old new env (declaration_adds InBlock env node) (at env (ADeclaration InBlock node) ∷ [])
 
 -- a return in a function with this result
-pub record WalksReturn (e : Option Expr) (old new : Checker) (result : Option ℕ) (answer : Option Code) : Type 0 where
+pub record WalksReturn (e : Option Expr) (old new : Checker) (result : Option ℕ)
+    (answer : Option Code) : Type 0 where
   pub walks : (at_end env : Env) → IsPlain old env → option_map (meaning old.types) result ≡ env.result →
       Walks at_end old new env (added_by e env) (perhaps (to_result env env.result) AnExpression e)
   pub code : (env : Env) → IsPlain old env → option_map (meaning old.types) result ≡ env.result →

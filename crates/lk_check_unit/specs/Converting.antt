@@ -29,10 +29,13 @@ role_of (Some t) = ConvertedTo t
 
 abbrev pub WalksConverted : Expr → Option ℕ → Checker → Checker → Type 0
 WalksConverted e target old new = (at_end env : Env) → IsPlain old env →
-    Walks at_end old new env (expr_adds e env) (at (to_result env (option_map (meaning old.types) target)) (AnExpression e) ∷ [])
+    Walks at_end old new env (expr_adds e env)
+    (at (to_result env (option_map (meaning old.types) target)) (AnExpression e) ∷ [])
 
 abbrev pub IsConvertedFound : Expr → Option ℕ → Checker → Table → Found → Type 0
-IsConvertedFound e target old table found = (env : Env) → IsPlain old env → IsFoundTyping table found (expression e (to_result env (option_map (meaning old.types) target))).typing
+IsConvertedFound e target old table found =
+    (env : Env) → IsPlain old env →
+    IsFoundTyping table found (expression e (to_result env (option_map (meaning old.types) target))).typing
 
 -- the codes of the conversion of a value, and of what is turned into one, to a type that is known
 abbrev pub conversion_rules : Option Ty → Typing → List Breach

@@ -43,7 +43,8 @@ pub record PutsTypes (old new : Checker) : Type 0 where
   pub names : new.names ≡ old.names
 
 -- how a name of this type is declared
-pub record IsHow (checker : Checker) (scope : Scope) (ss : List Storage) (given : Given) (named : Named) (t : Option Ty) (how : How) : Type 0 where
+pub record IsHow (checker : Checker) (scope : Scope) (ss : List Storage) (given : Given) (named : Named)
+    (t : Option Ty) (how : How) : Type 0 where
   pub stands : how.scope ≡ scope
   pub gives : how.given ≡ given
   pub linkage : (env : Env) → IsIn checker env → how.linkage ≡ reach_of env (scope_of scope) ss named.name t
@@ -52,14 +53,27 @@ pub record IsHow (checker : Checker) (scope : Scope) (ss : List Storage) (given 
 -- a name that is declared so
 abbrev pub declared_by : List Storage → How → Named → Option Ty → Declared
 declared_by ss how named t =
-    record { name = named.name; meaning = meaning_of (scope_of how.scope) ss t; linkage = how.linkage; defines = how.defines; ordinal = named.ordinal }
+    record {
+      name = named.name;
+      meaning = meaning_of (scope_of how.scope) ss t;
+      linkage = how.linkage;
+      defines = how.defines;
+      ordinal = named.ordinal;
+    }
 
 -- the same, of what was declared with another type
 abbrev pub meant_by : List Storage → How → CodeDeclared → Option Ty → Declared
 meant_by ss how declared t =
-    record { name = declared.name; meaning = meaning_of (scope_of how.scope) ss t; linkage = declared.linkage; defines = declared.defines; ordinal = declared.ordinal }
+    record {
+      name = declared.name;
+      meaning = meaning_of (scope_of how.scope) ss t;
+      linkage = declared.linkage;
+      defines = declared.defines;
+      ordinal = declared.ordinal;
+    }
 
--- a definition of a function is recorded with the type that its declarator makes, each other declaration with the type that its name has behind it
+-- a definition of a function is recorded with the type that its declarator makes, each other declaration with
+-- the type that its name has behind it
 abbrev pub type_recorded : rule.Given → (made whole : Option Ty) → Option Ty
 type_recorded Bare made whole = whole
 type_recorded Initialised made whole = whole
@@ -68,7 +82,9 @@ type_recorded Defined made whole = made
 -- a name of this type is declared as it is recorded, wherever it stands
 abbrev pub IsRecordedAs : Table → Option DeclaredHere → Declared → Option Ty → Type 0
 IsRecordedAs table None d t = ⊤
-IsRecordedAs table (Some here) d t = (ty : Ty) × (t ≡ Some ty) × ((spot : Spot) → IsDeclaredAs table here (record { is = d; spot = spot; type = ty }))
+IsRecordedAs table (Some here) d t =
+    (ty : Ty) × (t ≡ Some ty)
+    × ((spot : Spot) → IsDeclaredAs table here (record { is = d; spot = spot; type = ty }))
 
 -- it is recorded, where it has a type
 pub record PutsDeclared (old new : Checker) (d : Declared) (t : Option Ty) : Type 0 where
@@ -85,11 +101,13 @@ pub record PutsName (old new : Checker) (d : Declared) : Type 0 where
 -- ---- codes of a declared name by its type
 
 abbrev pub complete_rules : Env → Env → List Storage → NameUse → Ty → List Breach
-complete_rules env at_end ss how t = unless (is_complete_object env at_end (scope_of how.scope) ss t (given_of how.given)) Incomplete
+complete_rules env at_end ss how t =
+    unless (is_complete_object env at_end (scope_of how.scope) ss t (given_of how.given)) Incomplete
 
 -- 25 is kept, or it waits for the end of the source
 abbrev pub AsksComplete : Checker → Checker → List Storage → At → NameUse → Option Pending → Type 0
-AsksComplete old new ss at how None = (at_end env : Env) → IsIn old env → KeepsAt old new at (complete_rules env at_end ss how (meaning old.types how.ty))
+AsksComplete old new ss at how None = (at_end env : Env) → IsIn old env →
+    KeepsAt old new at (complete_rules env at_end ss how (meaning old.types how.ty))
 AsksComplete old new ss at how (Some p) =
     (p ≡ record { at = at; ty = how.ty }) × (kept_in new ≡ kept_in old) ×
     ((at_end env : Env) → complete_rules env at_end ss how (meaning old.types how.ty) ≡ pending_rules at_end (meaning old.types how.ty))
@@ -106,30 +124,42 @@ listed (Some p) = p ∷ []
 -- these codes are kept, but for those that wait
 abbrev pub KeepsBut : Env → Checker → Checker → Option Pending → List Codes → Type 0
 KeepsBut at_end old new pending codes =
-    (others : List Placed) (more : List Codes) (last : Kept) → KeepsAll at_end (kept_in new) others (pending_codes new.types at_end (listed pending) ++ more) last →
+    (others : List Placed) (more : List Codes) (last : Kept) →
+    KeepsAll at_end (kept_in new) others (pending_codes new.types at_end (listed pending) ++ more) last →
     KeepsAll at_end (kept_in old) others (codes ++ more) last
 
 abbrev pub AsksType : Checker → Checker → List Storage → How → Named → Option ℕ → Option Pending → Type 0
 AsksType old new ss how named t pending =
-    (at_end env : Env) → IsIn old env → how.linkage ≡ reach_of env (scope_of how.scope) ss named.name (option_map (meaning old.types) t) →
+    (at_end env : Env) → IsIn old env →
+    how.linkage ≡ reach_of env (scope_of how.scope) ss named.name (option_map (meaning old.types) t) →
     KeepsBut at_end old new pending
-    (codes_at (mark named.spot named.ordinal) (of_type (option_map (meaning old.types) t) (λ t. named_rules env at_end (scope_of how.scope) ss named.name t (given_of how.given))) ∷ [])
+    (codes_at (mark named.spot named.ordinal)
+    (of_type (option_map (meaning old.types) t)
+    (λ t. named_rules env at_end (scope_of how.scope) ss named.name t (given_of how.given))) ∷ [])
 
 -- ---- a name is declared
 
-pub record NameIsDeclared (at_end : Env) (old new : Checker) (env : Env) (scope : Scope) (ss : List Storage) (given : Given) (named : Named) (t : Option Ty) (init : Option Init) (found : NameFound) : Type 0 where
-  pub type : option_map (meaning new.types) found.ty ≡ completed init (composite_type env (scope_of scope) ss named.name t)
+pub record NameIsDeclared (at_end : Env) (old new : Checker) (env : Env) (scope : Scope) (ss : List Storage)
+    (given : Given) (named : Named) (t : Option Ty) (init : Option Init) (found : NameFound) : Type 0 where
+  pub type : option_map (meaning new.types) found.ty
+      ≡ completed init (composite_type env (scope_of scope) ss named.name t)
   pub behind : IsIn new (extend env (one_name (declared_as env (scope_of scope) ss (given_of given) init named.name named.ordinal t)))
   pub keeps : KeepsBut at_end old new found.pending
       (codes_at (mark named.spot named.ordinal)
-      (name_use_rules env t named.name (Declares (scope_of scope) ss (given_of given) (elements_given init (composite_type env (scope_of scope) ss named.name t)) at_end)) ∷ [])
-  pub puts : PutsDeclared old new (declared_as env (scope_of scope) ss (given_of given) init named.name named.ordinal t)
+      (name_use_rules env t named.name
+      (Declares (scope_of scope) ss (given_of given)
+      (elements_given init (composite_type env (scope_of scope) ss named.name t)) at_end)) ∷ [])
+  pub puts : PutsDeclared old new
+      (declared_as env (scope_of scope) ss (given_of given) init named.name named.ordinal t)
       (type_recorded (given_of given) t (completed init (composite_type env (scope_of scope) ss named.name t)))
 
-abbrev pub DeclaresName : Checker → Checker → Scope → List Storage → Given → Named → Option ℕ → Option Init → NameFound → Type 0
+abbrev pub DeclaresName : Checker → Checker → Scope → List Storage → Given → Named → Option ℕ → Option Init →
+    NameFound → Type 0
 DeclaresName old new scope ss given named t init found =
-    (at_end env : Env) → IsIn old env → NameIsDeclared at_end old new env scope ss given named (option_map (meaning old.types) t) init found
+    (at_end env : Env) → IsIn old env →
+    NameIsDeclared at_end old new env scope ss given named (option_map (meaning old.types) t) init found
 
 -- only what is declared at file scope, and given nothing, waits; its type is in the table
 abbrev pub WaitsIn : Table → Scope → Given → Option Pending → Type 0
-WaitsIn table scope given p = IfSome p (λ (q : Pending). (scope ≡ File) × (given_of given ≡ Bare) × IsKnown table q.ty)
+WaitsIn table scope given p =
+    IfSome p (λ (q : Pending). (scope ≡ File) × (given_of given ≡ Bare) × IsKnown table q.ty)

@@ -41,14 +41,19 @@ use Rattle.lk_check_unit.specs.declared.definitions.Headed.{Headed}
 -- ---- the name of a function that is defined
 
 -- it is declared, and its codes are kept
-pub record FunctionIsNamed (at_end : Env) (old new : Checker) (env : Env) (ss : List Storage) (name : Option Named) (t : Option Ty) : Type 0 where
+pub record FunctionIsNamed (at_end : Env) (old new : Checker) (env : Env) (ss : List Storage)
+    (name : Option Named) (t : Option Ty) : Type 0 where
   pub behind : IsIn new (extend env (named_additions env AtFile ss Defined None name t))
-  pub keeps : (others : List Placed) (more : List Codes) (last : Kept) → KeepsAll at_end (kept_in new) others more last →
-      KeepsAll at_end (kept_in old) others (name_codes env t (Declares AtFile ss Defined 0 at_end) name ++ more) last
-  pub puts : PutsIfNamed old new name (λ named. declared_as env AtFile ss Defined None named.name named.ordinal t) t
+  pub keeps : (others : List Placed) (more : List Codes) (last : Kept) →
+      KeepsAll at_end (kept_in new) others more last →
+      KeepsAll at_end (kept_in old) others
+      (name_codes env t (Declares AtFile ss Defined 0 at_end) name ++ more) last
+  pub puts : PutsIfNamed old new name
+      (λ named. declared_as env AtFile ss Defined None named.name named.ordinal t) t
 
 abbrev pub DefinesName : Checker → Checker → List Storage → Option Named → Option ℕ → Type 0
-DefinesName old new ss name t = (at_end env : Env) → IsIn old env → FunctionIsNamed at_end old new env ss name (option_map (meaning old.types) t)
+DefinesName old new ss name t = (at_end env : Env) → IsIn old env →
+    FunctionIsNamed at_end old new env ss name (option_map (meaning old.types) t)
 
 -- that of a declarator
 abbrev pub NamesFunction : Checker → Checker → List Storage → Declarator → Option ℕ → Type 0
@@ -64,7 +69,9 @@ abbrev pub behind_specifiers : Env → Function → Env
 behind_specifiers env node = extend env (specifiers_of env node).additions
 
 abbrev pub type_defined : Env → Function → Option Ty
-type_defined env node = type_made (behind_specifiers env node) false (type_in InDefinition (specifiers_of env node)) (declarator_found node.declarator)
+type_defined env node =
+    type_made (behind_specifiers env node) false (type_in InDefinition (specifiers_of env node))
+    (declarator_found node.declarator)
 
 -- the definition declares this name
 pub record IsFunctionName (env : Env) (node : Function) (name : NameDeclared) : Type 0 where
@@ -78,13 +85,18 @@ pub record IsFunctionName (env : Env) (node : Function) (name : NameDeclared) : 
 pub record IsHeaded (at_end env : Env) (old new : Checker) (node : Function) (headed : Headed) : Type 0 where
   pub behind : IsIn new (behind_declarator (specifiers_of env node) (behind_specifiers env node) node)
   pub returned : option_map (meaning new.types) headed.returned ≡ result_of (type_defined env node)
-  pub parameters : scope_told new.types headed.parameters ≡ parameters_of_body (behind_specifiers env node) node
-  pub keeps : (others : List Placed) (more : List Codes) (last : Kept) → let here = behind_specifiers env node in let left = defined_left (specifiers_of env node) at_end here node in
+  pub parameters : scope_told new.types headed.parameters
+      ≡ parameters_of_body (behind_specifiers env node) node
+  pub keeps : (others : List Placed) (more : List Codes) (last : Kept) → let here =
+      behind_specifiers env node in let left = defined_left (specifiers_of env node) at_end here node in
       KeepsAll at_end (kept_in new) others more last →
-      KeepsAll at_end (kept_in old) (specifiers_parts false env node.specifiers ++ at here (ADeclarator left node.declarator) ∷ others)
+      KeepsAll at_end (kept_in old)
+      (specifiers_parts false env node.specifiers ++ at here (ADeclarator left node.declarator) ∷ others)
       (codes_at (mark node.spot node.ordinal) (rules_of env (ADefinition node)) ∷ more) last
-  pub records : let here = behind_specifiers env node in let left = defined_left (specifiers_of env node) at_end here node in
-      TellsNamingOf (IsBegunAmong false env node.specifiers) (IsFunctionName env node) at_end old new (specifiers_parts false env node.specifiers ++ at here (ADeclarator left node.declarator) ∷ [])
+  pub records : let here = behind_specifiers env node in let left =
+      defined_left (specifiers_of env node) at_end here node in
+      TellsNamingOf (IsBegunAmong false env node.specifiers) (IsFunctionName env node) at_end old new
+      (specifiers_parts false env node.specifiers ++ at here (ADeclarator left node.declarator) ∷ [])
 
 abbrev pub Heads : Function → Checker → Checker → Headed → Type 0
 Heads node old new headed = (at_end env : Env) → IsPlain old env → IsHeaded at_end env old new node headed
@@ -106,14 +118,19 @@ pub record EntersBody (old new : Checker) (parameters : Option InLeftScope) (mar
   pub marks : (env : Env) → IsIn old env → IsMarkOf mark env
 
 abbrev pub in_body_of : Table → Env → Headed → Env
-in_body_of table env headed = record (extend (enter env) (scope_told table headed.parameters)) { result = option_map (meaning table) headed.returned }
+in_body_of table env headed =
+    record (extend (enter env) (scope_told table headed.parameters))
+    { result = option_map (meaning table) headed.returned }
 
 abbrev pub WalksBody : Stmt → Checker → Checker → Headed → Type 0
 WalksBody s old new headed =
-    (at_end env : Env) → IsPlain old env → let here = in_body_of old.types env headed in let items = body_items (out-StmtForm s.form) in
-    Walks at_end old new env (past_scope (items_add here items)) (items_in_turn (in_function (labels s)) here items)
+    (at_end env : Env) → IsPlain old env → let here = in_body_of old.types env headed in let items =
+    body_items (out-StmtForm s.form) in
+    Walks at_end old new env (past_scope (items_add here items))
+    (items_in_turn (in_function (labels s)) here items)
 
 -- ---- a definition
 
 abbrev pub WalksDefinition : Function → Checker → Checker → Type 0
-WalksDefinition node old new = (at_end env : Env) → IsPlain old env → Walks at_end old new env (external_adds env (decl.Function node)) (at env (ADefinition node) ∷ [])
+WalksDefinition node old new = (at_end env : Env) → IsPlain old env →
+    Walks at_end old new env (external_adds env (decl.Function node)) (at env (ADefinition node) ∷ [])

@@ -39,9 +39,14 @@ use Rattle.lk_check_unit.specs.declared.pending.Pending.{Pending}
 
 -- ---- the initialiser of a declarator, where there is one: it hides codes where it has no type and a code is broken in it
 
-pub record HidesCodes (old new : Checker) (target : Option Target) (init : Option Init) (hidden : Bool) : Type 0 where
-  pub walks : (at_end env : Env) → IsPlain old env → Walks at_end old new env (initialiser_adds env init) (perhaps env (AnInitialiser (object_for old.types target)) init)
-  pub hides : (at_end env : Env) → IsPlain old env → (hidden ≡ true) ↔ IsBroken at_end (those_without_type (perhaps env (AnInitialiser (object_for old.types target)) init))
+pub record HidesCodes (old new : Checker) (target : Option Target) (init : Option Init)
+    (hidden : Bool) : Type 0 where
+  pub walks : (at_end env : Env) → IsPlain old env →
+      Walks at_end old new env (initialiser_adds env init)
+      (perhaps env (AnInitialiser (object_for old.types target)) init)
+  pub hides : (at_end env : Env) → IsPlain old env →
+      (hidden ≡ true) ↔ IsBroken at_end
+      (those_without_type (perhaps env (AnInitialiser (object_for old.types target)) init))
 
 -- ---- the name of a declarator, whose type is made
 
@@ -50,17 +55,25 @@ abbrev pub PutsIfNamed : Checker → Checker → Option Named → (Named → Dec
 PutsIfNamed old new None d t = recorded_in new ≡ recorded_in old
 PutsIfNamed old new (Some named) d t = PutsDeclared old new (d named) t
 
-pub record NameIsFound (at_end : Env) (old new : Checker) (env : Env) (scope : Scope) (ss : List Storage) (d : InitDeclarator) (t : Option Ty) (found : NameFound) : Type 0 where
-  pub type : option_map (meaning new.types) found.ty ≡ completed d.init (type_of_name env (scope_of scope) ss (declarator_found d.declarator).name t)
-  pub behind : IsIn new (extend env (named_additions env (scope_of scope) ss (given_by d.init) d.init (declarator_found d.declarator).name t))
+pub record NameIsFound (at_end : Env) (old new : Checker) (env : Env) (scope : Scope) (ss : List Storage)
+    (d : InitDeclarator) (t : Option Ty) (found : NameFound) : Type 0 where
+  pub type : option_map (meaning new.types) found.ty
+      ≡ completed d.init (type_of_name env (scope_of scope) ss (declarator_found d.declarator).name t)
+  pub behind : IsIn new (extend env
+      (named_additions env (scope_of scope) ss (given_by d.init) d.init (declarator_found d.declarator).name t))
   pub keeps : KeepsBut at_end old new found.pending
       (name_codes env t
-      (Declares (scope_of scope) ss (given_by d.init) (elements_given d.init (type_of_name env (scope_of scope) ss (declarator_found d.declarator).name t)) at_end) (declarator_found d.declarator).name)
-  pub puts : PutsIfNamed old new (declarator_found d.declarator).name (λ named. declared_as env (scope_of scope) ss (given_by d.init) d.init named.name named.ordinal t)
+      (Declares (scope_of scope) ss (given_by d.init)
+      (elements_given d.init (type_of_name env (scope_of scope) ss (declarator_found d.declarator).name
+      t)) at_end) (declarator_found d.declarator).name)
+  pub puts : PutsIfNamed old new (declarator_found d.declarator).name
+      (λ named. declared_as env (scope_of scope) ss (given_by d.init) d.init named.name named.ordinal t)
       (completed d.init (type_of_name env (scope_of scope) ss (declarator_found d.declarator).name t))
 
-abbrev pub FindsName : Checker → Checker → Scope → List Storage → InitDeclarator → Option ℕ → NameFound → Type 0
-FindsName old new scope ss d t found = (at_end env : Env) → IsIn old env → NameIsFound at_end old new env scope ss d (option_map (meaning old.types) t) found
+abbrev pub FindsName : Checker → Checker → Scope → List Storage → InitDeclarator → Option ℕ →
+    NameFound → Type 0
+FindsName old new scope ss d t found = (at_end env : Env) → IsIn old env →
+    NameIsFound at_end old new env scope ss d (option_map (meaning old.types) t) found
 
 -- ---- declarators behind specifiers
 
@@ -77,7 +90,8 @@ pub record PutsPending (new : Table) (scope : Scope) (before after : List Pendin
   pub none : scope ≡ Block → fresh ≡ []
 
 -- one of these declarators, behind those before it, declares this name
-pub record IsNamedAmong (scope : rule.Scope) (told : SpecifierTold) (env : Env) (ds : List InitDeclarator) (name : NameDeclared) : Type 0 where
+pub record IsNamedAmong (scope : rule.Scope) (told : SpecifierTold) (env : Env) (ds : List InitDeclarator)
+    (name : NameDeclared) : Type 0 where
   pub here : Env
   pub d : InitDeclarator
   pub among : StandsAmong scope told env ds here d
@@ -87,23 +101,37 @@ pub record IsNamedAmong (scope : rule.Scope) (told : SpecifierTold) (env : Env) 
   pub spot : name.spot ≡ named.spot
   pub type : type_declared scope told here d ≡ Some name.type
 
-pub record DeclaresOne (old new : Checker) (scope : Scope) (specified : Specified) (d : InitDeclarator) (before after : List Pending) (hidden : Bool) : Type 0 where
+pub record DeclaresOne (old new : Checker) (scope : Scope) (specified : Specified) (d : InitDeclarator)
+    (before after : List Pending) (hidden : Bool) : Type 0 where
   pub puts : PutsPending new.types scope before after
-  pub walks : (at_end env : Env) (told : SpecifierTold) → IsPlain old env → IsToldBy old.types specified told →
-      WalksNaming (IsNamedAmong (scope_of scope) told env (d ∷ [])) at_end old new env (declarator_adds (scope_of scope) told env d)
-      (at env (ADeclarator (declared_left (scope_of scope) told at_end env d) d.declarator) ∷ initialiser_part (scope_of scope) told env d) (pending_codes new.types at_end puts.fresh)
-  pub hides : (at_end env : Env) (told : SpecifierTold) → IsPlain old env → IsToldBy old.types specified told →
+  pub walks : (at_end env : Env) (told : SpecifierTold) → IsPlain old env →
+      IsToldBy old.types specified told →
+      WalksNaming (IsNamedAmong (scope_of scope) told env (d ∷ [])) at_end old new env
+      (declarator_adds (scope_of scope) told env d)
+      (at env (ADeclarator (declared_left (scope_of scope) told at_end env d) d.declarator) ∷
+      initialiser_part (scope_of scope) told env d) (pending_codes new.types at_end puts.fresh)
+  pub hides : (at_end env : Env) (told : SpecifierTold) → IsPlain old env →
+      IsToldBy old.types specified told →
       (hidden ≡ true) ↔ IsBroken at_end (those_without_type (initialiser_part (scope_of scope) told env d))
 
-pub record DeclaresAll (old new : Checker) (scope : Scope) (specified : Specified) (ds : List InitDeclarator) (before after : List Pending) (hidden : Bool) : Type 0 where
+pub record DeclaresAll (old new : Checker) (scope : Scope) (specified : Specified) (ds : List InitDeclarator)
+    (before after : List Pending) (hidden : Bool) : Type 0 where
   pub puts : PutsPending new.types scope before after
-  pub walks : (at_end env : Env) (told : SpecifierTold) → IsPlain old env → IsToldBy old.types specified told →
-      WalksNaming (IsNamedAmong (scope_of scope) told env ds) at_end old new env (declarators_add (scope_of scope) told env ds) (declarators_in_turn at_end (scope_of scope) told env ds) (pending_codes new.types at_end puts.fresh)
-  pub hides : (at_end env : Env) (told : SpecifierTold) → IsPlain old env → IsToldBy old.types specified told →
-      (hidden ≡ true) ↔ IsBroken at_end (those_without_type (initialisers_in_turn (scope_of scope) told env ds))
+  pub walks : (at_end env : Env) (told : SpecifierTold) → IsPlain old env →
+      IsToldBy old.types specified told →
+      WalksNaming (IsNamedAmong (scope_of scope) told env ds) at_end old new env
+      (declarators_add (scope_of scope) told env ds)
+      (declarators_in_turn at_end (scope_of scope) told env ds)
+      (pending_codes new.types at_end puts.fresh)
+  pub hides : (at_end env : Env) (told : SpecifierTold) → IsPlain old env →
+      IsToldBy old.types specified told →
+      (hidden ≡ true) ↔ IsBroken at_end
+      (those_without_type (initialisers_in_turn (scope_of scope) told env ds))
 
 -- a declaration
-pub record WalksNode (old new : Checker) (scope : Scope) (node : Declare) (before after : List Pending) : Type 0 where
+pub record WalksNode (old new : Checker) (scope : Scope) (node : Declare)
+    (before after : List Pending) : Type 0 where
   pub puts : PutsPending new.types scope before after
   pub walks : (at_end env : Env) → IsPlain old env →
-      WalksBut at_end old new env (declaration_adds (scope_of scope) env node) (at env (ADeclaration (scope_of scope) node) ∷ []) (pending_codes new.types at_end puts.fresh)
+      WalksBut at_end old new env (declaration_adds (scope_of scope) env node)
+      (at env (ADeclaration (scope_of scope) node) ∷ []) (pending_codes new.types at_end puts.fresh)

@@ -43,31 +43,45 @@ IsKnownTarget table target = IfSome target (λ (t : Target). IsKnown table t.ty)
 
 -- it is walked, and it is known whether it has a type
 pub record WalksInit (target : Option Target) (init : Init) (old new : Checker) (answer : Bool) : Type 0 where
-  pub walks : (at_end env : Env) → IsPlain old env → Walks at_end old new env (init_adds init env) (at env (AnInitialiser (object_for old.types target) init) ∷ [])
-  pub typed : (env : Env) → IsPlain old env → answer ≡ has_type env (AnInitialiser (object_for old.types target) init)
+  pub walks : (at_end env : Env) → IsPlain old env →
+      Walks at_end old new env (init_adds init env)
+      (at env (AnInitialiser (object_for old.types target) init) ∷ [])
+  pub typed : (env : Env) → IsPlain old env →
+      answer ≡ has_type env (AnInitialiser (object_for old.types target) init)
 
 -- ---- the parts of a list
 
 -- what an entry adds
 abbrev pub entry_adds : Entry → Adder
-entry_adds entry env = let a = designators_add env entry.designators in both a (init_adds entry.init (extend env a))
+entry_adds entry env = let a = designators_add env entry.designators in
+    both a (init_adds entry.init (extend env a))
 
 pub record WalksDesignator (d : Designator) (old new : Checker) (answer : Bool) : Type 0 where
-  pub walks : (at_end env : Env) → IsPlain old env → Walks at_end old new env (designator_adds env d) (designator_part env d)
+  pub walks : (at_end env : Env) → IsPlain old env →
+      Walks at_end old new env (designator_adds env d) (designator_part env d)
   pub typed : (env : Env) → IsPlain old env → answer ≡ are_typed (designator_part env d)
 
 pub record WalksDesignators (ds : List Designator) (old new : Checker) (answer : Bool) : Type 0 where
-  pub walks : (at_end env : Env) → IsPlain old env → Walks at_end old new env (designators_add env ds) (designator_parts env ds)
+  pub walks : (at_end env : Env) → IsPlain old env →
+      Walks at_end old new env (designators_add env ds) (designator_parts env ds)
   pub typed : (env : Env) → IsPlain old env → answer ≡ are_typed (designator_parts env ds)
 
 -- one entry, with its number
-pub record WalksEntry (target : Option Target) (text : Option ℕ) (k : ℕ) (entry : Entry) (old new : Checker) (answer : Bool) : Type 0 where
-  pub walks : (at_end env : Env) → IsPlain old env → Walks at_end old new env (entry_adds entry env) (entries_in_turn (object_for old.types target) text env k (entry ∷ []))
-  pub typed : (env : Env) → IsPlain old env → answer ≡ are_typed (entries_in_turn (object_for old.types target) text env k (entry ∷ []))
+pub record WalksEntry (target : Option Target) (text : Option ℕ) (k : ℕ) (entry : Entry) (old new : Checker)
+    (answer : Bool) : Type 0 where
+  pub walks : (at_end env : Env) → IsPlain old env →
+      Walks at_end old new env (entry_adds entry env)
+      (entries_in_turn (object_for old.types target) text env k (entry ∷ []))
+  pub typed : (env : Env) → IsPlain old env →
+      answer ≡ are_typed (entries_in_turn (object_for old.types target) text env k (entry ∷ []))
 
-pub record WalksEntries (target : Option Target) (text : Option ℕ) (entries : List Entry) (old new : Checker) (answer : Bool) : Type 0 where
-  pub walks : (at_end env : Env) → IsPlain old env → Walks at_end old new env (in_turn (map entry_adds entries) env) (entries_in_turn (object_for old.types target) text env 0 entries)
-  pub typed : (env : Env) → IsPlain old env → answer ≡ are_typed (entries_in_turn (object_for old.types target) text env 0 entries)
+pub record WalksEntries (target : Option Target) (text : Option ℕ) (entries : List Entry) (old new : Checker)
+    (answer : Bool) : Type 0 where
+  pub walks : (at_end env : Env) → IsPlain old env →
+      Walks at_end old new env (in_turn (map entry_adds entries) env)
+      (entries_in_turn (object_for old.types target) text env 0 entries)
+  pub typed : (env : Env) → IsPlain old env →
+      answer ≡ are_typed (entries_in_turn (object_for old.types target) text env 0 entries)
 
 -- ---- codes
 
@@ -81,12 +95,19 @@ seen_rules (Some object) seen = expression_rules object (Some seen)
 
 -- an initialiser word has no value that converts: 22
 abbrev pub word_seen : Ty → Seen
-word_seen lock = record { type = lock; text = None; word = Some lock; conversion = breach Mismatch ∷ []; is_constant = false }
+word_seen lock =
+    record { type = lock; text = None; word = Some lock; conversion = breach Mismatch ∷ []; is_constant = false }
 
 -- an expression with this typing
 abbrev pub typed_seen : Option ℕ → Ty → Typing → Seen
 typed_seen text target x =
-    record { type = (value x).type; text = text; word = None; conversion = map breach (given_codes target x); is_constant = is_static_value (value x) }
+    record {
+      type = (value x).type;
+      text = text;
+      word = None;
+      conversion = map breach (given_codes target x);
+      is_constant = is_static_value (value x);
+    }
 
 abbrev pub typed_rules : Option Object → Option ℕ → Typing → List Breach
 typed_rules None text x = []
@@ -98,7 +119,8 @@ typing_rules object text (Some x) = typed_rules object text x
 
 -- the code of an expression, by what is found of it
 abbrev pub IsInitCode : Table → Option Target → Option ℕ → Found → Option Code → Type 0
-IsInitCode table target text found code = (x : Option Typing) → IsFoundTyping table found x → code ≡ told (typing_rules (object_for table target) text x)
+IsInitCode table target text found code = (x : Option Typing) → IsFoundTyping table found x →
+    code ≡ told (typing_rules (object_for table target) text x)
 
 abbrev pub braces_rules : Env → Option Object → Braces → List Breach
 braces_rules env None braces = []
@@ -108,11 +130,13 @@ braces_rules env (Some object) braces = list_rules (fields_in env) object braces
 
 -- as an initialiser that is this expression
 abbrev pub WalksExpr : Option Target → Expr → Checker → Checker → Bool → Type 0
-WalksExpr target e old new answer = (init : Init) → out-Init init ≡ Init-F.Expr e → WalksInit target init old new answer
+WalksExpr target e old new answer = (init : Init) → out-Init init ≡ Init-F.Expr e →
+    WalksInit target init old new answer
 
 -- as one that is this list
 abbrev pub WalksList : Option Target → InitList → Checker → Checker → Type 0
-WalksList target list old new = (init : Init) → out-Init init ≡ Init-F.List list → WalksInit target init old new true
+WalksList target list old new = (init : Init) → out-Init init ≡ Init-F.List list →
+    WalksInit target init old new true
 
 -- the expression is this initialiser word
 abbrev pub IsWord : Checker → Expr → ℕ → Type 0

@@ -24,4 +24,5 @@ pub record Enters (old new : Checker) (mark : Mark) : Type 0 where
 -- the scope is ended that was begun when the mark was given
 pub record Leaves (old new : Checker) (mark : Mark) : Type 0 where
   pub beside : IsBeside old new
-  pub left : (env : Env) (added : Additions) → IsMarkOf mark env → IsIn old (extend (enter env) added) → IsIn new (extend env (past_scope added))
+  pub left : (env : Env) (added : Additions) → IsMarkOf mark env → IsIn old (extend (enter env) added) →
+      IsIn new (extend env (past_scope added))

@@ -1,4 +1,5 @@
--- What a walk over the external declarations of a source leaves behind (C99 6.9), and what is told of a source.
+-- What a walk over the external declarations of a source leaves behind (C99 6.9),
+-- and what is told of a source.
 use Rattle.std.specs.Prelude.{⊤, ◌≡◌, true, Some, List, [], ◌∷◌, if◌then◌else◌}
 use Rattle.std.specs.HashSet.{HashSet, contains_by}
 use Rattle.lk_base.specs.declared.fault.Fault.{Fault as LayerFault}
@@ -22,7 +23,8 @@ use Rattle.lk_check_unit.specs.declared.pending.Pending.{Pending}
 pub record WalksExternal (old new : Checker) (d : Decl) (before after : List Pending) : Type 0 where
   pub puts : PutsPending new.types File before after
   pub walks : (at_end env : Env) → IsPlain old env →
-      WalksBut at_end old new env (external_adds env d) (at env (AnExternal d) ∷ []) (pending_codes new.types at_end puts.fresh)
+      WalksBut at_end old new env (external_adds env d) (at env (AnExternal d) ∷ [])
+      (pending_codes new.types at_end puts.fresh)
 
 -- what they add, each behind those before it
 abbrev pub externals_add : Env → List Decl → Additions
@@ -31,7 +33,9 @@ externals_add env (d ∷ ds) = let a = external_adds env d in both a (externals_
 
 pub record WalksExternals (old new : Checker) (ds : List Decl) (before after : List Pending) : Type 0 where
   pub puts : PutsPending new.types File before after
-  pub walks : (at_end env : Env) → IsPlain old env → WalksBut at_end old new env (externals_add env ds) (externals_in_turn env ds) (pending_codes new.types at_end puts.fresh)
+  pub walks : (at_end env : Env) → IsPlain old env →
+      WalksBut at_end old new env (externals_add env ds) (externals_in_turn env ds)
+      (pending_codes new.types at_end puts.fresh)
 
 -- they are walked over, and behind them is asked what waits for the end of the source
 pub record WalksOver (old new : Checker) (ds : List Decl) : Type 0 where
@@ -50,7 +54,9 @@ IsSetOf names set = (name : Name) → is_one_of names name ≡ contains_by (is_n
 
 -- these names are in the set with those before them
 abbrev pub PutsNames : {S : Type 0} → List Name → HashSet Name S → HashSet Name S → Type 0
-PutsNames names old new = (name : Name) → contains_by (is_name name) new ≡ (if is_one_of names name then true else contains_by (is_name name) old)
+PutsNames names old new =
+    (name : Name) → contains_by (is_name name) new
+    ≡ (if is_one_of names name then true else contains_by (is_name name) old)
 
 -- ---- the answer of the checker
 

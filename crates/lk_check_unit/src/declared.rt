@@ -366,8 +366,8 @@ fn here(declared: &Declared, t: &Option<TypeId>) -> Option<DeclaredHere>
     }
 }
 
-/// The type with which a declaration is recorded: a definition of a function with the one that its declarator makes,
-/// each other one with that of its name behind it.
+/// The type with which a declaration is recorded: a definition of a function with the one that its declarator
+/// makes, each other one with that of its name behind it.
 fn type_recorded(given: Given, made: Option<TypeId>, whole: Option<TypeId>) -> Option<TypeId>
     ensures value { (table : Table) → option_map (meaning table) result ≡
         type_recorded (given_of given) (option_map (meaning table) made) (option_map (meaning table) whole) }
@@ -405,8 +405,8 @@ fn put_name(
     checker.names.declare(declared)
 }
 
-/// Declares a name, behind its declarator: its codes are kept, but for that of a tentative definition; and from here on it
-/// stands for an entity of its type.
+/// Declares a name, behind its declarator: its codes are kept, but for that of a tentative definition; and
+/// from here on it stands for an entity of its type.
 pub(crate) fn declare_name(
     checker: &mut Checker,
     scope: Scope,

@@ -1,5 +1,5 @@
-//! The checker of types and faults, its walk over initialisers, declarations, statements, definitions and the source
-//! (C99 6.7, 6.8, 6.9).
+//! The checker of types and faults, its walk over initialisers, declarations, statements, definitions and
+//! the source (C99 6.7, 6.8, 6.9).
 #![tactic(auto)]
 
 mod asking;

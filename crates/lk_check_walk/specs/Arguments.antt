@@ -11,10 +11,13 @@ use Rattle.lk_checker.specs.States.{IsIn}
 use Rattle.lk_checker.specs.declared.checker.Checker.{Checker}
 use Rattle.lk_check_walk.specs.Walks.{Walks}
 
-pub record AreArgumentsJudged (at_end : Env) (old new : Checker) (env : Env) (f : Judged) (es : List Expr) (result : Given) : Type 0 where
-  pub walks : Walks at_end old new env (added_by (found_of (arguments_placed env f es))) (nodes_of (arguments_placed env f es))
+pub record AreArgumentsJudged (at_end : Env) (old new : Checker) (env : Env) (f : Judged) (es : List Expr)
+    (result : Given) : Type 0 where
+  pub walks : Walks at_end old new env (added_by (found_of (arguments_placed env f es)))
+      (nodes_of (arguments_placed env f es))
   pub given : IsGiven new.types env result (found_of (arguments_placed env f es))
 
 abbrev pub JudgesArguments : Checker → Checker → Bool → Found → List Expr → Given → Type 0
 JudgesArguments old new in_size f es given =
-    (at_end env : Env) (x : Judged) → IsIn old env → in_size ≡ env.in_size → IsFound old.types env f x → AreArgumentsJudged at_end old new env x es given
+    (at_end env : Env) (x : Judged) → IsIn old env → in_size ≡ env.in_size → IsFound old.types env f x →
+    AreArgumentsJudged at_end old new env x es given

@@ -12,18 +12,23 @@ use Rattle.lk_checker.specs.declared.enumerators.ItemFound.{ItemFound}
 use Rattle.lk_check_walk.specs.Walks.{Walks}
 
 -- an enumerator behind one of this value
-pub record IsItem (at_end : Env) (old new : Checker) (env : Env) (before : Option ℤ) (i : Item) (found : ItemFound) : Type 0 where
+pub record IsItem (at_end : Env) (old new : Checker) (env : Env) (before : Option ℤ) (i : Item)
+    (found : ItemFound) : Type 0 where
   pub walks : Walks at_end old new env (item_found i env before).additions (at env (AnItem before i) ∷ [])
   pub value : found.value ≡ (item_found i env before).value
   pub holds_sizeof : found.holds_sizeof ≡ (item_found i env before).holds_sizeof
 
 abbrev pub Counts : Checker → Checker → Bool → Option ℤ → Item → ItemFound → Type 0
-Counts old new in_size before i found = (at_end env : Env) → StandsIn old (operand_in in_size) env → IsItem at_end old new env before i found
+Counts old new in_size before i found = (at_end env : Env) → StandsIn old (operand_in in_size) env →
+    IsItem at_end old new env before i found
 
 -- enumerators one after another, and whether a sizeof stands in them
-pub record AreItems (at_end : Env) (old new : Checker) (env : Env) (before : Option ℤ) (is : List Item) (holds : Bool) : Type 0 where
-  pub walks : Walks at_end old new env (items_in_turn (map item_found is) env before) (items_parts env before is)
+pub record AreItems (at_end : Env) (old new : Checker) (env : Env) (before : Option ℤ) (is : List Item)
+    (holds : Bool) : Type 0 where
+  pub walks : Walks at_end old new env (items_in_turn (map item_found is) env before)
+      (items_parts env before is)
   pub holds_sizeof : holds ≡ items_hold_sizeof (map item_found is) env before
 
 abbrev pub CountsAll : Checker → Checker → Bool → Option ℤ → List Item → Bool → Type 0
-CountsAll old new in_size before is holds = (at_end env : Env) → StandsIn old (operand_in in_size) env → AreItems at_end old new env before is holds
+CountsAll old new in_size before is holds = (at_end env : Env) → StandsIn old (operand_in in_size) env →
+    AreItems at_end old new env before is holds

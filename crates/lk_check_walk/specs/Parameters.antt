@@ -20,36 +20,45 @@ use Rattle.lk_check_walk.specs.Walks.{Walks}
 
 -- ---- a list of parameters, in a scope of its own
 
-pub record AreParametersFound (at_end : Env) (old new : Checker) (env : Env) (ps : List Parameter) (dots : Bool) (found : ParametersFound) : Type 0 where
-  pub walks : Walks at_end old new env (past_scope (parameters_of (tellers ps) dots (enter env)).additions) (parameters_in_turn (is_lone ps dots) (enter env) ps)
+pub record AreParametersFound (at_end : Env) (old new : Checker) (env : Env) (ps : List Parameter)
+    (dots : Bool) (found : ParametersFound) : Type 0 where
+  pub walks : Walks at_end old new env (past_scope (parameters_of (tellers ps) dots (enter env)).additions)
+      (parameters_in_turn (is_lone ps dots) (enter env) ps)
   pub types : params_in new.types found.types ≡ (parameters_of (tellers ps) dots (enter env)).types
   pub holds_sizeof : found.holds_sizeof ≡ (parameters_of (tellers ps) dots (enter env)).holds_sizeof
-  pub scope : scope_added new.types found.scope ≡ record (parameters_of (tellers ps) dots (enter env)).additions { structs = [] }
+  pub scope : scope_added new.types found.scope
+      ≡ record (parameters_of (tellers ps) dots (enter env)).additions { structs = [] }
 
 abbrev pub FindsParameters : Checker → Checker → Bool → List Parameter → Bool → ParametersFound → Type 0
-FindsParameters old new in_size ps dots found = (at_end env : Env) → StandsIn old (operand_in in_size) env → AreParametersFound at_end old new env ps dots found
+FindsParameters old new in_size ps dots found = (at_end env : Env) → StandsIn old (operand_in in_size) env →
+    AreParametersFound at_end old new env ps dots found
 
 -- their types may be passed, and the types and structs in their scope are known
 pub record AreKnownParameters (new : Checker) (found : ParametersFound) : Type 0 where
   pub types : IfSome found.types (All (IsPassed new.types))
   pub scope : IsKnownLeft new.types (length new.names.structs) found.scope
 
-pub record AreListed (at_end : Env) (old new : Checker) (env : Env) (lone : Bool) (ps : List Parameter) (listed : Listed) : Type 0 where
-  pub walks : Walks at_end old new env (each_parameter (tellers ps) env).additions (parameters_in_turn lone env ps)
+pub record AreListed (at_end : Env) (old new : Checker) (env : Env) (lone : Bool) (ps : List Parameter)
+    (listed : Listed) : Type 0 where
+  pub walks : Walks at_end old new env (each_parameter (tellers ps) env).additions
+      (parameters_in_turn lone env ps)
   pub types : params_in new.types (types_listed listed) ≡ (each_parameter (tellers ps) env).types
   pub void : listed.has_void ≡ has_void (tellers ps) env
   pub holds_sizeof : listed.holds_sizeof ≡ (each_parameter (tellers ps) env).holds_sizeof
 
 abbrev pub ListsParameters : Checker → Checker → Bool → Bool → List Parameter → Listed → Type 0
-ListsParameters old new in_size lone ps listed = (at_end env : Env) → StandsIn old (operand_in in_size) env → AreListed at_end old new env lone ps listed
+ListsParameters old new in_size lone ps listed = (at_end env : Env) → StandsIn old (operand_in in_size) env →
+    AreListed at_end old new env lone ps listed
 
 -- ---- one parameter
 
-pub record IsParameterFound (at_end : Env) (old new : Checker) (env : Env) (lone : Bool) (p : Parameter) (found : ParameterFound) : Type 0 where
+pub record IsParameterFound (at_end : Env) (old new : Checker) (env : Env) (lone : Bool) (p : Parameter)
+    (found : ParameterFound) : Type 0 where
   pub walks : Walks at_end old new env (parameter_found p env).additions (at env (AParameter lone p) ∷ [])
   pub type : option_map (meaning new.types) found.ty ≡ (parameter_found p env).type
   pub is_bare_void : found.is_bare_void ≡ (parameter_found p env).is_bare_void
   pub holds_sizeof : found.holds_sizeof ≡ (parameter_found p env).holds_sizeof
 
 abbrev pub FindsParameter : Checker → Checker → Bool → Bool → Parameter → ParameterFound → Type 0
-FindsParameter old new in_size lone p found = (at_end env : Env) → StandsIn old (operand_in in_size) env → IsParameterFound at_end old new env lone p found
+FindsParameter old new in_size lone p found = (at_end env : Env) → StandsIn old (operand_in in_size) env →
+    IsParameterFound at_end old new env lone p found

@@ -1,8 +1,8 @@
-//! The walk of the checker of types and faults over expressions and what leads back to them: type names, specifiers,
-//! declarators, members, enumerators and parameters (C99 6.5, 6.7.2 to 6.7.6).
+//! The walk of the checker of types and faults over expressions and what leads back to them: type names,
+//! specifiers, declarators, members, enumerators and parameters (C99 6.5, 6.7.2 to 6.7.6).
 //!
-//! A walk function judges each expression once, in the environment in which it stands, keeps the least fault of those that
-//! hold in it, and answers what is found of it.
+//! A walk function judges each expression once, in the environment in which it stands, keeps the least fault
+//! of those that hold in it, and answers what is found of it.
 #![tactic(auto)]
 
 mod arguments;

@@ -61,7 +61,8 @@ fn member(
     Ok(())
 }
 
-/// Puts the fields of a member's declarators behind those before them. The answer says whether all widths have types.
+/// Puts the fields of a member's declarators behind those before them. The answer says
+/// whether all widths have types.
 #[cycle(walk)]
 fn member_declarators(
     checker: &mut Checker,
@@ -86,7 +87,8 @@ fn member_declarators(
     Ok(are_typed)
 }
 
-/// Puts the field of a member's declarator. The answer says whether its width, where there is one, has a type.
+/// Puts the field of a member's declarator. The answer says whether its width,
+/// where there is one, has a type.
 #[cycle(walk)]
 fn member_declarator(
     checker: &mut Checker,

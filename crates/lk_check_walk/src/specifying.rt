@@ -16,8 +16,8 @@ use lk_found::{Gathered, Specified};
 use lk_names::TagUse;
 use lk_tree::{Item, Member, Specifier};
 
-/// What specifiers tell, each behind those before it. Faults in them are kept; the codes of the specifiers themselves
-/// are for what they stand in. `alone` says that they are all of a declaration.
+/// What specifiers tell, each behind those before it. Faults in them are kept; the codes of the specifiers
+/// themselves are for what they stand in. `alone` says that they are all of a declaration.
 ///
 /// `Err` comes for want of memory.
 #[cycle(walk)]

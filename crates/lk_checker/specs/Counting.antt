@@ -18,7 +18,8 @@ abbrev pub constant_found : Found → Option Constant
 constant_found found = option_map (λ typed. typed.constant) found.typing
 
 -- an enumerator's codes are kept, and it is declared with this value
-pub record IsSettled (old new : Checker) (env : Env) (at : At) (name : Name) (value : Option ℤ) (broken : List Breach) : Type 0 where
+pub record IsSettled (old new : Checker) (env : Env) (at : At) (name : Name) (value : Option ℤ)
+    (broken : List Breach) : Type 0 where
   pub keeps : KeepsCodes (kept_in old) (mark_at at) broken (kept_in new)
   pub longer : IsLonger old.types new.types
   pub sound : IsSound new

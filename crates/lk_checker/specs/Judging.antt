@@ -12,13 +12,18 @@ use Rattle.lk_checker.specs.declared.checker.Checker.{Checker}
 
 abbrev pub SettlesOne : Checker → Checker → Expr → Found → Found → (Judged → JudgedForm) → Type 0
 SettlesOne old new e a found form =
-    (env behind : Env) (x : Judged) → IsIn old behind → TellsNoName e → IsFound old.types env a x → Settles old new e env behind (form x) found
+    (env behind : Env) (x : Judged) → IsIn old behind → TellsNoName e → IsFound old.types env a x →
+    Settles old new e env behind (form x) found
 
-abbrev pub SettlesTwo : Checker → Checker → Expr → Found → Found → Found → (Judged → Judged → JudgedForm) → Type 0
+abbrev pub SettlesTwo : Checker → Checker → Expr → Found → Found → Found →
+    (Judged → Judged → JudgedForm) → Type 0
 SettlesTwo old new e a b found form =
-    (env behind : Env) (x y : Judged) → IsIn old behind → TellsNoName e → IsFound old.types env a x → IsFound old.types env b y → Settles old new e env behind (form x y) found
+    (env behind : Env) (x y : Judged) → IsIn old behind → TellsNoName e → IsFound old.types env a x →
+    IsFound old.types env b y → Settles old new e env behind (form x y) found
 
-abbrev pub SettlesThree : Checker → Checker → Expr → Found → Found → Found → Found → (Judged → Judged → Judged → JudgedForm) → Type 0
+abbrev pub SettlesThree : Checker → Checker → Expr → Found → Found → Found → Found →
+    (Judged → Judged → Judged → JudgedForm) → Type 0
 SettlesThree old new e c a b found form =
-    (env behind : Env) (z x y : Judged) → IsIn old behind → TellsNoName e → IsFound old.types env c z → IsFound old.types env a x → IsFound old.types env b y →
+    (env behind : Env) (z x y : Judged) → IsIn old behind → TellsNoName e → IsFound old.types env c z →
+    IsFound old.types env a x → IsFound old.types env b y →
     Settles old new e env behind (form z x y) found

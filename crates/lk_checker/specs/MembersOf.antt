@@ -16,10 +16,13 @@ use Rattle.lk_checker.specs.declared.checker.Checker.{Checker}
 
 -- the codes of its name are kept, where it has one
 abbrev pub KeepsName : Checker → Checker → Env → List Field → Option Named → Ty → Type 0
-KeepsName old new behind before name t = KeepsEach (kept_in old) (name_codes behind (Some t) (IsMember before) name) (kept_in new)
+KeepsName old new behind before name t =
+    KeepsEach (kept_in old) (name_codes behind (Some t) (IsMember before) name) (kept_in new)
 
 -- the codes of its name and of the struct with it are kept, and its field is put
-pub record PutsMember (old new : Checker) (behind : Env) (bit_field : Bool) (others : MemberTold) (d : Declarator) (t : Option Ty) (holds : Bool) (after : MembersFound) : Type 0 where
+pub record PutsMember (old new : Checker) (behind : Env) (bit_field : Bool) (others : MemberTold)
+    (d : Declarator) (t : Option Ty) (holds : Bool) (after : MembersFound) : Type 0 where
   pub keeps : KeepsEach (kept_in old) (member_codes behind others.fields d t) (kept_in new)
   pub members : (added : Additions) →
-      AreMembers new.types after (then_member others (member_of behind bit_field others.fields (declarator_found d).name t (faulty_member added holds)))
+      AreMembers new.types after
+      (then_member others (member_of behind bit_field others.fields (declarator_found d).name t (faulty_member added holds)))

@@ -48,11 +48,13 @@ pub record IsMeant (new : Checker) (env : Env) (meant : Meant) (s : ℕ) : Type 
   pub number : s ≡ meant.number
   pub behind : IsIn new (extend env meant.additions)
 
--- the tag of the struct that begins is recorded, where one does: it is the last of as many as there are structs
+-- the tag of the struct that begins is recorded, where one does: it is the last of
+-- as many as there are structs
 abbrev pub RecordsTag : Checker → Checker → Env → Option (Option Name) → Type 0
 RecordsTag old new env None = recorded_in new ≡ recorded_in old
 RecordsTag old new env (Some tag) =
-    (recorded_in new ≡ record (recorded_in old) { tags = (recorded_in old).tags ++ record { tag = tag; is_outside = nat_eq env.base 0 } ∷ [] }) ×
+    (recorded_in new ≡ record (recorded_in old)
+    { tags = (recorded_in old).tags ++ record { tag = tag; is_outside = nat_eq env.base 0 } ∷ [] }) ×
     (length (recorded_in old).tags ≡ length env.structs)
 
 -- a state behind another: the table only grew, and a struct whose definition has begun is begun still

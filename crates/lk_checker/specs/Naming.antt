@@ -19,13 +19,15 @@ pub record IsNamedType (new : Checker) (env : Env) (t : Option ℕ) (told : Spec
   pub behind : IsIn new (extend env told.additions)
 
 -- one more specifier was gathered, with its codes
-pub record IsSpecifierPut (old new : Checker) (env : Env) (before after : Gathered) (told : SpecifierTold) (broken : List Breach) : Type 0 where
+pub record IsSpecifierPut (old new : Checker) (env : Env) (before after : Gathered) (told : SpecifierTold)
+    (broken : List Breach) : Type 0 where
   pub gathered : (others : SpecifierTold) (codes : List Breach) → IsGathered old.types before others codes →
       IsGathered new.types after (then_specifier others told) (codes ++ broken)
   pub behind : IsIn new (extend env told.additions)
 
 -- `struct tag {`, with its code
-pub record BeginsStruct (new : Checker) (env : Env) (tag : Option Name) (before after : Gathered) (begun : BegunStruct) : Type 0 where
+pub record BeginsStruct (new : Checker) (env : Env) (tag : Option Name) (before after : Gathered)
+    (begun : BegunStruct) : Type 0 where
   pub number : begun.number ≡ (struct_meant_by env tag).number
   pub admitted : IsTagUse env spec.DefinesStruct tag before after begun.is_admitted
   pub behind : IsIn new (extend env (struct_begins env tag))

@@ -27,9 +27,12 @@ abbrev pub KeepsName : Checker → Checker → Env → Option Ty → Option Name
 KeepsName old new env t name = KeepsEach (kept_in old) (name_codes env t IsParameter name) (kept_in new)
 
 -- its type is adjusted, and the codes of that are kept
-pub record IsAdjusted (old new : Checker) (env : Env) (m : Mark) (is_named is_bare_void : Bool) (t : Option Ty) (ty : Option ℕ) : Type 0 where
-  pub type : (name : Option Named) → is_named ≡ has_name name → option_map (meaning new.types) ty ≡ parameter_type env name t
-  pub keeps : KeepsCodes (kept_in old) m (parameter_node_rules is_named is_bare_void t ++ adjusted_rules env t) (kept_in new)
+pub record IsAdjusted (old new : Checker) (env : Env) (m : Mark) (is_named is_bare_void : Bool)
+    (t : Option Ty) (ty : Option ℕ) : Type 0 where
+  pub type : (name : Option Named) → is_named ≡ has_name name →
+      option_map (meaning new.types) ty ≡ parameter_type env name t
+  pub keeps : KeepsCodes (kept_in old) m
+      (parameter_node_rules is_named is_bare_void t ++ adjusted_rules env t) (kept_in new)
 
 -- it is declared, where it has a name
 pub record IsParameterDeclared (old new : Checker) (t : Option Ty) (name : Option Named) : Type 0 where
@@ -37,15 +40,20 @@ pub record IsParameterDeclared (old new : Checker) (t : Option Ty) (name : Optio
   pub goes_on : GoesOn old new (λ env. parameter_name name t)
 
 -- all of it, behind the codes of this declarator, where there is one
-pub record IsParameterSettled (old new : Checker) (env : Env) (m : Mark) (d : Option Declarator) (breaches : List Breach) (is_bare_void : Bool) (t : Option Ty) (ty : Option ℕ) : Type 0 where
+pub record IsParameterSettled (old new : Checker) (env : Env) (m : Mark) (d : Option Declarator)
+    (breaches : List Breach) (is_bare_void : Bool) (t : Option Ty) (ty : Option ℕ) : Type 0 where
   pub middle : Kept
   pub name : KeepsEach (kept_in old) (name_codes env t IsParameter (name_of d)) middle
-  pub rules : KeepsCodes middle m (breaches_in breaches ++ (parameter_node_rules (has_name (name_of d)) is_bare_void t ++ adjusted_rules env t)) (kept_in new)
+  pub rules : KeepsCodes middle m
+      (breaches_in breaches ++ (parameter_node_rules (has_name (name_of d)) is_bare_void t ++ adjusted_rules env t)) (kept_in new)
   pub type : option_map (meaning new.types) ty ≡ parameter_type env (name_of d) t
   pub records : recorded_in new ≡ recorded_in old
   pub behind : IsIn new (extend env (parameter_name (name_of d) (parameter_type env (name_of d) t)))
 
 -- of the parameter of this declarator
-abbrev pub SettlesParameter : Checker → Checker → Parameter → List Breach → Bool → Option Ty → Option ℕ → Type 0
+abbrev pub SettlesParameter : Checker → Checker → Parameter → List Breach → Bool →
+    Option Ty → Option ℕ → Type 0
 SettlesParameter old new p breaches is_bare_void t ty =
-    (env : Env) → IsIn old env → IsParameterSettled old new env (mark (out-Parameter p).spot (out-Parameter p).ordinal) (out-Parameter p).declarator breaches is_bare_void t ty
+    (env : Env) → IsIn old env →
+    IsParameterSettled old new env (mark (out-Parameter p).spot (out-Parameter p).ordinal)
+    (out-Parameter p).declarator breaches is_bare_void t ty

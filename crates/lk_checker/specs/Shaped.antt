@@ -22,7 +22,8 @@ use Rattle.lk_checker.specs.declared.checker.Checker.{Checker}
 -- one form made a type of the one on the left
 pub record IsStep (old new : Checker) (span : Span) (f : FormAt) (left made : Left) : Type 0 where
   pub type : type_in new.types made ≡ type_by span f.form (type_in old.types left)
-  pub large : made.is_large ≡ (left.is_large || is_over span.behind (made_of f.form span (type_in old.types left)))
+  pub large : made.is_large
+      ≡ (left.is_large || is_over span.behind (made_of f.form span (type_in old.types left)))
   pub element : IsLeft new.types span made
   pub keeps : KeepsCodes (kept_in old) f.mark (rules_of f.form span (type_in old.types left)) (kept_in new)
 
@@ -41,17 +42,21 @@ pub record IsKnownWalked (new : Checker) (walked : Walked) : Type 0 where
 -- ---- the type behind the forms
 
 -- the forms made it, and 32 is kept
-pub record IsTypeShaped (old new : Checker) (span : Span) (d : Declarator) (fs : List FormAt) (left : Left) (ty : Option ℕ) : Type 0 where
+pub record IsTypeShaped (old new : Checker) (span : Span) (d : Declarator) (fs : List FormAt) (left : Left)
+    (ty : Option ℕ) : Type 0 where
   pub type : option_map (meaning new.types) ty ≡ shaped span fs (type_in old.types left)
   pub middle : Kept
   pub forms : KeepsEach (kept_in old) (codes_by span fs (type_in old.types left)) middle
-  pub large : KeepsCodes middle (mark d.spot d.ordinal) (unless (not (is_large_shape span fs (type_in old.types left))) LargeType) (kept_in new)
+  pub large : KeepsCodes middle (mark d.spot d.ordinal)
+      (unless (not (is_large_shape span fs (type_in old.types left))) LargeType) (kept_in new)
 
 -- behind those that were walked, of a type on the left that is within its bounds
-pub record IsWholeShaped (old new : Checker) (d : Declarator) (walked : Walked) (left : Left) (may_be_absent : Bool) (found : DeclaratorFound) : Type 0 where
+pub record IsWholeShaped (old new : Checker) (d : Declarator) (walked : Walked) (left : Left)
+    (may_be_absent : Bool) (found : DeclaratorFound) : Type 0 where
   pub holds_sizeof : found.holds_sizeof ≡ walked.holds_sizeof
   pub parameters : found.parameters ≡ walked.parameters
-  pub type : (span : Span) → IsIn old span.behind → IsLeft old.types span left → span.may_be_absent ≡ may_be_absent →
+  pub type : (span : Span) → IsIn old span.behind → IsLeft old.types span left →
+      span.may_be_absent ≡ may_be_absent →
       IsTypeShaped old new span d (reverse (forms_in old.types walked.layers.items)) left found.ty
 
 -- its types are in the table, and the structs of its tags are known

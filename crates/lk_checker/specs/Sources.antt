@@ -1,4 +1,5 @@
--- What is told of a source that is checked: what was found of its nodes, what is known behind it, and its first fault (C99 6.9).
+-- What is told of a source that is checked: what was found of its nodes, what is known behind it,
+-- and its first fault (C99 6.9).
 use Rattle.std.specs.Prelude.{ℕ, ◌≡◌, Option, Some, None, List, slice_get}
 use Rattle.std.specs.HashSet.{contains_by}
 use Rattle.lk_base.specs.declared.refusal.Refusal.{Refusal}
@@ -27,11 +28,13 @@ use Rattle.lk_checker.specs.declared.checker.Outside.{Outside}
 
 -- each entry is true of a node of the source
 abbrev pub AreTrue : {V : Type 0} → List Name → Unit → (ℕ → V → Env → Node → Type 0) → List (ℕ × V) → Type 0
-AreTrue {V} externs unit IsTrue entries = (n : ℕ) (v : V) → IsAmong (n, v) entries → IsSoInside (units.at_end externs unit) (units.externals externs unit) (IsTrue n v)
+AreTrue {V} externs unit IsTrue entries = (n : ℕ) (v : V) → IsAmong (n, v) entries →
+    IsSoInside (units.at_end externs unit) (units.externals externs unit) (IsTrue n v)
 
--- the first expressions that speak of names are of the source, and each that speaks of one is recorded or a later one; `spoken_of` gives the name of which an
--- expression speaks
-pub record AreUses (externs : List Name) (unit : Unit) (spoken_of : Env → Expr → Option Declared) (uses : List (ℕ × Use)) : Type 0 where
+-- the first expressions that speak of names are of the source, and each that speaks of one is recorded or a
+-- later one; `spoken_of` gives the name of which an expression speaks
+pub record AreUses (externs : List Name) (unit : Unit) (spoken_of : Env → Expr → Option Declared)
+    (uses : List (ℕ × Use)) : Type 0 where
   pub truth : AreTrue externs unit (IsOfUse spoken_of) uses
   pub each : HasUses spoken_of (units.at_end externs unit) (units.externals externs unit) uses
 
@@ -48,7 +51,8 @@ pub record RecordsOf (externs : List Name) (unit : Unit) (table : Table) (record
 
 -- the functions that the source defines, and the names that --externs lists
 pub record IsOutsideOf (outside : Outside) (externs : List Name) (unit : Unit) : Type 0 where
-  pub defined : (name : Name) → is_one_of (defined_in unit.externals) name ≡ contains_by (is_name name) outside.defined
+  pub defined : (name : Name) →
+      is_one_of (defined_in unit.externals) name ≡ contains_by (is_name name) outside.defined
   pub listed : (name : Name) → is_one_of externs name ≡ contains_by (is_name name) outside.externs
 
 -- what is known behind a source: what is in scope there, with its structs, and what was known before it

@@ -1,4 +1,5 @@
--- The state of the checker in the words of the rules, and what is left behind where a code is kept or an expression is settled.
+-- The state of the checker in the words of the rules, and what is left behind where a code is kept
+-- or an expression is settled.
 use Rattle.std.specs.Prelude.{ℕ, ◌≡◌, Bool, true, Option, Some, None, List, option_map, map}
 use Rattle.std.specs.HashSet.{contains_by}
 use Rattle.lk_types.specs.Building.{IsLonger}
@@ -28,7 +29,8 @@ use Rattle.lk_checker.specs.declared.checker.FaultFound.{FaultFound}
 -- ---- the state in the words of the rules
 
 abbrev pub fault_of : FaultFound → Fault
-fault_of f = record { spot = f.at.spot; ordinal = f.at.ordinal; breach = record { code = f.code; name = f.name } }
+fault_of f =
+    record { spot = f.at.spot; ordinal = f.at.ordinal; breach = record { code = f.code; name = f.name } }
 
 abbrev pub kept_in : Checker → Kept
 kept_in checker = record { least = option_map fault_of checker.least; is_broken = checker.is_broken }
@@ -60,8 +62,10 @@ pub record IsSound (checker : Checker) : Type 0 where
 -- an environment in which a node is walked in this state
 pub record IsIn (checker : Checker) (env : Env) : Type 0 where
   pub scope : env_in checker.types env checker.names ≡ env
-  pub defined : (name : List ℕ) → is_one_of env.outside.defined name ≡ contains_by (is_name name) checker.outside.defined
-  pub externs : (name : List ℕ) → is_one_of env.outside.externs name ≡ contains_by (is_name name) checker.outside.externs
+  pub defined : (name : List ℕ) →
+      is_one_of env.outside.defined name ≡ contains_by (is_name name) checker.outside.defined
+  pub externs : (name : List ℕ) →
+      is_one_of env.outside.externs name ≡ contains_by (is_name name) checker.outside.externs
 
 -- and an expression that stands so
 pub record StandsIn (checker : Checker) (stands : Stands) (env : Env) : Type 0 where
@@ -74,8 +78,10 @@ abbrev pub operand_in : Bool → Stands
 operand_in in_size = record { role = Operand; in_size = in_size }
 
 -- its own codes are kept, all else is as it was, and it is found
-pub record Settles (old new : Checker) (e : Expr) (env behind : Env) (form : JudgedForm) (result : Found) : Type 0 where
-  pub keeps : KeepsCodes (kept_in old) (mark e.spot e.ordinal) (map (breach_at (written e)) (codes_of (rule behind e.ordinal form))) (kept_in new)
+pub record Settles (old new : Checker) (e : Expr) (env behind : Env) (form : JudgedForm)
+    (result : Found) : Type 0 where
+  pub keeps : KeepsCodes (kept_in old) (mark e.spot e.ordinal)
+      (map (breach_at (written e)) (codes_of (rule behind e.ordinal form))) (kept_in new)
   pub types : IsLonger old.types new.types
   pub sound : IsSound new
   pub names : new.names ≡ old.names

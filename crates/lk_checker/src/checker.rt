@@ -49,7 +49,8 @@ impl FaultFound {
     /// Whether a code at a node comes before it: by the place, then the code's number, then the node's.
     fn is_behind(&self, at: At, code: Code) -> bool
         ensures { (name : List ℕ) →
-            result ≡ comes_before (fault_at (mark_at at) (record { code = code; name = name })) (fault_of self.now) }
+            result ≡ comes_before (fault_at (mark_at at) (record { code = code; name = name }))
+            (fault_of self.now) }
     {
         let spot = self.at.spot;
         let by_ordinal = at.ordinal < self.at.ordinal;

@@ -32,7 +32,8 @@ pub struct BegunStruct {
 }
 
 impl Checker {
-    /// The struct that `struct tag {` defines: that of the tag, or one that no tag names where the tag may not stand there.
+    /// The struct that `struct tag {` defines: that of the tag, or one that no tag names where
+    /// the tag may not stand there.
     fn defined_struct(&mut self, tag: Option<&Name>) -> Result<u32, NoMemory>
         requires { IsSound self.old }
         ensures may_begin { IfOk result (λ s. slice_get self.new.names.structs s ≡ Some members.NotYet) }

@@ -14,7 +14,8 @@ use lk_typed::is_complete;
 use lk_types::TypeId;
 
 impl Checker {
-    /// What is asked of a type that may become that of elements: whether it is complete and whether it is faulty, here.
+    /// What is asked of a type that may become that of elements: whether it is complete
+    /// and whether it is faulty, here.
     pub(crate) fn element(&self, t: Option<TypeId>) -> Element
         requires sound { IsSound self.now }
         requires known { IfSome t (IsKnown self.now.types) }

@@ -148,7 +148,8 @@ impl Checker {
         Ok(())
     }
 
-    /// Keeps the codes of an enumerator of this value, none where its expression has no type, and declares it.
+    /// Keeps the codes of an enumerator of this value, none where its expression
+    /// has no type, and declares it.
     pub(crate) fn settle_item(
         &mut self,
         at: At,

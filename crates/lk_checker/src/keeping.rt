@@ -44,7 +44,8 @@ impl Checker {
         Ok(())
     }
 
-    /// Keeps the codes of a member: those of its specifiers, and 30 of a bit-field; none where a width has no type.
+    /// Keeps the codes of a member: those of its specifiers, and 30 of a bit-field;
+    /// none where a width has no type.
     pub fn keep_member(
         &mut self,
         at: At,

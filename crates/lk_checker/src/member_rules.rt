@@ -69,7 +69,8 @@ impl Checker {
         }
     }
 
-    /// Keeps the code of a member's name behind these fields: 21 or 25. The answer says whether there is none.
+    /// Keeps the code of a member's name behind these fields: 21 or 25. The
+    /// answer says whether there is none.
     fn keep_member_name(
         &mut self,
         at: At,
@@ -90,15 +91,18 @@ impl Checker {
         Ok(code.is_none())
     }
 
-    /// Keeps the code of a member's name, where it has one. The answer says whether it has one and there is no code.
+    /// Keeps the code of a member's name, where it has one. The answer says whether it
+    /// has one and there is no code.
     fn keep_name_of(&mut self, d: &Declarator, t: TypeId, before: &Fields) -> Result<bool, NoMemory>
         requires sound { IsSound self.old }
         requires known { IsKnown self.old.types t }
         ensures kept { OnOk result ((env : Env) → IsIn self.old env → KeepsName self.old self.new env
-            (map (field_in self.old.types) before.now) (declarator_found d.now).name (meaning self.old.types t)) }
+            (map (field_in self.old.types) before.now) (declarator_found d.now).name
+            (meaning self.old.types t)) }
         ensures same { OnOk result (IsSame self.old self.new) }
         ensures free { IfOk result (λ free. (env : Env) → IsIn self.old env → free ≡ is_free env
-            (map (field_in self.old.types) before.now) (declarator_found d.now).name (meaning self.old.types t)) }
+            (map (field_in self.old.types) before.now) (declarator_found d.now).name
+            (meaning self.old.types t)) }
     {
         match declared_name(d) {
             Some(named) => {
@@ -109,7 +113,8 @@ impl Checker {
         }
     }
 
-    /// Keeps the code of a struct with one more member: 32. The answer is how large it is, where there is none.
+    /// Keeps the code of a struct with one more member: 32. The answer is how
+    /// large it is, where there is none.
     fn keep_member_size(
         &mut self,
         at: At,
@@ -135,7 +140,8 @@ impl Checker {
         Ok(larger)
     }
 
-    /// How large the struct is with a member of this type, where it may have it as a field. The codes of that are kept.
+    /// How large the struct is with a member of this type, where it may have it as a
+    /// field. The codes of that are kept.
     fn size_with(
         &mut self,
         d: &Declarator,
@@ -211,7 +217,8 @@ impl Checker {
         out.put_sizeof(told.holds_sizeof);
     }
 
-    /// Puts what the declarator of a member declares: a field, or none where it is a bit-field. Its codes are kept.
+    /// Puts what the declarator of a member declares: a field, or none where it is a
+    /// bit-field. Its codes are kept.
     pub fn put_member(
         &mut self,
         d: &Declarator,
@@ -225,7 +232,8 @@ impl Checker {
         ensures same { OnOk result (IsSame self.old self.new) }
         ensures fields { OnOk result (HasFields self.new.types out.new) }
         ensures puts { OnOk result ((behind : Env) (others : MemberTold) → IsIn self.old behind →
-            AreMembers self.old.types out.old others → PutsMember self.old self.new behind is_bit_field others d.now
+            AreMembers self.old.types out.old others →
+            PutsMember self.old self.new behind is_bit_field others d.now
             (option_map (meaning self.old.types) found.now.ty) found.now.holds_sizeof out.new) }
     {
         out.put_sizeof(found.holds_sizeof);

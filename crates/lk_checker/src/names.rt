@@ -82,7 +82,8 @@ impl Checker {
     pub fn settle_word(&mut self, e: &Expr, name: &Name, role: Role) -> Result<Found, NoMemory>
         requires { IsSound self.old }
         ensures { IfOk result (λ found. (env behind : Env) → IsIn self.old env → IsIn self.old behind →
-            role_in self.old.types role ≡ env.role → role_in self.old.types role ≡ behind.role → written e.now ≡ AWord name.now →
+            role_in self.old.types role ≡ env.role → role_in self.old.types role ≡ behind.role →
+            written e.now ≡ AWord name.now →
             Settles self.old self.new e.now env behind (ExprForm-F.Word name.now) found) }
     {
         let (ruled, look) = self.word_said(name, role);

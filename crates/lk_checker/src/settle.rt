@@ -1,5 +1,5 @@
-//! An expression whose parts are judged: the rule of its form is asked, its code is kept, and what is found of it is told
-//! (C99 6.5).
+//! An expression whose parts are judged: the rule of its form is asked, its code is kept, and what is
+//! found of it is told (C99 6.5).
 ghost use Rattle.std.specs.Prelude.{◌≡◌, Option, List, IfOk, OnOk, option_map};
 ghost use Rattle.lk_tree.specs.declared.expression.DeclaratorForm.TheOpen.{ExprForm-F};
 ghost use Rattle.lk_typed.specs.Env.{Env};

@@ -1,5 +1,5 @@
-//! How the structs and tags of a source come into the state of the checker, in its table of types and its names alike
-//! (C99 6.7.2.1, 6.7.2.3).
+//! How the structs and tags of a source come into the state of the checker, in its table of types and its
+//! names alike (C99 6.7.2.1, 6.7.2.3).
 ghost use Rattle.std.specs.Prelude.{◌≡◌, ◌<◌, ◌++◌, ◌∷◌, [], Some, true, false, length, map, All, IfOk, OnOk, slice_get, slice_set};
 ghost use Rattle.std.specs.Option.{option_copied};
 ghost use Rattle.lk_types.specs.Building.{IsPartOfObjects};
@@ -118,10 +118,12 @@ impl Checker {
             (option_copied tag.entry))) }
         ensures begun { OnOk result (KeepsBegun self.old.names.structs self.new.names.structs) }
         ensures may_begin { IfOk result (λ s. (rest : Env) → may_use (env_of self.old rest)
-            (tag_found (env_of self.old rest) (rules_use wanted) (option_copied tag.entry)) DefinesStruct ≡ true →
+            (tag_found (env_of self.old rest) (rules_use wanted) (option_copied tag.entry)) DefinesStruct
+            ≡ true →
             slice_get self.new.names.structs s ≡ Some members.NotYet) }
         ensures means { IfOk result (λ s. (env : Env) → IsIn self.old env → IsMeant self.new env
-            (meant env (tag_found env (rules_use wanted) (option_copied tag.entry)) (option_copied tag.entry)) s) }
+            (meant env (tag_found env (rules_use wanted) (option_copied tag.entry)) (option_copied tag.entry))
+            s) }
     {
         match known_struct(&self.names, wanted, tag) {
             Some(s) => Ok(s),
@@ -162,7 +164,8 @@ impl Checker {
         requires begun { slice_get self.old.names.structs s ≡ Some members.Begun }
         requires some { is_empty fields.items ≡ false }
         requires parts { All (λ field. IsPartOfObjects self.old.types field.ty) fields.items }
-        requires small { is_too_large (fields_size self.old.types (map (λ field. field.ty) fields.items)) ≡ false }
+        requires small { is_too_large (fields_size self.old.types (map (λ field. field.ty) fields.items))
+            ≡ false }
         ensures grows { OnOk result (Grows self.old self.new) }
         ensures structs { OnOk result (self.new.names.structs ≡
             slice_set self.old.names.structs s (members.Known fields.items)) }

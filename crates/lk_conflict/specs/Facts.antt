@@ -9,4 +9,5 @@ use Rattle.lk_sets.specs.Rows.{Rows, has}
 
 -- what races rest on, as the parts say it
 abbrev pub setting_of : Rows → List (Correlation × List ℕ) → LockSets → Setting
-setting_of after items held = record { after = has after; has = has_of items; held = held_table held; locks = locks_of items }
+setting_of after items held =
+    record { after = has after; has = has_of items; held = held_table held; locks = locks_of items }

@@ -20,8 +20,8 @@ pub record IsKindInRange (program : Program) (kind : Kind) : Type 0 where
 abbrev pub HasKind : Program → List ItemAt → Kind → Type 0
 HasKind program items k = (i : ItemAt) × Contains items i × (kind_of program i ≡ k)
 
--- an item of the one kind is of a thread that is started at its point or below, the point of the other is later, and one of
--- the accesses writes
+-- an item of the one kind is of a thread that is started at its point or below, the point of the other is
+-- later, and one of the accesses writes
 abbrev pub may_meet : (ℕ → ℕ → Bool) → Kind → Kind → Bool
 may_meet after a b = a.child && (after a.point b.point && (a.writes || b.writes))
 
@@ -34,7 +34,8 @@ abbrev pub is_in_conflict : (ℕ → ℕ → Bool) → List Kind → Kind → Bo
 is_in_conflict after others k = list_any (are_in_conflict after k) others
 
 -- one of the items is of the kind, and in conflict with another of them
-pub record IsRacingKind (program : Program) (after : ℕ → ℕ → Bool) (items : List ItemAt) (k : Kind) : Type 0 where
+pub record IsRacingKind (program : Program) (after : ℕ → ℕ → Bool) (items : List ItemAt)
+    (k : Kind) : Type 0 where
   pub is : HasKind program items k
   pub other : Kind
   pub has : HasKind program items other

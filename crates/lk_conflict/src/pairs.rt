@@ -71,8 +71,8 @@ impl Grounds<'_> {
         Ok(kinds)
     }
 
-    /// Whether an item of the first kind is of a thread that is started at its point or below, the second one's point is
-    /// later, and one of the accesses writes.
+    /// Whether an item of the first kind is of a thread that is started at its point or below, the second
+    /// one's point is later, and one of the accesses writes.
     fn may_meet(&self, first: Kind, second: Kind) -> bool
         requires first { IsKindInRange self.now.items.now.facts.program first }
         requires second { IsKindInRange self.now.items.now.facts.program second }

@@ -17,8 +17,8 @@ use lk_rise::{Conflicts, Correlation, Correlations, Groups, Items, PointItems, S
 use lk_sets::{BitRows, IdSet};
 use std::alloc::Global;
 
-/// What racing items begin with: the items of all functions that are in conflict, each for its location, with the locks
-/// that are held there.
+/// What racing items begin with: the items of all functions that are in conflict, each for its location, with
+/// the locks that are held there.
 fn begun(
     alloc: Global,
     items: &PointItems<'_>,
@@ -74,13 +74,13 @@ fn racing_lists(
     Ok(racing)
 }
 
-/// The racing items of all functions, with the locks that are held at each, and the racing accesses of `main` for each
-/// location.
+/// The racing items of all functions, with the locks that are held at each, and the racing accesses
+/// of `main` for each location.
 ///
-/// A function's items are in conflict for a location where one is of a thread that was started at a point or below,
-/// the other is of a later point, both may access the location, and one writes. They rise by calls and creations.
-/// The items, lock sets and order are those of the points. A racing access of `main` has the lock places of its lock set
-/// before it is asked which of them are linear.
+/// A function's items are in conflict for a location where one is of a thread that was started at a point or
+/// below, the other is of a later point, both may access the location, and one writes. They rise by calls and
+/// creations. The items, lock sets and order are those of the points. A racing access of `main` has the lock
+/// places of its lock set before it is asked which of them are linear.
 pub fn conflicts(
     alloc: Global,
     facts: &Facts<'_>,

@@ -36,7 +36,10 @@ module _ (program : Program) (s : State) where
 
   -- an element of an array: the array is there, and has it or ends before it (C99 6.3.2.1, 3; 6.5.6, 8)
   abbrev pub element_cause : Option Value → Option ℤ → Option Why
-  element_cause v by = places.followed s v or option_map_or (λ part. move_cause (pointers.into_array (record { part = part; past = false })) by) (places.part_of s v) never
+  element_cause v by =
+      places.followed s v or option_map_or
+      (λ part. move_cause (pointers.into_array (record { part = part; past = false })) by)
+      (places.part_of s v) never
 
   -- an index of an array or a pointer (C99 6.5.2.1)
   abbrev pub index_cause : Bool → Option Value → Option ℤ → Option Why
@@ -45,17 +48,22 @@ module _ (program : Program) (s : State) where
 
   -- a cell is read: what it holds isn't indeterminate (C99 6.3.2.1, 2)
   abbrev pub read_cause : Option Value → Option Why
-  read_cause v = places.followed s v or why.Indeterminate when is_indeterminate (places.value_through program.types s v)
+  read_cause v =
+      places.followed s v or why.Indeterminate when is_indeterminate (places.value_through program.types s v)
 
   -- whether a pointer is what an allocation gave, to an object that lives (C99 7.20.3.2, 2)
   abbrev pub is_start : PointerTo → Bool
-  is_start p = places.lives s p.part.object && not p.past && option_eq is_path (option_and_then roots.start_of (roots.kind_of_object program s p.part.object)) (Some p.part.path)
+  is_start p =
+      places.lives s p.part.object && not p.past
+      && option_eq is_path (option_and_then roots.start_of (roots.kind_of_object program s p.part.object))
+      (Some p.part.path)
 
   -- an object is freed: its life ends, where that is the start of one that was allocated (C99 7.20.3.2)
   abbrev pub free_cause : Option Value → Option Why
   free_cause None = never
   free_cause (Some (Number k n)) = Some why.WrongType
-  free_cause (Some (Pointer p)) = if is_start p then why.OwnedLock when is_owned_in s p.part.object else Some why.BadFree
+  free_cause (Some (Pointer p)) = if is_start p then why.OwnedLock when is_owned_in s p.part.object
+      else Some why.BadFree
   free_cause (Some (Function f)) = Some why.BadFree
   free_cause (Some Null) = never
   free_cause (Some (Id u)) = Some why.WrongType
@@ -75,8 +83,12 @@ module _ (program : Program) (s : State) where
 
   -- an index is applied to its operands, which are used
   abbrev pub index_row : Thread → ℕ → ℕ → Bool → Option Why
-  index_row thread a b into = used (operand thread a) or used (operand thread b) or index_cause into (operand thread a) (operands.number_in (operand thread b))
+  index_row thread a b into =
+      used (operand thread a) or used (operand thread b) or index_cause into (operand thread a)
+      (operands.number_in (operand thread b))
 
   -- a cell is written with a value, which isn't indeterminate; with `raw` it may be
   abbrev pub write_row : Thread → ℕ → ℕ → Bool → Option Why
-  write_row thread a b raw = places.followed s (operand thread a) or roots.constant program s (operand thread a) or (if raw then given (operand thread b) else used (operand thread b))
+  write_row thread a b raw =
+      places.followed s (operand thread a) or roots.constant program s (operand thread a) or
+      (if raw then given (operand thread b) else used (operand thread b))

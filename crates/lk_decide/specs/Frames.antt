@@ -1,4 +1,5 @@
--- Why the end of a frame, the use of a slot or a call through a pointer is undefined (C99 6.2.4, 6.5.2.2, 6.8.6.4).
+-- Why the end of a frame, the use of a slot or a call through a pointer is undefined
+-- (C99 6.2.4, 6.5.2.2, 6.8.6.4).
 use Rattle.std.specs.Prelude.{ℕ, Bool, false, ◌||◌, List, map, Option, None, Some, slice_get}
 use Rattle.std.specs.List.{list_any}
 use Rattle.std.specs.Option.{option_map_or}
@@ -22,7 +23,8 @@ module _ (s : State) where
   abbrev pub is_owned_by : Frame → Bool
   is_owned_by frame = list_any (λ local. is_owned_in local.object) frame.locals
 
-  -- a frame ends with its locals, or all frames of a thread do: no mutex in them is owned (POSIX pthread_mutex_destroy)
+  -- a frame ends with its locals, or all frames of a thread do: no mutex in them is owned
+  -- (POSIX pthread_mutex_destroy)
   abbrev pub own_end : Thread → Option Why
   own_end thread = why.OwnedLock when is_owned_by thread.frame
 

@@ -16,10 +16,13 @@ module _ (program : Program) (s : State) where
 
   -- a mutex is freed by the thread of this number, which owns it
   abbrev pub unlock_row : ℕ → Option Value → Option Why
-  unlock_row t v = places.followed s v or why.NotOwner when is_not_of t (places.mutex_through program.types s v)
+  unlock_row t v =
+      places.followed s v or why.NotOwner when is_not_of t (places.mutex_through program.types s v)
 
   abbrev pub signal_row : Option Value → Option Why
-  signal_row v = places.followed s v or why.NotReady when is_condition_unready (places.condition_through program.types s v)
+  signal_row v =
+      places.followed s v or why.NotReady when is_condition_unready
+      (places.condition_through program.types s v)
 
   -- a mutex that is made ready, or not ready, isn't owned
   abbrev pub init_row : Option Value → Option Why

@@ -22,10 +22,14 @@ module _ (program : Program) (s : State) where
   -- an operator is applied to its operands, or an operand is converted to a type; operands are used
   abbrev pub binary_row : Thread → Op → ℕ → ℕ → Option Why
   binary_row thread op a b =
-      (used (operand thread a) or used (operand thread b)) or cause_of (option_and_then (λ x. option_and_then (computing.binary program.types s op x) (operand thread b)) (operand thread a))
+      (used (operand thread a) or used (operand thread b)) or cause_of
+      (option_and_then (λ x. option_and_then (computing.binary program.types s op x) (operand thread b)) (operand thread a))
 
   abbrev pub convert_row : Thread → ℕ → ℕ → Option Why
-  convert_row thread a ty = used (operand thread a) or cause_of (option_and_then (converting.converted_to program.types s (value_type_at program a) ty) (operand thread a))
+  convert_row thread a ty =
+      used (operand thread a) or cause_of
+      (option_and_then (converting.converted_to program.types s (value_type_at program a) ty) (operand thread a))
 
 abbrev pub unary_row : Thread → UnaryOp → ℕ → Option Why
-unary_row thread op a = used (operand thread a) or cause_of (option_and_then (computing.unary_of op) (operand thread a))
+unary_row thread op a =
+    used (operand thread a) or cause_of (option_and_then (computing.unary_of op) (operand thread a))

@@ -25,7 +25,8 @@ is_text root.Argv = false
 is_text root.Args = false
 is_text root.Function = false
 
--- where the pointer that an allocation gives leads to in its object: to the object itself, or to the first of several (C99 7.20.3)
+-- where the pointer that an allocation gives leads to in its object: to the object itself, or to the
+-- first of several (C99 7.20.3)
 abbrev pub start_of : RootKind → Option (List CellStep)
 start_of root.Global = None
 start_of root.Static = None

@@ -12,9 +12,11 @@ use Rattle.lk_values.specs.declared.why.Why.TheVariants as why
 module _ (s : State) where
   -- whether a thread that is there was neither joined nor detached
   abbrev pub may_be_joined : ℕ → Bool
-  may_be_joined u = option_map_or (λ other. not (other.joined || other.detached)) (slice_get s.threads u) false
+  may_be_joined u =
+      option_map_or (λ other. not (other.joined || other.detached)) (slice_get s.threads u) false
 
--- a thread id is joined or detached, where the test tells which threads may be (POSIX pthread_join, pthread_detach)
+-- a thread id is joined or detached, where the test tells which threads may be (POSIX
+-- pthread_join, pthread_detach)
 abbrev pub id_cause : (ℕ → Bool) → Option Value → Option Why
 id_cause may None = never
 id_cause may (Some (Number k n)) = Some why.WrongType

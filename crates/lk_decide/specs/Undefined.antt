@@ -1,5 +1,5 @@
--- Why the step of an action is undefined: for each action the causes that may hold, of which the first in the order of `Why` is
--- answered (C99 3.4.3, J.2; the POSIX pages of the functions).
+-- Why the step of an action is undefined: for each action the causes that may hold, of which the first in the
+-- order of `Why` is answered (C99 3.4.3, J.2; the POSIX pages of the functions).
 use Rattle.std.specs.Prelude.{ℕ, map, Option, None, Some}
 use Rattle.lk_facts.specs.declared.action.Action.{Action}
 use Rattle.lk_facts.specs.declared.action.Action.TheVariants as does

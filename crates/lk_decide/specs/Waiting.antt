@@ -12,7 +12,9 @@ use Rattle.lk_cells.specs.Places.{is_taken}
 
 -- the thread of an id hasn't ended
 abbrev pub is_running : State → Thread → ℕ → Bool
-is_running s thread a = option_map_or (λ other. not other.ended) (option_and_then (slice_get s.threads) (option_and_then (λ id. id) (id_in (operand thread a)))) false
+is_running s thread a =
+    option_map_or (λ other. not other.ended)
+    (option_and_then (slice_get s.threads) (option_and_then (λ id. id) (id_in (operand thread a)))) false
 
 -- A thread of the state s performs an action that no cause makes undefined.
 module _ (program : Program) (s : State) (thread : Thread) where

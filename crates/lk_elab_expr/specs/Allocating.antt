@@ -33,9 +33,11 @@ abbrev pub IsBySizeof : Ty → InPlace → Count → Type 0
 IsBySizeof element p count.One = IsSizeof p element
 IsBySizeof element p count.Whole = ⊥
 IsBySizeof element p count.Left =
-    (n : InPlace) × (s : InPlace) × (form_of p ≡ ExprForm-F.Binary binary.Multiply n s) × IsSizeof s element × (holds_sizeof n ≡ false)
+    (n : InPlace) × (s : InPlace) × (form_of p ≡ ExprForm-F.Binary binary.Multiply n s) × IsSizeof s element
+    × (holds_sizeof n ≡ false)
 IsBySizeof element p count.Right =
-    (s : InPlace) × (n : InPlace) × (form_of p ≡ ExprForm-F.Binary binary.Multiply s n) × IsSizeof s element × (holds_sizeof n ≡ false)
+    (s : InPlace) × (n : InPlace) × (form_of p ≡ ExprForm-F.Binary binary.Multiply s n) × IsSizeof s element
+    × (holds_sizeof n ≡ false)
 
 -- or it counts bytes, of a call that stands as this
 abbrev pub IsSizeOf : Ty → env.Role → InPlace → Count → Type 0
@@ -47,12 +49,14 @@ IsSizeOf element r p count.Right = IsBySizeof element p count.Right
 -- a sizeof beside what holds none
 abbrev pub CountsBeside : Elaborator → Expr → Expr → Option ExprType → Type 0
 CountsBeside walk size other counted =
-    (at_end : Env) (s n : InPlace) → s.1 ≡ size → n.1 ≡ other → IsToldOf at_end walk s → IsToldOf at_end walk n →
+    (at_end : Env) (s n : InPlace) → s.1 ≡ size → n.1 ≡ other → IsToldOf at_end walk s →
+    IsToldOf at_end walk n →
     IfSome counted (λ ty. IsSizeof s (meaning_of walk.types ty) × (holds_sizeof n ≡ false))
 
 abbrev pub IsProductBy : Elaborator → BinaryOperator → Expr → Expr → Option Size → Type 0
 IsProductBy walk o left right size =
-    (at_end : Env) (p l r : InPlace) → form_of p ≡ ExprForm-F.Binary o l r → l.1 ≡ left → r.1 ≡ right → IsToldOf at_end walk l → IsToldOf at_end walk r →
+    (at_end : Env) (p l r : InPlace) → form_of p ≡ ExprForm-F.Binary o l r → l.1 ≡ left → r.1 ≡ right →
+    IsToldOf at_end walk l → IsToldOf at_end walk r →
     IfSome size (λ size. IsBySizeof (meaning_of walk.types size.element) p size.count)
 
 abbrev pub IsProduct : Elaborator → Expr → Expr → Option Size → Type 0
@@ -60,18 +64,22 @@ IsProduct walk left right size = IsProductBy walk binary.Multiply left right siz
 
 abbrev pub CountsBySizeof : Elaborator → Expr → Option Size → Type 0
 CountsBySizeof walk e size =
-    (at_end : Env) (p : InPlace) → p.1 ≡ e → IsToldOf at_end walk p → IfSome size (λ size. IsBySizeof (meaning_of walk.types size.element) p size.count)
+    (at_end : Env) (p : InPlace) → p.1 ≡ e → IsToldOf at_end walk p →
+    IfSome size (λ size. IsBySizeof (meaning_of walk.types size.element) p size.count)
 
 abbrev pub IsByteBehind : Elaborator → Role → ExprType → Type 0
-IsByteBehind walk role ty = (r : env.Role) → StandsAs walk.types role r → r ≡ env.ConvertedTo (Pointer (meaning_of walk.types ty))
+IsByteBehind walk role ty = (r : env.Role) → StandsAs walk.types role r →
+    r ≡ env.ConvertedTo (Pointer (meaning_of walk.types ty))
 
 abbrev pub SaysSize : Elaborator → Expr → Role → Size → Type 0
 SaysSize walk e role size =
-    (at_end : Env) (p : InPlace) → p.1 ≡ e → IsToldOf at_end walk p → (r : env.Role) → StandsAs walk.types role r → IsSizeOf (meaning_of walk.types size.element) r p size.count
+    (at_end : Env) (p : InPlace) → p.1 ≡ e → IsToldOf at_end walk p → (r : env.Role) →
+    StandsAs walk.types role r → IsSizeOf (meaning_of walk.types size.element) r p size.count
 
 -- the number of the type whose bytes a sizeof counts
 abbrev pub IsElement : Elaborator → Elaborator → Expr → ℕ → Type 0
-IsElement old new size t = (at_end : Env) (s : InPlace) → s.1 ≡ size → IsToldOf at_end old s → IsSizeof s (meaning new.types t)
+IsElement old new size t = (at_end : Env) (s : InPlace) → s.1 ≡ size → IsToldOf at_end old s →
+    IsSizeof s (meaning new.types t)
 
 -- ---- the allocation
 
@@ -82,7 +90,9 @@ allocating true = codes "calloc"
 -- the arguments of a call that stands as this
 abbrev pub AreSizes : Bool → Ty → env.Role → Count → List InPlace → Type 0
 AreSizes false element r by ps = (size : InPlace) × (ps ≡ size ∷ []) × IsSizeOf element r size by
-AreSizes true element r by ps = (whole : InPlace) × (size : InPlace) × (ps ≡ whole ∷ size ∷ []) × IsSizeof size element × (by ≡ count.Whole)
+AreSizes true element r by ps =
+    (whole : InPlace) × (size : InPlace) × (ps ≡ whole ∷ size ∷ []) × IsSizeof size element
+    × (by ≡ count.Whole)
 
 pub record IsAllocation (table : Table) (r : env.Role) (ps : List InPlace) (a : Allocation) : Type 0 where
   pub element : Ty
@@ -92,12 +102,14 @@ pub record IsAllocation (table : Table) (r : env.Role) (ps : List InPlace) (a : 
 
 abbrev pub SizesAllocation : Elaborator → Elaborator → List Expr → Role → Allocation → Type 0
 SizesAllocation old new arguments role a =
-    (at_end : Env) (p f : InPlace) (ps : List InPlace) → IsToldCall at_end old p f ps arguments → StandsAs old.types role p.0.role → IsAllocation new.types p.0.role ps a
+    (at_end : Env) (p f : InPlace) (ps : List InPlace) → IsToldCall at_end old p f ps arguments →
+    StandsAs old.types role p.0.role → IsAllocation new.types p.0.role ps a
 
 -- whatever the call stands as
 abbrev pub SizesZeroed : Elaborator → Elaborator → List Expr → Allocation → Type 0
 SizesZeroed old new arguments a =
-    (at_end : Env) (p f : InPlace) (ps : List InPlace) → IsToldCall at_end old p f ps arguments → IsAllocation new.types p.0.role ps a
+    (at_end : Env) (p f : InPlace) (ps : List InPlace) → IsToldCall at_end old p f ps arguments →
+    IsAllocation new.types p.0.role ps a
 
 -- a call of an allocating function
 pub record IsAllocating (table : Table) (p f : InPlace) (ps : List InPlace) (a : Allocation) : Type 0 where
@@ -113,24 +125,30 @@ Counts tables folded p c = (a : TypedExpr) × (c ≡ Some a) × IsConverted tabl
 
 abbrev pub CountsAll : Elaborator → Elaborator → Expr → Bool → Option TypedExpr → Type 0
 CountsAll old new e folded c =
-    (at_end : Env) (p : InPlace) → p.1 ≡ e → IsToldOf at_end old p → (tables : Tables) → Leads new tables → Counts tables folded p c
+    (at_end : Env) (p : InPlace) → p.1 ≡ e → IsToldOf at_end old p → (tables : Tables) → Leads new tables →
+    Counts tables folded p c
 
 abbrev pub CountsFactor : Elaborator → Elaborator → Expr → Bool → Bool → Option TypedExpr → Type 0
 CountsFactor old new e is_left folded c =
-    (at_end : Env) (p l r : InPlace) (o : BinaryOperator) → p.1 ≡ e → IsToldOf at_end old p → form_of p ≡ ExprForm-F.Binary o l r → (tables : Tables) → Leads new tables →
+    (at_end : Env) (p l r : InPlace) (o : BinaryOperator) → p.1 ≡ e → IsToldOf at_end old p →
+    form_of p ≡ ExprForm-F.Binary o l r → (tables : Tables) → Leads new tables →
     Counts tables folded (if is_left then l else r) c
 
 abbrev pub AreCounted : Tables → Bool → InPlace → Count → Option TypedExpr → Type 0
 AreCounted tables folded p count.One c = c ≡ None
 AreCounted tables folded p count.Whole c = Counts tables folded p c
-AreCounted tables folded p count.Left c = (l r : InPlace) (o : BinaryOperator) → form_of p ≡ ExprForm-F.Binary o l r → Counts tables folded l c
-AreCounted tables folded p count.Right c = (l r : InPlace) (o : BinaryOperator) → form_of p ≡ ExprForm-F.Binary o l r → Counts tables folded r c
+AreCounted tables folded p count.Left c = (l r : InPlace) (o : BinaryOperator) →
+    form_of p ≡ ExprForm-F.Binary o l r → Counts tables folded l c
+AreCounted tables folded p count.Right c = (l r : InPlace) (o : BinaryOperator) →
+    form_of p ≡ ExprForm-F.Binary o l r → Counts tables folded r c
 
 abbrev pub CountsElements : Elaborator → Elaborator → Expr → Count → Bool → Option TypedExpr → Type 0
 CountsElements old new e by folded c =
-    (at_end : Env) (p : InPlace) → p.1 ≡ e → IsToldOf at_end old p → (tables : Tables) → Leads new tables → AreCounted tables folded p by c
+    (at_end : Env) (p : InPlace) → p.1 ≡ e → IsToldOf at_end old p → (tables : Tables) → Leads new tables →
+    AreCounted tables folded p by c
 
 abbrev pub FormsAllocation : Elaborator → Elaborator → Allocation → List Expr → Bool → TypedForm → Type 0
 FormsAllocation old new a arguments folded form =
-    (at_end : Env) (p f : InPlace) (ps : List InPlace) → IsToldCall at_end old p f ps arguments → IsAllocating old.types p f ps a → (tables : Tables) → Leads new tables →
+    (at_end : Env) (p f : InPlace) (ps : List InPlace) → IsToldCall at_end old p f ps arguments →
+    IsAllocating old.types p f ps a → (tables : Tables) → Leads new tables →
     IsFormOf tables folded p (out-TypedForm form)

@@ -19,7 +19,8 @@ pub record IsWordIn (walk : Elaborator) (f : InPlace) (name : Name) (n : ℕ) : 
   pub true_of : IsTrueOf walk word
 
 abbrev pub HasWord : Expr → Name → ℕ → Type 0
-HasWord e name n = (at_end : Env) (walk : Elaborator) (f : InPlace) → f.1 ≡ e → IsToldOf at_end walk f → IsWordIn walk f name n
+HasWord e name n = (at_end : Env) (walk : Elaborator) (f : InPlace) → f.1 ≡ e → IsToldOf at_end walk f →
+    IsWordIn walk f name n
 
 -- the expression with this number is the name that the other one is, perhaps with parentheses and & round it
 pub record IsRoutineIn (walk : Elaborator) (p : InPlace) (n : ℕ) : Type 0 where
@@ -29,7 +30,8 @@ pub record IsRoutineIn (walk : Elaborator) (p : InPlace) (n : ℕ) : Type 0 wher
   pub true_of : IsTrueOf walk word
 
 abbrev pub HasRoutine : Expr → ℕ → Type 0
-HasRoutine e n = (at_end : Env) (walk : Elaborator) (p : InPlace) → p.1 ≡ e → IsToldOf at_end walk p → IsRoutineIn walk p n
+HasRoutine e n = (at_end : Env) (walk : Elaborator) (p : InPlace) → p.1 ≡ e → IsToldOf at_end walk p →
+    IsRoutineIn walk p n
 
 -- the entity for which an expression stands that is a name
 abbrev pub IsEntityOf : Elaborator → InPlace → ℕ → Type 0

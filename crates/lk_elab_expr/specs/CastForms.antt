@@ -20,4 +20,5 @@ casting false false = how.Convert
 -- of each cast whose type name has this number and what was found of it is true
 abbrev pub DecidesCast : Elaborator → Elaborator → (name operand : ℕ) → One → Type 0
 DecidesCast old new name operand one =
-    (n : Env × TypeName) → (out-TypeName n.1).ordinal ≡ name → IsTrueOfName old n → DecidesOne old new operand (λ p i. form_of p ≡ ExprForm-F.Cast n i) one
+    (n : Env × TypeName) → (out-TypeName n.1).ordinal ≡ name → IsTrueOfName old n →
+    DecidesOne old new operand (λ p i. form_of p ≡ ExprForm-F.Cast n i) one

@@ -1,4 +1,5 @@
--- What is decided of an expression of a form by the numbers of its operands, where what was found of these and of it is true.
+-- What is decided of an expression of a form by the numbers of its operands, where what was
+-- found of these and of it is true.
 use Rattle.std.specs.Prelude.{ℕ, ◌≡◌, Bool, true, false, Some}
 use Rattle.lk_tree.specs.declared.expression.DeclaratorForm.TheOpen.{ExprForm-F}
 use Rattle.lk_tree.specs.declared.operators.StepOperator.{StepOperator}
@@ -30,19 +31,23 @@ use Rattle.lk_elab_expr.specs.declared.operators.Operands.{Operands}
 -- of each expression of the form with an operand that has this number
 abbrev pub DecidesOne : Elaborator → Elaborator → ℕ → (InPlace → InPlace → Type 0) → One → Type 0
 DecidesOne old new n HasForm one =
-    (p i : InPlace) → HasForm p i → i.1.ordinal ≡ n → IsTrueOf old p → IsTrueOf old i → (tables : Tables) → Leads new tables → (folded : Bool) →
+    (p i : InPlace) → HasForm p i → i.1.ordinal ≡ n → IsTrueOf old p → IsTrueOf old i → (tables : Tables) →
+    Leads new tables → (folded : Bool) →
     IsOne new.types tables folded p i one
 
 -- with two operands that have these numbers
-abbrev pub DecidesTwo : Elaborator → Elaborator → ℕ → ℕ → Bool → (InPlace → InPlace → InPlace → Type 0) → Two → Type 0
+abbrev pub DecidesTwo : Elaborator → Elaborator → ℕ → ℕ → Bool →
+    (InPlace → InPlace → InPlace → Type 0) → Two → Type 0
 DecidesTwo old new n m folded HasForm two =
-    (p l r : InPlace) → HasForm p l r → l.1.ordinal ≡ n → r.1.ordinal ≡ m → IsTrueOf old p → IsTrueOf old l → IsTrueOf old r →
+    (p l r : InPlace) → HasForm p l r → l.1.ordinal ≡ n → r.1.ordinal ≡ m → IsTrueOf old p →
+    IsTrueOf old l → IsTrueOf old r →
     (tables : Tables) → Leads new tables → IsTwo new.types tables folded p l r two
 
 -- the operands of `?:`
 abbrev pub DecidesThree : Elaborator → Elaborator → (p c l r : InPlace) → Three → Type 0
 DecidesThree old new p c l r three =
-    IsTrueOf old p → IsTrueOf old c → IsTrueOf old l → IsTrueOf old r → (tables : Tables) → Leads new tables → (folded : Bool) →
+    IsTrueOf old p → IsTrueOf old c → IsTrueOf old l → IsTrueOf old r → (tables : Tables) →
+    Leads new tables → (folded : Bool) →
     IsThree new.types tables folded p c l r three
 
 -- ---- operators between two operands
@@ -52,8 +57,10 @@ pub record AreValues (old new : Elaborator) (n m : ℕ) (form : TwoForm) (two : 
   pub form_is : two.form ≡ form
   pub left_role : StandsAnyhow two.left
   pub right_role : StandsAnyhow two.right
-  pub left : OfEach old n (λ p. (tables : Tables) → Leads new tables → (folded : Bool) (t : TypedExpr) → IsPart tables folded p two.left t → IsValue tables folded p t)
-  pub right : OfEach old m (λ p. (tables : Tables) → Leads new tables → (folded : Bool) (t : TypedExpr) → IsPart tables folded p two.right t → IsValue tables folded p t)
+  pub left : OfEach old n (λ p. (tables : Tables) → Leads new tables → (folded : Bool) (t : TypedExpr) →
+      IsPart tables folded p two.left t → IsValue tables folded p t)
+  pub right : OfEach old m (λ p. (tables : Tables) → Leads new tables → (folded : Bool) (t : TypedExpr) →
+      IsPart tables folded p two.right t → IsValue tables folded p t)
 
 -- && and ||
 abbrev pub decided_by : BinaryRow → TwoForm
@@ -67,7 +74,8 @@ decided_by (Order o) = of_two.And
 decided_by (Equality o) = of_two.And
 
 -- how two operands are converted
-pub record AreOperandsOf (table : Table) (row : BinaryRow) (l r : InPlace) (operands : Operands) : Type 0 where
+pub record AreOperandsOf (table : Table) (row : BinaryRow) (l r : InPlace)
+    (operands : Operands) : Type 0 where
   pub left : Typing
   pub right : Typing
   pub left_found : typing_at l ≡ Some left
@@ -77,7 +85,8 @@ pub record AreOperandsOf (table : Table) (row : BinaryRow) (l r : InPlace) (oper
 
 abbrev pub FindsOperands : Elaborator → BinaryRow → ℕ → ℕ → Operands → Type 0
 FindsOperands walk row n m operands =
-    (l r : InPlace) → l.1.ordinal ≡ n → r.1.ordinal ≡ m → IsTrueOf walk l → IsTrueOf walk r → AreOperandsOf walk.types row l r operands
+    (l r : InPlace) → l.1.ordinal ≡ n → r.1.ordinal ≡ m → IsTrueOf walk l → IsTrueOf walk r →
+    AreOperandsOf walk.types row l r operands
 
 -- ---- ++ and --
 

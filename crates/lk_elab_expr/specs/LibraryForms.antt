@@ -104,5 +104,7 @@ pub record IsOfTwo (value : TwoValues) (arguments : List TypedExpr) (call : Open
 
 -- a call of the function
 pub data IsCallOf : LibraryFunction → List TypedExpr → OpenLibraryCall → Type 0 where
-  listed : {function : LibraryFunction} {arguments : List TypedExpr} {call : OpenLibraryCall} → IsCallBy (spelling function) arguments call → IsCallOf function arguments call
-  print : {function : LibraryFunction} {arguments : List TypedExpr} {call : OpenLibraryCall} → function ≡ f.Printf → IsPrint arguments call → IsCallOf function arguments call
+  listed : {function : LibraryFunction} {arguments : List TypedExpr} {call : OpenLibraryCall} →
+      IsCallBy (spelling function) arguments call → IsCallOf function arguments call
+  print : {function : LibraryFunction} {arguments : List TypedExpr} {call : OpenLibraryCall} →
+      function ≡ f.Printf → IsPrint arguments call → IsCallOf function arguments call

@@ -17,7 +17,8 @@ use Rattle.lk_elaborator.specs.declared.entities.NamedEntity.{NamedEntity}
 
 module _ (externs : List Name) (unit : Unit) where
   -- the name is that which a node declares
-  pub record IsNameOf (types : List CType) (bodies : List Body) (env : Env) (node : Node) (n : NameDeclared) (named : NamedEntity) : Type 0 where
+  pub record IsNameOf (types : List CType) (bodies : List Body) (env : Env) (node : Node) (n : NameDeclared)
+      (named : NamedEntity) : Type 0 where
     pub name : named.name ≡ n.is.name
     pub linkage : named.linkage ≡ n.is.linkage
     pub kind : entity_kind n.is.meaning ≡ Some named.kind
@@ -26,8 +27,11 @@ module _ (externs : List Name) (unit : Unit) where
 
   -- they are the names of entities that the source declares, in the order of their numbers
   pub record AreNamesOf (types : List CType) (bodies : List Body) (ns : List NamedEntity) : Type 0 where
-    pub all : (env : Env) (node : Node) (n : NameDeclared) → IsEntityName externs unit env node n → (named : NamedEntity) × Contains ns named × IsNameOf types bodies env node n named
-    pub none_else : (named : NamedEntity) → Contains ns named → (env : Env) × (node : Node) × (n : NameDeclared) × IsEntityName externs unit env node n × IsNameOf types bodies env node n named
+    pub all : (env : Env) (node : Node) (n : NameDeclared) → IsEntityName externs unit env node n →
+        (named : NamedEntity) × Contains ns named × IsNameOf types bodies env node n named
+    pub none_else : (named : NamedEntity) → Contains ns named →
+        (env : Env) × (node : Node) × (n : NameDeclared) × IsEntityName externs unit env node n
+        × IsNameOf types bodies env node n named
     pub rise : Rise ns
 
   -- a name stands as an expression, for what the node with this number declares
@@ -45,5 +49,7 @@ module _ (externs : List Name) (unit : Unit) where
 
   -- of each declaring node with a use the first one is recorded
   pub record AreFirstUses (uses : List (ℕ × Use)) : Type 0 where
-    pub truth : (declaring : ℕ) (use_ : Use) → lookup (nat_eq declaring) uses ≡ Some use_ → IsUseAt declaring use_
-    pub each : (declaring : ℕ) (other : Use) → IsUseAt declaring other → (use_ : Use) × (lookup (nat_eq declaring) uses ≡ Some use_) × (use_.ordinal ≤ other.ordinal)
+    pub truth : (declaring : ℕ) (use_ : Use) → lookup (nat_eq declaring) uses ≡ Some use_ →
+        IsUseAt declaring use_
+    pub each : (declaring : ℕ) (other : Use) → IsUseAt declaring other →
+        (use_ : Use) × (lookup (nat_eq declaring) uses ≡ Some use_) × (use_.ordinal ≤ other.ordinal)

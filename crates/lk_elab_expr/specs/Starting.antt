@@ -16,7 +16,8 @@ pub record IsStarted (walk : Elaborator) (p : InPlace) (e : ℕ) : Type 0 where
   pub entity : entity_by walk declared.ordinal ≡ Some e
 
 abbrev pub StartsRoutine : Elaborator → Expr → ℕ → Type 0
-StartsRoutine walk routine e = (at_end : Env) (p : InPlace) → p.1 ≡ routine → IsToldOf at_end walk p → IsStarted walk p e
+StartsRoutine walk routine e = (at_end : Env) (p : InPlace) → p.1 ≡ routine → IsToldOf at_end walk p →
+    IsStarted walk p e
 
 -- the third of four arguments is
 pub record StartsAt (walk : Elaborator) (ps : List InPlace) (e : ℕ) : Type 0 where
@@ -28,4 +29,5 @@ pub record StartsAt (walk : Elaborator) (ps : List InPlace) (e : ℕ) : Type 0 w
   pub starts : IsStarted walk routine e
 
 abbrev pub FindsRoutine : Elaborator → List Expr → ℕ → Type 0
-FindsRoutine walk arguments e = (at_end : Env) (p f : InPlace) (ps : List InPlace) → IsToldCall at_end walk p f ps arguments → StartsAt walk ps e
+FindsRoutine walk arguments e = (at_end : Env) (p f : InPlace) (ps : List InPlace) →
+    IsToldCall at_end walk p f ps arguments → StartsAt walk ps e

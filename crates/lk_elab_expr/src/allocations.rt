@@ -168,7 +168,8 @@ fn byte_behind(walk: &Elaborator, role: Role) -> Result<ExprType, NoMemory>
     }
 }
 
-/// What the size of an allocation says that is so many bytes, by a call that stands as this. No `sizeof` stands in it.
+/// What the size of an allocation says that is so many bytes, by a call that stands as
+/// this. No `sizeof` stands in it.
 fn bytes(walk: &Elaborator, e: &Expr, role: Role) -> Result<Size, NoMemory>
     ensures { IfOk result (SaysSize walk.now e.now role) }
 {

@@ -30,7 +30,8 @@ fn passing_at(walk: &Elaborator, function: u32, index: usize) -> Result<Option<P
     Ok(passing(walk.types.table(), &function, index))
 }
 
-/// No parameter of the function with a number is without an argument, where there are so many (C99 6.5.2.2, 2).
+/// No parameter of the function with a number is without an argument, where there
+/// are so many (C99 6.5.2.2, 2).
 fn none_wanting(walk: &Elaborator, function: u32, count: usize) -> Result<(), NoMemory>
     ensures { OnOk result (OfEach walk.now function (λ f. WantsNone f count)) }
 {
@@ -52,8 +53,8 @@ fn further(walk: &mut Elaborator, argument: u32) -> Result<Part, NoMemory>
     Ok(part)
 }
 
-/// What stands for the argument with a number, which is passed to its parameter so, where it computes something. It is
-/// converted to that (C99 6.5.2.2, 7). The size of an allocation is none here.
+/// What stands for the argument with a number, which is passed to its parameter so, where it computes
+/// something. It is converted to that (C99 6.5.2.2, 7). The size of an allocation is none here.
 fn passed_to(walk: &mut Elaborator, pass: Passing, argument: u32) -> Result<Option<Part>, NoMemory>
     ensures passes { IfOk result (PassesAs walk.old walk.new (Some pass) argument) }
     ensures grows { OnOk result (Grows walk.old walk.new) }
@@ -86,8 +87,8 @@ fn passed_as(
     }
 }
 
-/// What stands for the argument with an index and a number of the function with that number, where it computes
-/// something.
+/// What stands for the argument with an index and a number of the function with that number,
+/// where it computes something.
 fn argument_part(
     walk: &mut Elaborator,
     function: u32,
@@ -148,7 +149,8 @@ fn put_argument(
     }
 }
 
-/// Those arguments of the function with a number that compute something, in the order of the text (`ArePassed`).
+/// Those arguments of the function with a number that compute something, in the
+/// order of the text (`ArePassed`).
 #[cycle(walk)]
 pub(crate) fn passed_arguments(
     walk: &mut Elaborator,

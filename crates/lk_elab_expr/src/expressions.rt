@@ -239,8 +239,8 @@ pub(crate) fn expression_in(
     Ok(node_of(e, ty, form))
 }
 
-/// An expression itself that nothing converts directly (`IsTyped`). `folded` says that it stands in an address constant
-/// (C99 6.6, 9).
+/// An expression itself that nothing converts directly (`IsTyped`). `folded` says that it stands in an
+/// address constant (C99 6.6, 9).
 pub fn expression(walk: &mut Elaborator, e: &Expr, folded: bool) -> Result<TypedExpr, NoMemory>
     ensures made { IfOk result (Elaborates walk.old walk.new e.now folded) }
     ensures grows { OnOk result (Grows walk.old walk.new) }
@@ -248,8 +248,8 @@ pub fn expression(walk: &mut Elaborator, e: &Expr, folded: bool) -> Result<Typed
     expression_in(walk, e, Way::operand(folded))
 }
 
-/// A value that is converted to a type directly, as an initialiser or a result is (`IsConverted`). `folded` says that it
-/// stands in an address constant.
+/// A value that is converted to a type directly, as an initialiser or a result is (`IsConverted`). `folded`
+/// says that it stands in an address constant.
 pub fn given_value(
     walk: &mut Elaborator,
     e: &Expr,

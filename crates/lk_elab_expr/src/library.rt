@@ -1,4 +1,5 @@
-//! Calls of the library, by those of their arguments that compute something (POSIX, `pthread.h`; C99 7.19, 7.20).
+//! Calls of the library, by those of their arguments that compute something (POSIX,
+//! `pthread.h`; C99 7.19, 7.20).
 ghost use Rattle.std.specs.Prelude.{◌≡◌, ◌++◌, [], ◌∷◌, IfOk, IfSome, OnOk};
 ghost use Rattle.lk_typed.specs.declared.library.LibraryCall.{out-LibraryCall};
 ghost use Rattle.lk_check_expr.specs.Looks.{is_address};

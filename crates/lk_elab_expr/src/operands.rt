@@ -1,4 +1,5 @@
-//! Which types the operands of an operator are converted to before it computes (C99 6.3.1.1, 6.3.1.8, 6.5.3.3 to 6.5.14).
+//! Which types the operands of an operator are converted to before it computes
+//! (C99 6.3.1.1, 6.3.1.8, 6.5.3.3 to 6.5.14).
 ghost use Rattle.std.specs.Prelude.{◌≡◌};
 ghost use Rattle.lk_types.specs.Table.{Table};
 ghost use Rattle.lk_typed.specs.Meaning.{IsKnownType, IsReady, meaning_of};

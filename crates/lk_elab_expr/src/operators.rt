@@ -207,7 +207,8 @@ pub(crate) fn comma(walk: &mut Elaborator, left: u32, right: u32) -> Result<Two,
     by_values(walk, TwoForm::Comma, left, right)
 }
 
-/// The operands with these numbers of `?:` with that number (C99 6.5.15, 5 and 6): both arms are converted to its type.
+/// The operands with these numbers of `?:` with that number (C99 6.5.15, 5 and 6): both
+/// arms are converted to its type.
 pub(crate) fn choice(
     walk: &mut Elaborator,
     ordinal: u32,

@@ -16,8 +16,8 @@ use lk_elaborator::{Elaborator, constant_at, nowhere, type_named_at, typing_at};
 use lk_tree::{Expr, ExprForm};
 use lk_typed::{Constant, ExprType, TypedForm};
 
-/// The `sizeof` with a number: how many bytes it counts. It is a constant but in the size of an allocation, which isn't
-/// computed.
+/// The `sizeof` with a number: how many bytes it counts. It is a constant but in the size of an
+/// allocation, which isn't computed.
 pub(crate) fn size(walk: &Elaborator, ordinal: u32) -> Result<TypedForm, NoMemory>
     ensures { IfOk result (λ form. OfEach walk.now ordinal (λ p. IsSizeofForm (form_of p) →
         (tables : Tables) (folded : Bool) → IsFormOf tables folded p (out-TypedForm form))) }

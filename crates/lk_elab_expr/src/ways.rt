@@ -4,8 +4,8 @@ ghost use Rattle.lk_typed.specs.declared.role.Role.TheVariants.{Operand};
 
 use lk_typed::Role;
 
-/// How an expression stands: as what, and whether in an address constant (C99 6.6, 9), where each integer constant
-/// expression that a pointer moves by is a number.
+/// How an expression stands: as what, and whether in an address constant (C99 6.6, 9), where each integer
+/// constant expression that a pointer moves by is a number.
 #[derive(Clone, Copy)]
 pub(crate) struct Way {
     pub(crate) role: Role,

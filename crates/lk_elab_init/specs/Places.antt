@@ -47,7 +47,8 @@ next_cell (turn ∷ way) (step ∷ cell) = next_behind turn step way (next_cell 
 pub data Walks (way : List Turn) : Path → List Path → Option Path → Type 0 where
   stops : {cell : Path} {named : List Path} → Walks way cell named (Some cell)
   is_last : {cell : Path} {named : List Path} → next_cell way cell ≡ None → Walks way cell (cell ∷ named) None
-  goes_on : {cell next : Path} {named : List Path} {result : Option Path} → next_cell way cell ≡ Some next → Walks way next named result → Walks way cell (cell ∷ named) result
+  goes_on : {cell next : Path} {named : List Path} {result : Option Path} → next_cell way cell ≡ Some next →
+      Walks way next named result → Walks way cell (cell ∷ named) result
 
 pub record IsFirstAbsent (way : List Turn) (named : List Path) (result : Option Path) : Type 0 where
   pub walks : Walks way (first_cell way) named result
@@ -65,15 +66,21 @@ module _ (fields : ℕ → List Ty) (named : List Path) where
   mutual
     -- those of a part of this type, to which the way leads
     pub data ArePut : List Turn → Ty → List AbsentCells → Type 0 where
-      a_scalar : {way : List Turn} {t : Ty} {absent : List AbsentCells} → is_scalar t ≡ true → IsPlacePut named way absent → ArePut way t absent
-      a_lock : {way : List Turn} {t : Ty} {absent : List AbsentCells} → is_lock t ≡ true → IsPlacePut named way absent → ArePut way t absent
-      an_array : {way : List Turn} {t : Ty} {n : ℕ} {absent : List AbsentCells} → 0 < n → ArePut (way ++ Element n ∷ []) t absent → ArePut way (Array t n) absent
+      a_scalar : {way : List Turn} {t : Ty} {absent : List AbsentCells} → is_scalar t ≡ true →
+          IsPlacePut named way absent → ArePut way t absent
+      a_lock : {way : List Turn} {t : Ty} {absent : List AbsentCells} → is_lock t ≡ true →
+          IsPlacePut named way absent → ArePut way t absent
+      an_array : {way : List Turn} {t : Ty} {n : ℕ} {absent : List AbsentCells} → 0 < n →
+          ArePut (way ++ Element n ∷ []) t absent → ArePut way (Array t n) absent
       no_elements : {way : List Turn} {t : Ty} → ArePut way (Array t 0) []
-      a_struct : {way : List Turn} {s : ℕ} {absent : List AbsentCells} → ArePutFrom way (fields s) 0 absent → ArePut way (Struct s) absent
-      no_object : {way : List Turn} {t : Ty} → is_scalar t ≡ false → is_lock t ≡ false → is_array t ≡ false → is_struct t ≡ false → ArePut way t []
+      a_struct : {way : List Turn} {s : ℕ} {absent : List AbsentCells} → ArePutFrom way (fields s) 0 absent →
+          ArePut way (Struct s) absent
+      no_object : {way : List Turn} {t : Ty} → is_scalar t ≡ false → is_lock t ≡ false → is_array t ≡ false →
+          is_struct t ≡ false → ArePut way t []
 
     -- those of members of these types, the first of which is the member k
     pub data ArePutFrom : List Turn → List Ty → ℕ → List AbsentCells → Type 0 where
       no_more : {way : List Turn} {ts : List Ty} {k : ℕ} → length ts ≤ k → ArePutFrom way ts k []
-      member : {way : List Turn} {ts : List Ty} {k : ℕ} {t : Ty} {absent others : List AbsentCells} → slice_get ts k ≡ Some t → ArePut (way ++ Member k ∷ []) t absent →
+      member : {way : List Turn} {ts : List Ty} {k : ℕ} {t : Ty} {absent others : List AbsentCells} →
+          slice_get ts k ≡ Some t → ArePut (way ++ Member k ∷ []) t absent →
           ArePutFrom way ts (suc k) others → ArePutFrom way ts k (absent ++ others)

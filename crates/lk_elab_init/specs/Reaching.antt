@@ -33,7 +33,8 @@ anchor_in (anchor.Object n) = AtObject n
 anchor_in (anchor.Text n) = AtText n
 
 abbrev pub position_in : Position → spec.Position
-position_in place = record { anchor = anchor_in place.anchor; steps = place.steps; is_element = place.is_element; index = place.index; count = place.count }
+position_in place =
+    record { anchor = anchor_in place.anchor; steps = place.steps; is_element = place.is_element; index = place.index; count = place.count }
 
 abbrev pub address_in : Reached → spec.Address
 address_in code.Null = NullAddress
@@ -88,7 +89,8 @@ pub data MovesFrom (position : spec.Position) : spec.Address → Type 0 where
 -- ---- what is reached by an expression, wherever it stands and what was found at its nodes is true
 
 abbrev pub OfTyping : Elaborator → Expr → (Typing → Type 0) → Type 0
-OfTyping walk e Says = (at_end : Env) (p : InPlace) → p.1 ≡ e → IsTold at_end walk p.0 (AnExpression p.1) → (x : Typing) → typing_at p ≡ Some x → Says x
+OfTyping walk e Says = (at_end : Env) (p : InPlace) → p.1 ≡ e → IsTold at_end walk p.0 (AnExpression p.1) →
+    (x : Typing) → typing_at p ≡ Some x → Says x
 
 -- the address that it is, or the place that it names
 abbrev pub IsReached : Elaborator → Expr → Reached → Type 0
@@ -109,7 +111,9 @@ IsConvertedReached walk e r = OfTyping walk e (λ x. converted_address (value x)
 -- an address that moved from that of its value, of which the checker kept this
 abbrev pub IsMovedTo : Elaborator → Expr → Address → Reached → Type 0
 IsMovedTo walk e address r =
-    OfTyping walk e (λ x. (a : spec.Address) → ((position : spec.Position) → (value x).address ≡ Inside position → MovesFrom position a) → address ≡ kept_of a → a ≡ address_in r)
+    OfTyping walk e (λ x. (a : spec.Address) →
+    ((position : spec.Position) → (value x).address ≡ Inside position → MovesFrom position a) →
+    address ≡ kept_of a → a ≡ address_in r)
 
 -- what a name stands for
 pub record IsNamed (p : InPlace) (r : Reached) : Type 0 where
@@ -120,16 +124,19 @@ pub record IsNamed (p : InPlace) (r : Reached) : Type 0 where
 -- ---- members
 
 -- an address of a member, whose struct has this number and whose members the state knows
-pub record IsMemberAt (walk : Elaborator) (name : Name) (at : spec.Address) (t : Ty) (r : Reached) : Type 0 where
+pub record IsMemberAt (walk : Elaborator) (name : Name) (at : spec.Address) (t : Ty)
+    (r : Reached) : Type 0 where
   pub s : ℕ
   pub type : t ≡ Struct s
   pub k : ℕ
   pub number : IsFieldNumber walk.names.structs s name k
-  pub address : (a : spec.Address) → is_reached (kept_of a) ≡ true → a ≡ inside (member_at k) at → a ≡ address_in r
+  pub address : (a : spec.Address) → is_reached (kept_of a) ≡ true →
+      a ≡ inside (member_at k) at → a ≡ address_in r
 
 abbrev pub IsMemberOf : Elaborator → Expr → Name → Reached → Type 0
 IsMemberOf walk object name r = OfTyping walk object (λ x. IsMemberAt walk name x.address x.type r)
 
 -- of what the value points to
 abbrev pub IsMemberBehind : Elaborator → Expr → Name → Reached → Type 0
-IsMemberBehind walk pointer name r = OfTyping walk pointer (λ x. (t : Ty) × ((value x).type ≡ Pointer t) × IsMemberAt walk name (value x).address t r)
+IsMemberBehind walk pointer name r =
+    OfTyping walk pointer (λ x. (t : Ty) × ((value x).type ≡ Pointer t) × IsMemberAt walk name (value x).address t r)

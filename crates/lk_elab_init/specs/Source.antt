@@ -35,17 +35,25 @@ use Rattle.lk_elaborator.specs.declared.elaborator.Elaborator.{Elaborator}
 pub record IsToldSource (externs : List Name) (unit : Unit) (walk : Elaborator) : Type 0 where
   pub ready : IsReady walk.types
   -- of each expression and type name that stands in a node
-  pub told : (env : Env) (node : Node) → IsNode externs unit env node → IsTold (at_end externs unit) walk env node
-  pub initialisers : (env : Env) (object : Option Object) (init : Init) (e : Expr) (kind : InitialiserKind) → IsNode externs unit env (AnInitialiser object init) → out-Init init ≡ Init-F.Expr e →
-      lookup (nat_eq e.ordinal) walk.records.initialisers ≡ Some kind → IsOfKind walk.types kind (expr_word e env)
-  pub declared : (env : Env) (node : Node) (n : NameDeclared) (d : DeclaredHere) → IsNode externs unit env node → DeclaresName env node n →
+  pub told : (env : Env) (node : Node) → IsNode externs unit env node →
+      IsTold (at_end externs unit) walk env node
+  pub initialisers : (env : Env) (object : Option Object) (init : Init) (e : Expr) (kind : InitialiserKind) →
+      IsNode externs unit env (AnInitialiser object init) → out-Init init ≡ Init-F.Expr e →
+      lookup (nat_eq e.ordinal) walk.records.initialisers ≡ Some kind →
+      IsOfKind walk.types kind (expr_word e env)
+  pub declared : (env : Env) (node : Node) (n : NameDeclared) (d : DeclaredHere) →
+      IsNode externs unit env node → DeclaresName env node n →
       lookup (nat_eq n.is.ordinal) walk.records.declared ≡ Some d → IsDeclaredAs walk.types d n
   -- what was recorded has a type
-  pub declared_type : (env : Env) (scope : Scope) (node : Declare) (here : Env) (d : InitDeclarator) (named : Named) (is : DeclaredHere) → IsNode externs unit env (ADeclaration scope node) →
-      IsDeclaratorOf scope env node here d → (declarator_found d.declarator).name ≡ Some named → lookup (nat_eq named.ordinal) walk.records.declared ≡ Some is →
+  pub declared_type : (env : Env) (scope : Scope) (node : Declare) (here : Env) (d : InitDeclarator)
+      (named : Named) (is : DeclaredHere) → IsNode externs unit env (ADeclaration scope node) →
+      IsDeclaratorOf scope env node here d → (declarator_found d.declarator).name ≡ Some named →
+      lookup (nat_eq named.ordinal) walk.records.declared ≡ Some is →
       (t : Ty) × (type_declared scope (specifiers_of env node) here d ≡ Some t)
-  pub defined_type : (env : Env) (node : Definition) (named : Named) (is : DeclaredHere) → IsNode externs unit env (ADefinition node) →
-      (declarator_found node.declarator).name ≡ Some named → lookup (nat_eq named.ordinal) walk.records.declared ≡ Some is → (t : Ty) × (entities.defined_type env node ≡ Some t)
+  pub defined_type : (env : Env) (node : Definition) (named : Named) (is : DeclaredHere) →
+      IsNode externs unit env (ADefinition node) → (declarator_found node.declarator).name ≡ Some named →
+      lookup (nat_eq named.ordinal) walk.records.declared ≡ Some is →
+      (t : Ty) × (entities.defined_type env node ≡ Some t)
   pub uses : AreUses externs unit word_in walk.records.first_uses
   pub taken : AreUses externs unit taken_in walk.records.taken
   -- the structs at the end of the source, with their members and tags

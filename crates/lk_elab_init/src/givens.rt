@@ -36,7 +36,8 @@ pub enum Beginning<'a> {
     Word,
 }
 
-/// A part that an initialiser names: a scalar, a mutex or condition variable, or an array that a text initialises.
+/// A part that an initialiser names: a scalar, a mutex or condition variable, or an
+/// array that a text initialises.
 #[derive(Drop)]
 pub struct PartGiven<'a> {
     pub path: Seq<CellStep>,
@@ -91,7 +92,8 @@ fn text_bytes(alloc: Global, count: u64, e: &Expr) -> Result<Seq<u8>, NoMemory>
     bytes_given(alloc, count, bytes)
 }
 
-/// Whether the initialiser at a node is an initialiser word (POSIX, `pthread.h`). Each that is one expression was seen.
+/// Whether the initialiser at a node is an initialiser word (POSIX, `pthread.h`). Each
+/// that is one expression was seen.
 fn is_word(walk: &Elaborator, ordinal: u32) -> Result<bool, NoMemory>
     ensures { IfOk result (λ is. (kind : InitialiserKind)
         × (lookup (nat_eq ordinal) walk.now.records.initialisers ≡ Some kind) × (is ≡ is_word_kind kind)) }
@@ -233,8 +235,8 @@ fn given_by_entries<'a>(
     Ok(())
 }
 
-/// Whether a list is a text alone that initialises an object of this type, as the text would without the braces
-/// (C99 6.7.8, 14).
+/// Whether a list is a text alone that initialises an object of this type, as the text would
+/// without the braces (C99 6.7.8, 14).
 fn is_braced_text(walk: &Elaborator, ty: TypeId, list: &InitList) -> Result<bool, NoMemory>
     ensures { IfOk result (λ is.
         is ≡ is_text_for (meaning walk.now.types ty) (text_alone (out-InitList list.now).entries)) }

@@ -1,7 +1,8 @@
-//! What initialisers give to the parts of an object, in the order of C99 6.7.8, which parts are given nothing, and to what an
-//! address constant leads (C99 6.6, 9).
+//! What initialisers give to the parts of an object, in the order of C99 6.7.8, which parts are given
+//! nothing, and to what an address constant leads (C99 6.6, 9).
 //!
-//! `Err` comes for want of memory, and where what each source without a fault has isn't there (`nowhere` of lk_elaborator).
+//! `Err` comes for want of memory, and where what each source without a fault has isn't there
+//! (`nowhere` of lk_elaborator).
 #![tactic(auto)]
 
 mod absent;

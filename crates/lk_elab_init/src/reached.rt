@@ -1,7 +1,7 @@
 //! Where an address constant points to (C99 6.6, 9; 6.5.6, 7 and 8).
 //!
-//! The checker keeps of each whether it is one, and whether it stays in its array. What it is a place of, and by which
-//! steps, is read off the syntax tree.
+//! The checker keeps of each whether it is one, and whether it stays in its array. What it is a place of, and
+//! by which steps, is read off the syntax tree.
 ghost use Rattle.std.specs.Prelude.{◌≡◌, IfOk, Some, true};
 ghost use Rattle.lk_types.specs.Table.{Table};
 ghost use Rattle.lk_typed.specs.Addresses.{inside, member_at, value as spec_value};
@@ -212,8 +212,8 @@ fn first_element(at: Reached, part: Place) -> Result<Reached, NoMemory>
     }
 }
 
-/// The place of the value of an expression that is at an address, of which the checker kept this: an array's is that of
-/// its first element.
+/// The place of the value of an expression that is at an address, of which the checker kept this: an array's
+/// is that of its first element.
 fn valued(is_element: bool, part: Place, at: Reached) -> Result<Reached, NoMemory>
     ensures { IfOk result (λ r. (x : Typing) → is_element ≡ spec.is_array x.type → x.address ≡ address_in at →
         kept_address.Inside part ≡ kept_of (spec_value x).address → (spec_value x).address ≡ address_in r) }
@@ -353,8 +353,8 @@ fn value_of(walk: &Elaborator, e: &Expr) -> Result<Reached, NoMemory>
     }
 }
 
-/// Where the address constant points that the value of an expression is once it is converted to a pointer: a null pointer
-/// constant is a null pointer (C99 6.3.2.3, 3).
+/// Where the address constant points that the value of an expression is once it is converted to a pointer: a
+/// null pointer constant is a null pointer (C99 6.3.2.3, 3).
 #[cycle(reached)]
 pub fn converted_address(walk: &Elaborator, e: &Expr) -> Result<Reached, NoMemory>
     ensures { IfOk result (IsConvertedReached walk.now e.now) }

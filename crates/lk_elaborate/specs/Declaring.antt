@@ -27,7 +27,8 @@ use Rattle.lk_elaborate.specs.Making.{MakesOf, StandIn}
 abbrev pub MakesLocalInit : Elaborator → Elaborator → (n t : ℕ) → Init → LocalInit → Type 0
 MakesLocalInit old new n t init is =
     (env : Env) (object : Object) → object.type ≡ meaning old.types t →
-    MakesOf old new (at env (AnInitialiser (Some object) init) ∷ []) (λ tables. IsLocalInit tables env object.type init n is)
+    MakesOf old new (at env (AnInitialiser (Some object) init) ∷ [])
+    (λ tables. IsLocalInit tables env object.type init n is)
 
 -- a declarator of a declaration in a block stands in the source
 pub record StandsAt (walk : Elaborator) (node : Declare) (env here : Env) (d : InitDeclarator) : Type 0 where
@@ -35,26 +36,36 @@ pub record StandsAt (walk : Elaborator) (node : Declare) (env here : Env) (d : I
   pub among : IsDeclaratorOf InBlock env node here d
 
 -- what is added to the initialisers by a declarator, before those of the others behind it
-pub record AddsInits (new : Elaborator) (told : SpecifierTold) (here : Env) (d : InitDeclarator) (before after : List LocalInit) : Type 0 where
+pub record AddsInits (new : Elaborator) (told : SpecifierTold) (here : Env) (d : InitDeclarator)
+    (before after : List LocalInit) : Type 0 where
   pub added : List LocalInit
   pub is : after ≡ before ++ added
-  pub on : (tables : Tables) → Leads new tables → (ds : List InitDeclarator) (others : List LocalInit) → AreLocalInits tables told (extend here (declarator_adds InBlock told here d)) ds others →
+  pub on : (tables : Tables) → Leads new tables → (ds : List InitDeclarator) (others : List LocalInit) →
+      AreLocalInits tables told (extend here (declarator_adds InBlock told here d)) ds others →
       AreLocalInits tables told here (d ∷ ds) (added ++ others)
 
-abbrev pub MakesDeclarator : Elaborator → Elaborator → InitDeclarator → List LocalInit → List LocalInit → Type 0
+abbrev pub MakesDeclarator : Elaborator → Elaborator → InitDeclarator → List LocalInit →
+    List LocalInit → Type 0
 MakesDeclarator old new d before after =
-    (node : Declare) (env here : Env) → StandsAt old node env here d → AddsInits new (specifiers_of env node) here d before after
+    (node : Declare) (env here : Env) → StandsAt old node env here d →
+    AddsInits new (specifiers_of env node) here d before after
 
 -- one of this name with this initialiser
-abbrev pub MakesNamed : Elaborator → Elaborator → DeclaredName → Init → List LocalInit → List LocalInit → Type 0
+abbrev pub MakesNamed : Elaborator → Elaborator → DeclaredName → Init → List LocalInit →
+    List LocalInit → Type 0
 MakesNamed old new named init before after =
-    (d : InitDeclarator) → (declarator_found d.declarator).name ≡ Some (name_in named) → d.init ≡ Some init → MakesDeclarator old new d before after
+    (d : InitDeclarator) → (declarator_found d.declarator).name ≡ Some (name_in named) → d.init ≡ Some init →
+    MakesDeclarator old new d before after
 
 -- whose declaration was recorded as this
-abbrev pub MakesRecorded : Elaborator → Elaborator → DeclaredName → DeclaredHere → Init → List LocalInit → List LocalInit → Type 0
+abbrev pub MakesRecorded : Elaborator → Elaborator → DeclaredName → DeclaredHere → Init → List LocalInit →
+    List LocalInit → Type 0
 MakesRecorded old new named h init before after =
-    lookup (nat_eq named.at.ordinal) old.records.declared ≡ Some h → MakesNamed old new named init before after
+    lookup (nat_eq named.at.ordinal) old.records.declared ≡ Some h →
+    MakesNamed old new named init before after
 
 -- one initialiser is put, of the object that the node with the number n declares
-abbrev pub MakesOneInit : Elaborator → Elaborator → (n t : ℕ) → Init → List LocalInit → List LocalInit → Type 0
-MakesOneInit old new n t init before after = (made : LocalInit) × (after ≡ before ++ made ∷ []) × MakesLocalInit old new n t init made
+abbrev pub MakesOneInit : Elaborator → Elaborator → (n t : ℕ) → Init → List LocalInit →
+    List LocalInit → Type 0
+MakesOneInit old new n t init before after =
+    (made : LocalInit) × (after ≡ before ++ made ∷ []) × MakesLocalInit old new n t init made

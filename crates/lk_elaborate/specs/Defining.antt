@@ -22,19 +22,23 @@ use Rattle.lk_elaborate.specs.declared.statements.Around.{Around}
 
 -- the environment of the body
 abbrev pub inside : Env → Definition → Env
-inside env node = let told = specifiers_found node.specifiers env false in in_body told (extend env told.additions) node
+inside env node = let told = specifiers_found node.specifiers env false in
+    in_body told (extend env told.additions) node
 
 -- this stands round the statements of the body, where the function has the type with the number t
 abbrev pub IsRoundIn : Elaborator → Definition → ℕ → Around → Type 0
 IsRoundIn walk node t round =
-    (env : Env) → env.role ≡ AsOperand → defined_type env node ≡ Some (meaning walk.types t) → IsRound walk round (inside env node) (in_function (labels node.body))
+    (env : Env) → env.role ≡ AsOperand → defined_type env node ≡ Some (meaning walk.types t) →
+    IsRound walk round (inside env node) (in_function (labels node.body))
 
 -- the block of the body, with the items in it
 pub record IsBlockOf (tables : Tables) (env : Env) (node : Definition) (made : TypedStmt) : Type 0 where
   pub items : List TypedItem
-  pub are_items : AreItems tables (items_in_turn (in_function (labels node.body)) (inside env node) (body_items (out-StmtForm node.body.form))) items
+  pub are_items : AreItems tables
+      (items_in_turn (in_function (labels node.body)) (inside env node) (body_items (out-StmtForm node.body.form))) items
   pub block : MakesStmt node.body (TypedStmtForm-F.Block items) made
 
 abbrev pub MakesBlock : Elaborator → Elaborator → Definition → ℕ → TypedStmt → Type 0
 MakesBlock old new node t block =
-    (env : Env) → env.role ≡ AsOperand → defined_type env node ≡ Some (meaning old.types t) → MakesOf old new (at env (ADefinition node) ∷ []) (λ tables. IsBlockOf tables env node block)
+    (env : Env) → env.role ≡ AsOperand → defined_type env node ≡ Some (meaning old.types t) →
+    MakesOf old new (at env (ADefinition node) ∷ []) (λ tables. IsBlockOf tables env node block)

@@ -1,4 +1,5 @@
--- The steps in which a definition of a function is put: its name, and behind its parameters and the items of its body the body of them all (C99 6.9.1).
+-- The steps in which a definition of a function is put: its name, and behind its parameters and the items of
+-- its body the body of them all (C99 6.9.1).
 use Rattle.std.specs.Prelude.{ℕ, ◌≡◌, ◌++◌, Some, List, [], ◌∷◌, nat_eq}
 use Rattle.std.specs.Map.{lookup}
 use Rattle.lk_tree.specs.declared.statement.Function.{Function as Definition}
@@ -24,7 +25,9 @@ use Rattle.lk_elaborate.specs.declared.definitions.Head.{Head}
 
 -- the items of the body, where they stand
 abbrev pub items_of : Env → Definition → List Placed
-items_of env node = items_in_turn (in_function (labels node.body)) (inside env node) (body_items (out-StmtForm node.body.form))
+items_of env node =
+    items_in_turn (in_function (labels node.body)) (inside env node)
+    (body_items (out-StmtForm node.body.form))
 
 -- ---- the name
 
@@ -53,6 +56,7 @@ body_of walk node entity parameters block = record {
   block = block;
 }
 
-pub record PutsBodyOf (old new : Elaborator) (node : Definition) (entity parameters : ℕ) (block : TypedStmt) : Type 0 where
+pub record PutsBodyOf (old new : Elaborator) (node : Definition) (entity parameters : ℕ)
+    (block : TypedStmt) : Type 0 where
   pub same : new ≡ record old { locals = new.locals; bodies = new.bodies }
   pub bodies : new.bodies.items ≡ old.bodies.items ++ body_of old node entity parameters block ∷ []

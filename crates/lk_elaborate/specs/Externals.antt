@@ -26,16 +26,20 @@ module _ (externs : List Name) (unit : Unit) (placed : List Placed) where
   -- their bodies, behind those before them
   pub record PutsBodies (old new : Elaborator) (bodies : List Body) : Type 0 where
     pub list : new.bodies.items ≡ old.bodies.items ++ bodies
-    pub are : (types : List CType) (entities : List Entity) → LeadsOutside new types entities → AreBodies externs unit types entities placed bodies
+    pub are : (types : List CType) (entities : List Entity) → LeadsOutside new types entities →
+        AreBodies externs unit types entities placed bodies
 
   -- the names of entities that they declare
   pub record PutsEntities (old new : Elaborator) (names : List NamedEntity) : Type 0 where
     pub gathers : (ns : List NamedEntity) → IsGathered ns old.entities → IsGathered (ns ++ names) new.entities
     pub rise : (ns : List NamedEntity) → IsRising ns old.entities → IsRising (ns ++ names) new.entities
-    pub all : (env : Env) (node : Node) (n : NameDeclared) (kind : EntityKind) → IsNameInside externs unit placed env node n → entity_kind n.is.meaning ≡ Some kind →
-        (named : NamedEntity) × Contains names named × IsNameOf externs unit new.types.types new.bodies.items env node n named
+    pub all : (env : Env) (node : Node) (n : NameDeclared) (kind : EntityKind) →
+        IsNameInside externs unit placed env node n → entity_kind n.is.meaning ≡ Some kind →
+        (named : NamedEntity) × Contains names named
+        × IsNameOf externs unit new.types.types new.bodies.items env node n named
     pub none_else : (named : NamedEntity) → Contains names named →
-        (env : Env) × (node : Node) × (n : NameDeclared) × IsNameInside externs unit placed env node n × IsNameOf externs unit new.types.types new.bodies.items env node n named
+        (env : Env) × (node : Node) × (n : NameDeclared) × IsNameInside externs unit placed env node n
+        × IsNameOf externs unit new.types.types new.bodies.items env node n named
 
   pub record PutsExternals (old new : Elaborator) : Type 0 where
     pub bodies : List Body
@@ -48,9 +52,11 @@ module _ (externs : List Name) (unit : Unit) (placed : List Placed) where
 -- an external declaration that stands in the source
 abbrev pub MakesExternal : Elaborator → Elaborator → Decl → Type 0
 MakesExternal old new d =
-    (env : Env) → env.role ≡ AsOperand → (stand : StandIn old (at env (AnExternal d) ∷ [])) → PutsExternals stand.externs stand.unit (at env (AnExternal d) ∷ []) old new
+    (env : Env) → env.role ≡ AsOperand → (stand : StandIn old (at env (AnExternal d) ∷ [])) →
+    PutsExternals stand.externs stand.unit (at env (AnExternal d) ∷ []) old new
 
 -- all of them
 abbrev pub MakesExternals : Elaborator → Elaborator → List Decl → Type 0
 MakesExternals old new ds =
-    (env : Env) → env.role ≡ AsOperand → (stand : StandIn old (externals_in_turn env ds)) → PutsExternals stand.externs stand.unit (externals_in_turn env ds) old new
+    (env : Env) → env.role ≡ AsOperand → (stand : StandIn old (externals_in_turn env ds)) →
+    PutsExternals stand.externs stand.unit (externals_in_turn env ds) old new

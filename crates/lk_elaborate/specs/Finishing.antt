@@ -28,20 +28,24 @@ pub record HasWholeStructs (checked : Checked) : Type 0 where
   pub whole : All IsWhole checked.names.structs
 
 -- the entities of a source and its types, with the composites of theirs
-pub record IsFinishedOf (types : Table) (entities : Entities) (records : Recorded) (is : Finished) : Type 0 where
+pub record IsFinishedOf (types : Table) (entities : Entities) (records : Recorded)
+    (is : Finished) : Type 0 where
   pub longer : IsLonger types is.types
   pub members : is.types.members ≡ types.members
   pub ready : IsReady types → IsReady is.types
   pub parts : is.types.parts ≡ []
-  pub finished : IsReady types → AreFinished is.types.types records.first_uses entities.list.items is.entities.items
+  pub finished : IsReady types →
+      AreFinished is.types.types records.first_uses entities.list.items is.entities.items
 
 -- a typed tree of these types, entities, objects and bodies
-pub record IsUnitOf (types : Table) (entities : Entities) (records : Recorded) (given : List StaticObject) (made : List Body) (typed : TypedUnit) : Type 0 where
+pub record IsUnitOf (types : Table) (entities : Entities) (records : Recorded) (given : List StaticObject)
+    (made : List Body) (typed : TypedUnit) : Type 0 where
   pub longer : IsLonger types typed.types
   pub members : typed.types.members ≡ types.members
   pub ready : IsReady types → IsReady typed.types
   pub parts : typed.types.parts ≡ []
-  pub finished : IsReady types → AreFinished typed.types.types records.first_uses entities.list.items typed.entities
+  pub finished : IsReady types →
+      AreFinished typed.types.types records.first_uses entities.list.items typed.entities
   pub tags : typed.structs ≡ records.tags
   pub objects : typed.objects ≡ given
   pub bodies : typed.bodies ≡ made

@@ -22,16 +22,21 @@ pub record HasNoLocals (walk : Elaborator) : Type 0 where
   pub numbers : walk.locals.numbers.entries ≡ []
 
 -- one body more, the names that the definition declares, its own among them, and the objects of its body
-pub record PutsBody (externs : List Name) (unit : Unit) (env : Env) (old new : Elaborator) (node : Definition) : Type 0 where
+pub record PutsBody (externs : List Name) (unit : Unit) (env : Env) (old new : Elaborator)
+    (node : Definition) : Type 0 where
   pub body : Body
   pub bodies : new.bodies.items ≡ old.bodies.items ++ body ∷ []
   pub ordinal : body.ordinal ≡ node.ordinal
-  pub is_body : (types : List CType) (entities : List Entity) → LeadsOutside new types entities → IsBody externs unit types entities env node body
+  pub is_body : (types : List CType) (entities : List Entity) → LeadsOutside new types entities →
+      IsBody externs unit types entities env node body
   pub names : List NamedEntity
-  pub puts_names : PutsNames externs unit (at env (AnExternal (decl.Function node)) ∷ []) old new (Some (length old.bodies.items)) names
+  pub puts_names : PutsNames externs unit (at env (AnExternal (decl.Function node)) ∷ []) old new
+      (Some (length old.bodies.items)) names
   pub objects : List StaticObject
   pub puts_objects : PutsObjects externs unit (at env (AnExternal (decl.Function node)) ∷ []) old new objects
 
 abbrev pub MakesDefinition : Elaborator → Elaborator → Definition → Type 0
 MakesDefinition old new node =
-    (env : Env) → env.role ≡ AsOperand → HasNoLocals old → (stand : StandIn old (at env (AnExternal (decl.Function node)) ∷ [])) → PutsBody stand.externs stand.unit env old new node
+    (env : Env) → env.role ≡ AsOperand → HasNoLocals old →
+    (stand : StandIn old (at env (AnExternal (decl.Function node)) ∷ [])) →
+    PutsBody stand.externs stand.unit env old new node

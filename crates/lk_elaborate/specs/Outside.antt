@@ -1,4 +1,5 @@
--- What the numbers of types and entities stand for outside bodies, and how the state goes on from one external declaration to the next: the locals of a body go with it.
+-- What the numbers of types and entities stand for outside bodies, and how the state goes on from one
+-- external declaration to the next: the locals of a body go with it.
 use Rattle.std.specs.Prelude.{ℕ, ◌≡◌, ◌++◌, Some, List, []}
 use Rattle.lk_types.specs.Building.{IsLonger}
 use Rattle.lk_types.specs.declared.c_type.CType.{CType}

@@ -44,27 +44,36 @@ use Rattle.lk_elaborate.specs.Putting.{AreRising, HasBodyIn, IsLocalHere, IsPutA
 -- ---- what is put of these names, and of the objects that the nodes with these numbers declare
 
 module _ (N : NameDeclared → Type 0) where
-  pub record NamesPut (old new : Entities) (types : List CType) (body : Option ℕ) (names : List NamedEntity) : Type 0 where
+  pub record NamesPut (old new : Entities) (types : List CType) (body : Option ℕ)
+      (names : List NamedEntity) : Type 0 where
     pub gathers : (ns : List NamedEntity) → IsGathered ns old → IsGathered (ns ++ names) new
     pub rise : (ns : List NamedEntity) → IsRising ns old → IsRising (ns ++ names) new
-    pub all : (n : NameDeclared) (kind : EntityKind) → N n → entity_kind n.is.meaning ≡ Some kind → (named : NamedEntity) × Contains names named × IsPutAs types body n named
-    pub none_else : (named : NamedEntity) → Contains names named → (n : NameDeclared) × N n × IsPutAs types body n named
+    pub all : (n : NameDeclared) (kind : EntityKind) → N n → entity_kind n.is.meaning ≡ Some kind →
+        (named : NamedEntity) × Contains names named × IsPutAs types body n named
+    pub none_else : (named : NamedEntity) → Contains names named →
+        (n : NameDeclared) × N n × IsPutAs types body n named
 
   pub record LocalsPut (old new : Elaborator) (locals : List Local) : Type 0 where
     pub list : new.locals.list.items ≡ old.locals.list.items ++ locals
     pub numbered : AreNumbered old.locals → AreNumbered new.locals
     pub rise : put.Rise old.locals.list.items → put.Rise new.locals.list.items
-    pub all : (n : NameDeclared) (t : Ty) → N n → n.is.meaning ≡ AnObject t false → (local : Local) × Contains locals local × IsLocalHere new n t local
-    pub none_else : (local : Local) → Contains locals local → (n : NameDeclared) × (t : Ty) × N n × (n.is.meaning ≡ AnObject t false) × IsLocalHere new n t local
+    pub all : (n : NameDeclared) (t : Ty) → N n → n.is.meaning ≡ AnObject t false →
+        (local : Local) × Contains locals local × IsLocalHere new n t local
+    pub none_else : (local : Local) → Contains locals local →
+        (n : NameDeclared) × (t : Ty) × N n × (n.is.meaning ≡ AnObject t false) × IsLocalHere new n t local
 
 module _ (externs : List Name) (unit : Unit) where
   pub record ObjectsPut (G : ℕ → Type 0) (old new : Elaborator) (objects : List StaticObject) : Type 0 where
     pub list : new.objects.items ≡ old.objects.items ++ objects
     pub rise : AreRising old.objects.items → AreRising new.objects.items
-    pub all : (ordinal : ℕ) → G ordinal → (object : StaticObject) × Contains objects object × (object.ordinal ≡ ordinal)
-    pub each : (object : StaticObject) → Contains objects object → (types : List CType) (entities : List Entity) → LeadsOutside new types entities → IsStaticObject externs unit types entities object
+    pub all : (ordinal : ℕ) → G ordinal →
+        (object : StaticObject) × Contains objects object × (object.ordinal ≡ ordinal)
+    pub each : (object : StaticObject) → Contains objects object →
+        (types : List CType) (entities : List Entity) → LeadsOutside new types entities →
+        IsStaticObject externs unit types entities object
 
-  pub record PutsThose (N : NameDeclared → Type 0) (G : ℕ → Type 0) (old new : Elaborator) (body : Option ℕ) : Type 0 where
+  pub record PutsThose (N : NameDeclared → Type 0) (G : ℕ → Type 0) (old new : Elaborator)
+      (body : Option ℕ) : Type 0 where
     pub names : List NamedEntity
     pub names_put : NamesPut N old.entities new.entities new.types.types body names
     pub locals : List Local
@@ -101,7 +110,8 @@ pub record IsNamedSo (named : DeclaredName) (n : NameDeclared) : Type 0 where
 -- this name is put, whose declaration was recorded as this
 abbrev pub PutsNamed : CodeScope → Elaborator → Elaborator → DeclaredName → DeclaredHere → Type 0
 PutsNamed scope old new named h =
-    (externs : List Name) (unit : Unit) (n : NameDeclared) (body : Option ℕ) → IsReady old.types → IsNamedSo named n → IsDeclaredAs old.types h n → IsBodyAt (scope_of scope) old body →
+    (externs : List Name) (unit : Unit) (n : NameDeclared) (body : Option ℕ) → IsReady old.types →
+    IsNamedSo named n → IsDeclaredAs old.types h n → IsBodyAt (scope_of scope) old body →
     PutsThose externs unit (λ m. m ≡ n) NoObject old new body
 
 -- a local of this name and type
@@ -109,14 +119,18 @@ abbrev pub PutsAutomatic : Elaborator → Elaborator → DeclaredName → ℕ �
 PutsAutomatic old new named t = put.PutsLocalOf old new (name_in named).name t named.at.spot named.at.ordinal
 
 -- an entity of this kind
-abbrev pub PutsEntity : CodeScope → Elaborator → Elaborator → DeclaredName → EntityKind → DeclaredHere → Type 0
+abbrev pub PutsEntity : CodeScope → Elaborator → Elaborator → DeclaredName → EntityKind →
+    DeclaredHere → Type 0
 PutsEntity scope old new named kind h =
-    (externs : List Name) (unit : Unit) (n : NameDeclared) (body : Option ℕ) → IsReady old.types → IsNamedSo named n → IsDeclaredAs old.types h n → entity_kind n.is.meaning ≡ Some kind →
+    (externs : List Name) (unit : Unit) (n : NameDeclared) (body : Option ℕ) → IsReady old.types →
+    IsNamedSo named n → IsDeclaredAs old.types h n → entity_kind n.is.meaning ≡ Some kind →
     IsBodyAt (scope_of scope) old body → PutsThose externs unit (λ m. m ≡ n) NoObject old new body
 
 -- as its node declared it
 abbrev pub PutsRecorded : CodeScope → Elaborator → Elaborator → DeclaredName → Type 0
-PutsRecorded scope old new named = (h : DeclaredHere) × (lookup (nat_eq named.at.ordinal) old.records.declared ≡ Some h) × PutsNamed scope old new named h
+PutsRecorded scope old new named =
+    (h : DeclaredHere) × (lookup (nat_eq named.at.ordinal) old.records.declared ≡ Some h)
+    × PutsNamed scope old new named h
 
 -- ---- a declarator with its initialiser
 
@@ -141,29 +155,37 @@ module _ (scope : Scope) (told : SpecifierTold) (here : Env) (d : InitDeclarator
     pub is_given : initialiser_part scope told here d ≡ at behind (AnInitialiser (Some object) init) ∷ []
 
 -- a declarator of a declaration of the source
-pub record StandsThere (scope : Scope) (walk : Elaborator) (node : Declare) (env here : Env) (d : InitDeclarator) : Type 0 where
+pub record StandsThere (scope : Scope) (walk : Elaborator) (node : Declare) (env here : Env)
+    (d : InitDeclarator) : Type 0 where
   pub stand : StandIn walk (at env (ADeclaration scope node) ∷ [])
   pub among : IsDeclaratorOf scope env node here d
 
 abbrev pub PutsDeclarator : CodeScope → Elaborator → Elaborator → InitDeclarator → Type 0
 PutsDeclarator scope old new d =
-    (node : Declare) (env here : Env) (body : Option ℕ) (there : StandsThere (scope_of scope) old node env here d) → IsBodyAt (scope_of scope) old body →
-    PutsThose there.stand.externs there.stand.unit (DeclaredBy (scope_of scope) (specifiers_of env node) here d) (GivenBy (scope_of scope) (specifiers_of env node) here d) old new body
+    (node : Declare) (env here : Env) (body : Option ℕ)
+    (there : StandsThere (scope_of scope) old node env here d) → IsBodyAt (scope_of scope) old body →
+    PutsThose there.stand.externs there.stand.unit
+    (DeclaredBy (scope_of scope) (specifiers_of env node) here d)
+    (GivenBy (scope_of scope) (specifiers_of env node) here d) old new body
 
 -- the initialiser of an object of this name, which was put before
 abbrev pub PutsInitialised : Elaborator → Elaborator → DeclaredName → Init → Type 0
 PutsInitialised old new named init =
     (d : InitDeclarator) → (declarator_found d.declarator).name ≡ Some (name_in named) → d.init ≡ Some init →
-    (scope : Scope) (node : Declare) (env here : Env) (body : Option ℕ) (there : StandsThere scope old node env here d) →
-    PutsThose there.stand.externs there.stand.unit NoName (GivenBy scope (specifiers_of env node) here d) old new body
+    (scope : Scope) (node : Declare) (env here : Env) (body : Option ℕ)
+    (there : StandsThere scope old node env here d) →
+    PutsThose there.stand.externs there.stand.unit NoName
+    (GivenBy scope (specifiers_of env node) here d) old new body
 
 -- whose declaration was recorded as this
 abbrev pub PutsInitialisedAs : Elaborator → Elaborator → DeclaredName → DeclaredHere → Init → Type 0
-PutsInitialisedAs old new named h init = lookup (nat_eq named.at.ordinal) old.records.declared ≡ Some h → PutsInitialised old new named init
+PutsInitialisedAs old new named h init = lookup (nat_eq named.at.ordinal) old.records.declared ≡ Some h →
+    PutsInitialised old new named init
 
 -- ---- a declaration
 
 abbrev pub PutsDeclaration : CodeScope → Elaborator → Elaborator → Declare → Type 0
 PutsDeclaration scope old new node =
-    (env : Env) (body : Option ℕ) (stand : StandIn old (at env (ADeclaration (scope_of scope) node) ∷ [])) → IsBodyAt (scope_of scope) old body →
+    (env : Env) (body : Option ℕ) (stand : StandIn old (at env (ADeclaration (scope_of scope) node) ∷ [])) →
+    IsBodyAt (scope_of scope) old body →
     PutsAll stand.externs stand.unit (at env (ADeclaration (scope_of scope) node) ∷ []) old new body

@@ -30,7 +30,8 @@ HasBesideInside (Some d) ps = HasBeside d ps
 
 -- the types with these numbers are those of the parameters of a function
 abbrev pub AreTypesOf : Table → Ty → List ℕ → Type 0
-AreTypesOf table t ts = (result : Ty) × (dots : Bool) × (t ≡ Function result (types_of (map (meaning table) ts)) dots)
+AreTypesOf table t ts =
+    (result : Ty) × (dots : Bool) × (t ≡ Function result (types_of (map (meaning table) ts)) dots)
 
 -- ---- one parameter
 
@@ -50,7 +51,8 @@ pub record PutsParameter (old new : Elaborator) (p : Parameter) (t : ℕ) : Type
 -- as many as there are types
 pub data AreParametersSo (walk : Elaborator) : List Parameter → List ℕ → List Local → Type 0 where
   all_put : {ps : List Parameter} → AreParametersSo walk ps [] []
-  one_put : {p : Parameter} {ps : List Parameter} {t : ℕ} {ts : List ℕ} {local : Local} {locals : List Local} → IsParameterSo walk p t local → AreParametersSo walk ps ts locals →
+  one_put : {p : Parameter} {ps : List Parameter} {t : ℕ} {ts : List ℕ} {local : Local}
+      {locals : List Local} → IsParameterSo walk p t local → AreParametersSo walk ps ts locals →
       AreParametersSo walk (p ∷ ps) (t ∷ ts) (local ∷ locals)
 
 -- these locals are put, and nothing else
@@ -75,10 +77,12 @@ scope_of env node = enter (extend env (specifiers_found node.specifiers env fals
 -- where a definition with this declarator stands in the source, whose type has the number t
 abbrev pub AreParametersOf : Elaborator → Declarator → ℕ → List Parameter → List Local → Type 0
 AreParametersOf walk d t ps locals =
-    (externs : List Name) (unit : Unit) → IsToldSource externs unit walk → (env : Env) (node : Definition) → node.declarator ≡ d → defined_type env node ≡ Some (meaning walk.types t) →
+    (externs : List Name) (unit : Unit) → IsToldSource externs unit walk → (env : Env) (node : Definition) →
+    node.declarator ≡ d → defined_type env node ≡ Some (meaning walk.types t) →
     (more : List CType) → AreParameters externs unit (walk.types.types ++ more) (scope_of env node) ps locals
 
--- the parameters of a definition with this declarator, whose type has the number t; so many locals there are then
+-- the parameters of a definition with this declarator, whose type has the number t;
+-- so many locals there are then
 pub record PutsParameters (old new : Elaborator) (d : Declarator) (t count : ℕ) : Type 0 where
   pub parameters : List Parameter
   pub beside : HasBeside d parameters

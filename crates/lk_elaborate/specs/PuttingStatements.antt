@@ -34,7 +34,8 @@ abbrev pub PutsItems : Elaborator → Elaborator → List BlockItem → Type 0
 PutsItems old new items = (env : Env) (around : Around) → PutsIn old new (items_in_turn around env items)
 
 abbrev pub PutsItem : Elaborator → Elaborator → BlockItem → Type 0
-PutsItem old new item = (env : Env) (around : Around) → PutsIn old new (item_part around env (out-BlockItem item) ∷ [])
+PutsItem old new item =
+    (env : Env) (around : Around) → PutsIn old new (item_part around env (out-BlockItem item) ∷ [])
 
 -- a statement of this form
 abbrev pub PutsForm : Elaborator → Elaborator → StmtForm-F BlockItem StmtForm Stmt → Type 0
@@ -42,4 +43,6 @@ PutsForm old new f = (env : Env) (around : Around) → PutsIn old new (statement
 
 -- the items of the body of a definition
 abbrev pub PutsBlock : Elaborator → Elaborator → Definition → Type 0
-PutsBlock old new node = (env : Env) → PutsIn old new (items_in_turn (in_function (labels node.body)) (inside env node) (body_items (out-StmtForm node.body.form)))
+PutsBlock old new node =
+    (env : Env) → PutsIn old new
+    (items_in_turn (in_function (labels node.body)) (inside env node) (body_items (out-StmtForm node.body.form)))

@@ -60,7 +60,8 @@ pub record HasConstantValue (p : InPlace) (constant : Constant) : Type 0 where
 -- whether an address, as a `_Bool`, is 0 or 1
 abbrev pub IsTruth : Elaborator → Expr → ℤ → Type 0
 IsTruth walk e z =
-    (at_end : Env) (p : InPlace) → p.1 ≡ e → IsTold at_end walk p.0 (AnExpression p.1) → (x : Typing) → typing_at p ≡ Some x → (tables : Tables) → IsTruthOf tables (converted_address (value x)) z
+    (at_end : Env) (p : InPlace) → p.1 ≡ e → IsTold at_end walk p.0 (AnExpression p.1) → (x : Typing) →
+    typing_at p ≡ Some x → (tables : Tables) → IsTruthOf tables (converted_address (value x)) z
 
 abbrev pub IsTruthFor : Elaborator → Kind → Expr → ℤ → Type 0
 IsTruthFor walk kind e z = (kind ≡ kinds.Bool) × IsTruth walk e z
@@ -68,16 +69,19 @@ IsTruthFor walk kind e z = (kind ≡ kinds.Bool) × IsTruth walk e z
 -- an integer of a kind begins with this
 abbrev pub BeginsInteger : Elaborator → Kind → Expr → Begun → Type 0
 BeginsInteger walk kind e begun =
-    (tables : Tables) (at_end : Env) (p : InPlace) → p.1 ≡ e → IsTold at_end walk p.0 (AnExpression p.1) → IsStaticValue tables p (Int kind) begun.value begun.pointer
+    (tables : Tables) (at_end : Env) (p : InPlace) → p.1 ≡ e → IsTold at_end walk p.0 (AnExpression p.1) →
+    IsStaticValue tables p (Int kind) begun.value begun.pointer
 
 abbrev pub BeginsWithNumber : Elaborator → Kind → Expr → ℤ → Type 0
 BeginsWithNumber walk kind e z =
-    (tables : Tables) (at_end : Env) (p : InPlace) → p.1 ≡ e → IsTold at_end walk p.0 (AnExpression p.1) → IsStaticValue tables p (Int kind) (begins.Number z) None
+    (tables : Tables) (at_end : Env) (p : InPlace) → p.1 ≡ e → IsTold at_end walk p.0 (AnExpression p.1) →
+    IsStaticValue tables p (Int kind) (begins.Number z) None
 
 -- a pointer begins with this
 abbrev pub BeginsPointer : Elaborator → Expr → StaticValue → Type 0
 BeginsPointer walk e is =
-    (tables : Tables) → Leads walk tables → (at_end : Env) (p : InPlace) → p.1 ≡ e → IsTold at_end walk p.0 (AnExpression p.1) → (x : Typing) → typing_at p ≡ Some x →
+    (tables : Tables) → Leads walk tables → (at_end : Env) (p : InPlace) → p.1 ≡ e →
+    IsTold at_end walk p.0 (AnExpression p.1) → (x : Typing) → typing_at p ≡ Some x →
     IsPointerTo tables (converted_address (value x)) is
 
 -- the code's word for a scalar type
@@ -87,32 +91,38 @@ IsScalar t scalar.Pointer = is_pointer t ≡ true
 
 abbrev pub GivesStaticValue : Elaborator → Elaborator → ℕ → Expr → Begun → Type 0
 GivesStaticValue old new ty e begun =
-    OfTold old new (λ externs unit tables. (env : Env) (t : Ty) → meaning old.types ty ≡ t → IsNode externs unit (converted_to env t) (AnExpression e) →
+    OfTold old new (λ externs unit tables. (env : Env) (t : Ty) → meaning old.types ty ≡ t →
+    IsNode externs unit (converted_to env t) (AnExpression e) →
     IsStaticValue tables (converted_to env t, e) t begun.value begun.pointer)
 
 -- ---- parts
 
 -- these are what a part that an initialiser names becomes
 abbrev pub ArePartsFor : Tables → spec.PartGiven → List StaticPart → Type 0
-ArePartsFor tables part made = (given : List spec.PartGiven) (others : List StaticPart) → AreStaticParts tables given others → AreStaticParts tables (part ∷ given) (made ++ others)
+ArePartsFor tables part made = (given : List spec.PartGiven) (others : List StaticPart) →
+    AreStaticParts tables given others → AreStaticParts tables (part ∷ given) (made ++ others)
 
 abbrev pub GivesStaticPart : Elaborator → Elaborator → PartGiven → List StaticPart → Type 0
 GivesStaticPart old new given made =
-    OfTold old new (λ externs unit tables. (part : spec.PartGiven) → IsGivenAs externs unit old.types given part → ArePartsFor tables part made)
+    OfTold old new (λ externs unit tables. (part : spec.PartGiven) →
+    IsGivenAs externs unit old.types given part → ArePartsFor tables part made)
 
 abbrev pub GivesStaticParts : Elaborator → Elaborator → List PartGiven → List StaticPart → Type 0
 GivesStaticParts old new givens made =
-    OfTold old new (λ externs unit tables. (parts : List spec.PartGiven) → AreGivenAs externs unit old.types givens parts → AreStaticParts tables parts made)
+    OfTold old new (λ externs unit tables. (parts : List spec.PartGiven) →
+    AreGivenAs externs unit old.types givens parts → AreStaticParts tables parts made)
 
 -- the value of an expression is what the part begins with
-pub record BeginsValue (old new : Elaborator) (given : PartGiven) (e : Expr) (made : StaticPart) : Type 0 where
+pub record BeginsValue (old new : Elaborator) (given : PartGiven) (e : Expr)
+    (made : StaticPart) : Type 0 where
   pub path : made.path ≡ given.path
   pub ty : made.ty ≡ given.ty
   pub begun : GivesStaticValue old new given.ty e (record { value = made.value; pointer = made.pointer })
 
 -- the bytes of a literal, as elements of an array
 abbrev pub AreBytesOf : Elements → List CellStep → List ℕ → List StaticPart → Type 0
-AreBytesOf elements path bytes made = (tables : Tables) → Means tables.types elements.ty (Int elements.kind) → AreByteParts tables path elements.kind 0 bytes made
+AreBytesOf elements path bytes made = (tables : Tables) → Means tables.types elements.ty (Int elements.kind) →
+    AreByteParts tables path elements.kind 0 bytes made
 
 -- that initialises a part, whose type is an array of them
 abbrev pub ArePartsOfText : Elaborator → PartGiven → List ℕ → List StaticPart → Type 0
@@ -123,8 +133,10 @@ ArePartsOfText walk given bytes made =
 -- in tables without locals
 abbrev pub GivesPartsOutside : Elaborator → Elaborator → List PartGiven → List StaticPart → Type 0
 GivesPartsOutside old new givens made =
-    (externs : List Name) (unit : Unit) → AreTold externs unit old → (types : List CType) (entities : List Entity) → LeadsOutside new types entities →
-    (parts : List spec.PartGiven) → AreGivenAs externs unit old.types givens parts → AreStaticParts (tables_of types entities []) parts made
+    (externs : List Name) (unit : Unit) → AreTold externs unit old →
+    (types : List CType) (entities : List Entity) → LeadsOutside new types entities →
+    (parts : List spec.PartGiven) → AreGivenAs externs unit old.types givens parts →
+    AreStaticParts (tables_of types entities []) parts made
 
 -- ---- objects
 

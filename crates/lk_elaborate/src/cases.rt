@@ -38,8 +38,8 @@ fn case_with(value: i128, ordinal: u32) -> SwitchCase
     SwitchCase { value, ordinal }
 }
 
-/// A case with this number: its value is converted to the promoted type of the `switch`'s value (C99 6.8.4.2, 5). A value is
-/// known (24), and so is the type.
+/// A case with this number: its value is converted to the promoted type of the `switch`'s value
+/// (C99 6.8.4.2, 5). A value is known (24), and so is the type.
 fn case_of(
     walk: &Elaborator,
     kind: Option<Kind>,
@@ -165,7 +165,8 @@ impl Cases {
         Ok(())
     }
 
-    /// Puts the cases of a statement in a `switch` whose value has this kind. Those inside another `switch` belong to it.
+    /// Puts the cases of a statement in a `switch` whose value has this kind. Those inside
+    /// another `switch` belong to it.
     #[cycle(cases)]
     fn put(&mut self, walk: &Elaborator, kind: Option<Kind>, s: &Stmt) -> Result<(), NoMemory>
         ensures { OnOk result (PutsOf walk.now kind s.now self.old self.new) }

@@ -66,8 +66,8 @@ fn own_body(walk: &Elaborator, scope: Scope) -> Result<Option<u32>, NoMemory>
     }
 }
 
-/// The body in which a name of this linkage stands, where it is a `static` object of a block (`HasBody`). At file scope
-/// the name of an entity has a linkage.
+/// The body in which a name of this linkage stands, where it is a `static` object of a block (`HasBody`). At
+/// file scope the name of an entity has a linkage.
 fn body_of(walk: &Elaborator, scope: Scope, linkage: Linkage) -> Result<Option<u32>, NoMemory>
     ensures { IfOk result (HasBodyFor scope walk.now linkage) }
 {

@@ -76,7 +76,8 @@ fn take_locals(walk: &mut Elaborator) -> Vec<Local>
     locals.into_list()
 }
 
-/// Puts the body of the function with this number among the entities, whose locals begin with so many parameters.
+/// Puts the body of the function with this number among the entities, whose locals
+/// begin with so many parameters.
 fn put_body(
     walk: &mut Elaborator,
     node: &Function,

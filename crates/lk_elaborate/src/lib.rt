@@ -1,8 +1,8 @@
-//! The typed tree of a source without a fault (C99 6.7 to 6.9): names resolved, conversions written out, initialisers part by
-//! part.
+//! The typed tree of a source without a fault (C99 6.7 to 6.9): names resolved, conversions written
+//! out, initialisers part by part.
 //!
-//! The source was checked before, and what was found at its nodes is kept by their numbers. So a tree is made here by
-//! the syntax tree and those records alone.
+//! The source was checked before, and what was found at its nodes is kept by their numbers. So a tree is made
+//! here by the syntax tree and those records alone.
 #![tactic(auto)]
 
 mod beside;

@@ -126,8 +126,8 @@ fn types_in(walk: &Elaborator, t: TypeId) -> Result<TypeIds, NoMemory>
     Ok(types)
 }
 
-/// Puts the parameters that have these types. `(void)` is none (C99 6.7.5.3, 10), and else there are as many as
-/// types.
+/// Puts the parameters that have these types. `(void)` is none (C99 6.7.5.3, 10), and
+/// else there are as many as types.
 fn put_typed(walk: &mut Elaborator, list: &[Parameter], types: &[TypeId]) -> Result<(), NoMemory>
     ensures { OnOk result (PutsTyped walk.old walk.new list.now types.now) }
 {
@@ -140,8 +140,8 @@ fn put_typed(walk: &mut Elaborator, list: &[Parameter], types: &[TypeId]) -> Res
     Ok(())
 }
 
-/// Puts the parameters of a function of this type: how many there are. Each definition has a function declarator
-/// beside its name (C99 6.9.1, 2).
+/// Puts the parameters of a function of this type: how many there are. Each definition has a function
+/// declarator beside its name (C99 6.9.1, 2).
 pub(crate) fn put_parameters(
     walk: &mut Elaborator,
     d: &Declarator,

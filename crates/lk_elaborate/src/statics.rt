@@ -88,7 +88,8 @@ fn put_value(
     Ok(())
 }
 
-/// The elements of an array that a text initialises: their type and its kind, which is one of characters (C99 6.7.8, 14).
+/// The elements of an array that a text initialises: their type and its kind, which is one
+/// of characters (C99 6.7.8, 14).
 #[derive(Clone, Copy)]
 pub(crate) struct Elements {
     ty: TypeId,
@@ -268,7 +269,8 @@ fn is_later(objects: &[StaticObject], ordinal: u32) -> bool
     }
 }
 
-/// Puts the object of static storage of this type that is declared there, with its initialiser (`IsStaticObject`).
+/// Puts the object of static storage of this type that is declared there, with its
+/// initialiser (`IsStaticObject`).
 pub(crate) fn put_static_object(
     walk: &mut Elaborator,
     at: At,

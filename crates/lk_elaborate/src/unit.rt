@@ -172,7 +172,8 @@ fn are_whole(structs: &[Members]) -> bool
     true
 }
 
-/// That each struct of a source has its tag, and is complete or was never defined. So it is where there is no fault.
+/// That each struct of a source has its tag, and is complete or was never defined. So
+/// it is where there is no fault.
 fn ensure_whole_structs(checked: &Checked) -> Result<(), NoMemory>
     ensures { OnOk result (HasWholeStructs checked.now) }
 {

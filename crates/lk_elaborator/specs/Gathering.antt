@@ -27,7 +27,8 @@ AreOfOne n m = (n.ordinal ≡ m.ordinal) ⊎ ((is_linked_alike n.linkage m.linka
 
 -- they stand in the order of their numbers
 abbrev pub Rise : List NamedEntity → Type 0
-Rise ns = (i j : ℕ) (n m : NamedEntity) → i < j → slice_get ns i ≡ Some n → slice_get ns j ≡ Some m → n.ordinal < m.ordinal
+Rise ns = (i j : ℕ) (n m : NamedEntity) → i < j → slice_get ns i ≡ Some n → slice_get ns j ≡ Some m →
+    n.ordinal < m.ordinal
 
 -- ---- the entities that they are
 
@@ -60,15 +61,27 @@ pub record IsDeclaration (list : List Entity) (e k : ℕ) (is : Declaration) : T
 -- each name is a declaration of one entity, and nothing else is one; both stand in the order of the names
 pub record IsGathered (ns : List NamedEntity) (entities : Entities) : Type 0 where
   pub alone : (n m : NamedEntity) → Contains ns n → Contains ns m → n.ordinal ≡ m.ordinal → n ≡ m
-  pub all : (n : NamedEntity) → Contains ns n → (e k : ℕ) × (entity_at entities n.ordinal ≡ Some e) × IsDeclaration entities.list.items e k (declaration_of n)
-  pub none_else : (e k : ℕ) (is : Declaration) → IsDeclaration entities.list.items e k is → (n : NamedEntity) × Contains ns n × (is ≡ declaration_of n) × (entity_at entities n.ordinal ≡ Some e)
-  pub numbered : (o e : ℕ) → entity_at entities o ≡ Some e → (n : NamedEntity) × Contains ns n × (n.ordinal ≡ o)
-  pub one : (n m : NamedEntity) → Contains ns n → Contains ns m → (entity_at entities n.ordinal ≡ entity_at entities m.ordinal) ↔ AreOfOne n m
-  pub first : (e : ℕ) (entity : Entity) → slice_get entities.list.items e ≡ Some entity → (n : NamedEntity) × Contains ns n × BeginsWith n entity
-  pub named : (n : NamedEntity) → Contains ns n → is_linked_alike n.linkage n.linkage ≡ true → entity_named entities n.linkage n.name ≡ entity_at entities n.ordinal
-  pub none_named : (l : Linkage) (name : Name) (e : ℕ) → entity_named entities l name ≡ Some e → (n : NamedEntity) × Contains ns n × (n.linkage ≡ l) × (n.name ≡ name)
-  pub entities_rise : Rise ns → (e f : ℕ) (a b : Declaration) → e < f → IsDeclaration entities.list.items e 0 a → IsDeclaration entities.list.items f 0 b → a.ordinal < b.ordinal
-  pub declarations_rise : Rise ns → (e k j : ℕ) (a b : Declaration) → k < j → IsDeclaration entities.list.items e k a → IsDeclaration entities.list.items e j b → a.ordinal < b.ordinal
+  pub all : (n : NamedEntity) → Contains ns n →
+      (e k : ℕ) × (entity_at entities n.ordinal ≡ Some e)
+      × IsDeclaration entities.list.items e k (declaration_of n)
+  pub none_else : (e k : ℕ) (is : Declaration) → IsDeclaration entities.list.items e k is →
+      (n : NamedEntity) × Contains ns n × (is ≡ declaration_of n) × (entity_at entities n.ordinal ≡ Some e)
+  pub numbered : (o e : ℕ) → entity_at entities o ≡ Some e →
+      (n : NamedEntity) × Contains ns n × (n.ordinal ≡ o)
+  pub one : (n m : NamedEntity) → Contains ns n → Contains ns m →
+      (entity_at entities n.ordinal ≡ entity_at entities m.ordinal) ↔ AreOfOne n m
+  pub first : (e : ℕ) (entity : Entity) → slice_get entities.list.items e ≡ Some entity →
+      (n : NamedEntity) × Contains ns n × BeginsWith n entity
+  pub named : (n : NamedEntity) → Contains ns n → is_linked_alike n.linkage n.linkage ≡ true →
+      entity_named entities n.linkage n.name ≡ entity_at entities n.ordinal
+  pub none_named : (l : Linkage) (name : Name) (e : ℕ) → entity_named entities l name ≡ Some e →
+      (n : NamedEntity) × Contains ns n × (n.linkage ≡ l) × (n.name ≡ name)
+  pub entities_rise : Rise ns → (e f : ℕ) (a b : Declaration) → e < f →
+      IsDeclaration entities.list.items e 0 a → IsDeclaration entities.list.items f 0 b →
+      a.ordinal < b.ordinal
+  pub declarations_rise : Rise ns → (e k j : ℕ) (a b : Declaration) → k < j →
+      IsDeclaration entities.list.items e k a → IsDeclaration entities.list.items e j b →
+      a.ordinal < b.ordinal
 
 -- ---- one name more
 
@@ -82,7 +95,8 @@ is_name l name m other = is_linked_alike l m && pointwise nat_eq name other
 -- the name has this entity now, and others are as they were
 pub record PutsName (old new : Entities) (l : Linkage) (name : Name) (e : ℕ) : Type 0 where
   pub put : is_linked_alike l l ≡ true → entity_named new l name ≡ Some e
-  pub others : (m : Linkage) (other : Name) → is_name l name m other ≡ false → entity_named new m other ≡ entity_named old m other
+  pub others : (m : Linkage) (other : Name) → is_name l name m other ≡ false →
+      entity_named new m other ≡ entity_named old m other
 
 -- one entity more, with one declaration
 pub record BeginsEntity (old new : List Entity) (n : NamedEntity) : Type 0 where
@@ -114,7 +128,9 @@ earlier (Some use_) (Some other) = if nat_le use_.ordinal other.ordinal then Som
 -- the first of them, or none where there is none
 pub data IsFirstOf (uses : List (ℕ × Use)) (declarations : List Declaration) : Option Use → Type 0 where
   unused : ((other : Use) → IsRecorded uses declarations other → ⊥) → IsFirstOf uses declarations None
-  used : {use_ : Use} → IsRecorded uses declarations use_ → ((other : Use) → IsRecorded uses declarations other → use_.ordinal ≤ other.ordinal) → IsFirstOf uses declarations (Some use_)
+  used : {use_ : Use} → IsRecorded uses declarations use_ →
+      ((other : Use) → IsRecorded uses declarations other → use_.ordinal ≤ other.ordinal) →
+      IsFirstOf uses declarations (Some use_)
 
 -- a number of the composite of the types of declarations
 pub record IsComposite (types : List CType) (declarations : List Declaration) (t : ℕ) : Type 0 where
@@ -128,6 +144,8 @@ pub record IsFinished (types : List CType) (uses : List (ℕ × Use)) (was entit
   pub use_ : IsFirstOf uses was.declarations entity.first_use
   pub type : IsComposite types was.declarations entity.ty
 
-pub record AreFinished (types : List CType) (uses : List (ℕ × Use)) (were entities : List Entity) : Type 0 where
+pub record AreFinished (types : List CType) (uses : List (ℕ × Use))
+    (were entities : List Entity) : Type 0 where
   pub same : length entities ≡ length were
-  pub each : (e : ℕ) (was entity : Entity) → slice_get were e ≡ Some was → slice_get entities e ≡ Some entity → IsFinished types uses was entity
+  pub each : (e : ℕ) (was entity : Entity) → slice_get were e ≡ Some was →
+      slice_get entities e ≡ Some entity → IsFinished types uses was entity

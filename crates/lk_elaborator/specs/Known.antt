@@ -25,7 +25,8 @@ OfEach walk n Says = (p : InPlace) → p.1.ordinal ≡ n → IsTrueOf walk p →
 -- the type of each type name with this number of which what was found is true
 abbrev pub IsNamedAt : Elaborator → ℕ → ℕ → Type 0
 IsNamedAt walk n t =
-    (name : Env × TypeName) → (out-TypeName name.1).ordinal ≡ n → IsTrueOfName walk name → type_named name ≡ Some (meaning walk.types t)
+    (name : Env × TypeName) → (out-TypeName name.1).ordinal ≡ n → IsTrueOfName walk name →
+    type_named name ≡ Some (meaning walk.types t)
 
 -- ---- what is found of it, its typing, and that of its value
 

@@ -16,7 +16,8 @@ entity_by walk n = lookup (nat_eq n) walk.entities.by_ordinal.entries
 abbrev pub local_by : Elaborator → ℕ → Option ℕ
 local_by walk n = lookup (nat_eq n) walk.locals.numbers.entries
 
--- the numbers of types, entities and locals that are given so far stand in these tables for what they were given to
+-- the numbers of types, entities and locals that are given so far stand in these
+-- tables for what they were given to
 pub record Leads (walk : Elaborator) (tables : Tables) : Type 0 where
   pub types : (more : List CType) × (tables.types ≡ walk.types.types ++ more)
   pub entities : (n e : ℕ) → entity_by walk n ≡ Some e → IsEntityAt tables n e

@@ -13,17 +13,20 @@ use Rattle.lk_elaborator.specs.declared.locals.Locals.{Locals}
 
 -- a number that a node has is that of the local which the node declares
 abbrev pub AreNumbered : Locals → Type 0
-AreNumbered locals = (n l : ℕ) → lookup (nat_eq n) locals.numbers.entries ≡ Some l → (local : Local) × (slice_get locals.list.items l ≡ Some local) × (local.ordinal ≡ n)
+AreNumbered locals = (n l : ℕ) → lookup (nat_eq n) locals.numbers.entries ≡ Some l →
+    (local : Local) × (slice_get locals.list.items l ≡ Some local) × (local.ordinal ≡ n)
 
 -- they stand in the order of the nodes that declare them
 abbrev pub Rise : List Local → Type 0
-Rise locals = (l m : ℕ) (a b : Local) → l < m → slice_get locals l ≡ Some a → slice_get locals m ≡ Some b → a.ordinal < b.ordinal
+Rise locals = (l m : ℕ) (a b : Local) → l < m → slice_get locals l ≡ Some a → slice_get locals m ≡ Some b →
+    a.ordinal < b.ordinal
 
 -- and before the node with this number
 abbrev pub AreBefore : List Local → ℕ → Type 0
 AreBefore locals n = (l : ℕ) (a : Local) → slice_get locals l ≡ Some a → a.ordinal < n
 
--- what the node with the number n declares with the type t is a slot: a scalar of which no expression takes the address
+-- what the node with the number n declares with the type t is a slot: a scalar of which no
+-- expression takes the address
 abbrev pub IsSlotOf : Elaborator → (t n : ℕ) → Type 0
 IsSlotOf walk t n = (is_scalar (meaning walk.types t) ≡ true) × (lookup (nat_eq n) walk.records.taken ≡ None)
 
@@ -46,4 +49,6 @@ pub record PutsLocal (old new : Elaborator) (local : Local) : Type 0 where
 
 -- one of this name and type, which the node with this number declares
 abbrev pub PutsLocalOf : Elaborator → Elaborator → Name → ℕ → Spot → ℕ → Type 0
-PutsLocalOf old new name ty spot ordinal = (is_slot : Bool) × PutsLocal old new (record { name = name; ty = ty; spot = spot; ordinal = ordinal; is_slot = is_slot })
+PutsLocalOf old new name ty spot ordinal =
+    (is_slot : Bool) × PutsLocal old new
+    (record { name = name; ty = ty; spot = spot; ordinal = ordinal; is_slot = is_slot })

@@ -1,4 +1,5 @@
--- What stands in an expression for an operand, and what an expression is of what stands for its operands (C99 6.3, 6.5).
+-- What stands in an expression for an operand, and what an expression is of what stands for
+-- its operands (C99 6.3, 6.5).
 use Rattle.std.specs.Prelude.{ℕ, ◌≡◌, ⊤, Bool, Option, Some, None}
 use Rattle.lk_tree.specs.declared.expression.Expr.{Expr}
 use Rattle.lk_types.specs.Table.{Table}
@@ -105,7 +106,8 @@ PartStandsAs table (part.Number z ty) r = ⊤
 
 -- a node of this form with the type that the rules find
 abbrev pub MakesOwn : Tables → InPlace → OpenForm → TypedExpr → Type 0
-MakesOwn tables p form t = (typing : Typing) × (typing_at p ≡ Some typing) × Makes tables p (node_type typing.type) form t
+MakesOwn tables p form t =
+    (typing : Typing) × (typing_at p ≡ Some typing) × Makes tables p (node_type typing.type) form t
 
 -- such a node is the expression itself
 abbrev pub IsFormOf : Tables → Bool → InPlace → OpenForm → Type 0
@@ -150,5 +152,6 @@ module _ (table : Table) (tables : Tables) (folded : Bool) (p : InPlace) where
     pub condition : PartStandsAs table three.condition c.0.role
     pub taken : PartStandsAs table three.taken l.0.role
     pub other : PartStandsAs table three.other r.0.role
-    pub gives : (x y z : TypedExpr) → IsPart tables folded c three.condition x → IsPart tables folded l three.taken y → IsPart tables folded r three.other z →
+    pub gives : (x y z : TypedExpr) → IsPart tables folded c three.condition x →
+        IsPart tables folded l three.taken y → IsPart tables folded r three.other z →
         IsFormOf tables folded p (TypedForm-F.Choice x y z)

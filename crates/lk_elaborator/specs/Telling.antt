@@ -32,25 +32,35 @@ pub record IsMeant (table : Table) (p : InPlace) (meant : Meant) : Type 0 where
 -- at the end of the source the struct has members of the same names
 abbrev pub HasFields : Elaborator → ℕ → List Field → Type 0
 HasFields walk s fields =
-    (found : List FieldFound) × (slice_get walk.names.structs s ≡ Some (members.Known found)) × (map (λ field. field.name) found ≡ map (λ field. field.name) fields)
+    (found : List FieldFound) × (slice_get walk.names.structs s ≡ Some (members.Known found))
+    × (map (λ field. field.name) found ≡ map (λ field. field.name) fields)
 
 -- what was found of the expression is true of it where it stands
 pub record IsTrueOf (walk : Elaborator) (p : InPlace) : Type 0 where
   pub ready : IsReady walk.types
-  pub found : (f : Found) → lookup (nat_eq p.1.ordinal) walk.records.founds ≡ Some f → IsFound walk.types p.0 f (expression p.1 p.0)
+  pub found : (f : Found) → lookup (nat_eq p.1.ordinal) walk.records.founds ≡ Some f →
+      IsFound walk.types p.0 f (expression p.1 p.0)
   pub meant : (m : Meant) → lookup (nat_eq p.1.ordinal) walk.records.meant ≡ Some m → IsMeant walk.types p m
   -- a struct whose members are known behind it keeps them
   pub structs : (s : ℕ) (fields : List Field) → members_behind p s ≡ Known fields → HasFields walk s fields
-  pub defined : (name : List ℕ) → is_one_of p.0.outside.defined name ≡ contains_by (is_name name) walk.outside.defined
-  pub externs : (name : List ℕ) → is_one_of p.0.outside.externs name ≡ contains_by (is_name name) walk.outside.externs
+  pub defined : (name : List ℕ) →
+      is_one_of p.0.outside.defined name ≡ contains_by (is_name name) walk.outside.defined
+  pub externs : (name : List ℕ) →
+      is_one_of p.0.outside.externs name ≡ contains_by (is_name name) walk.outside.externs
 
 -- the type that was found of the type name is the one that it names
 abbrev pub IsTrueOfName : Elaborator → Env × TypeName → Type 0
 IsTrueOfName walk n =
-    (t : ℕ) → lookup (nat_eq (out-TypeName n.1).ordinal) walk.records.named ≡ Some t → IsKnown walk.types t × (type_named n ≡ Some (meaning walk.types t))
+    (t : ℕ) → lookup (nat_eq (out-TypeName n.1).ordinal) walk.records.named ≡ Some t →
+    IsKnown walk.types t × (type_named n ≡ Some (meaning walk.types t))
 
--- what was found of each expression and type name that stands in a node, in the environment in which it stands there; `at_end` is the environment behind the source
+-- what was found of each expression and type name that stands in a node, in the environment in which it
+-- stands there; `at_end` is the environment behind the source
 pub record IsTold (at_end : Env) (walk : Elaborator) (env : Env) (node : Node) : Type 0 where
   pub ready : IsReady walk.types
-  pub expressions : (env' : Env) (e : Expr) → Stands (parts at_end) (breaches at_end) (hiding at_end) mark_of env node env' (AnExpression e) → IsTrueOf walk (env', e)
-  pub names : (env' : Env) (n : TypeName) → Stands (parts at_end) (breaches at_end) (hiding at_end) mark_of env node env' (ATypeName n) → IsTrueOfName walk (env', n)
+  pub expressions : (env' : Env) (e : Expr) →
+      Stands (parts at_end) (breaches at_end) (hiding at_end) mark_of env node env' (AnExpression e) →
+      IsTrueOf walk (env', e)
+  pub names : (env' : Env) (n : TypeName) →
+      Stands (parts at_end) (breaches at_end) (hiding at_end) mark_of env node env' (ATypeName n) →
+      IsTrueOfName walk (env', n)

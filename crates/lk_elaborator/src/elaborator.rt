@@ -12,8 +12,8 @@ use lk_names::Names;
 use lk_typed::{Body, StaticObject};
 use std::alloc::Global;
 
-/// The state in which the typed tree of a source without a fault is made: what the checker found, and what of the tree
-/// is made.
+/// The state in which the typed tree of a source without a fault is made: what the checker found,
+/// and what of the tree is made.
 #[derive(Drop)]
 pub struct Elaborator {
     pub alloc: Global,

@@ -1,5 +1,5 @@
-//! What typed trees are made of: what the checker found at the nodes of a source, the types, functions, objects and locals
-//! so far, and what stands for an operand (C99 6.5).
+//! What typed trees are made of: what the checker found at the nodes of a source, the types, functions,
+//! objects and locals so far, and what stands for an operand (C99 6.5).
 //!
 //! `Err` comes for want of memory, and where what each source without a fault has isn't there (`nowhere`).
 #![tactic(auto)]

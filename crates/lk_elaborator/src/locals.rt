@@ -71,8 +71,8 @@ impl Locals {
         }
     }
 
-    /// The number of the local that a node declares. An object of automatic storage that is named in a body was declared
-    /// in it before.
+    /// The number of the local that a node declares. An object of automatic storage that is named in a
+    /// body was declared in it before.
     pub fn number_of(&self, ordinal: u32) -> Result<u32, NoMemory>
         ensures { IfOk result (λ number. lookup (nat_eq ordinal) self.now.numbers.entries ≡ Some number) }
     {
@@ -104,7 +104,8 @@ impl Locals {
     }
 }
 
-/// Whether an object of automatic storage is a slot: a scalar whose address nothing in the text takes (C99 6.2.5, 21).
+/// Whether an object of automatic storage is a slot: a scalar whose address nothing in
+/// the text takes (C99 6.2.5, 21).
 fn is_slot(walk: &Elaborator, ty: TypeId, ordinal: u32) -> Result<bool, NoMemory>
     ensures known { OnOk result (IsKnown walk.now.types ty) }
     ensures slot { IfOk result (λ slot. (slot ≡ true) ↔ IsSlotOf walk.now ty ordinal) }

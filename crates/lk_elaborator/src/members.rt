@@ -55,7 +55,8 @@ fn number_in(walk: &Elaborator, ty: &ExprType, name: &Name) -> Result<u32, NoMem
     }
 }
 
-/// The number of the member with a name of the struct to which a pointer points. What is on the left of `->` is one.
+/// The number of the member with a name of the struct to which a pointer points. What
+/// is on the left of `->` is one.
 pub fn number_behind(walk: &Elaborator, pointer: u32, name: &Name) -> Result<u32, NoMemory>
     ensures { IfOk result (λ k. OfEach walk.now pointer (λ p. IsNumberBehind walk.now p name.now k)) }
 {

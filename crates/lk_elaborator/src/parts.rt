@@ -1,5 +1,5 @@
-//! What stands in an expression for an operand: itself, its value, or its value converted (`IsTyped`, `IsValue`,
-//! `IsConverted`).
+//! What stands in an expression for an operand: itself, its value, or its value converted
+//! (`IsTyped`, `IsValue`, `IsConverted`).
 
 ghost use Rattle.std.specs.Prelude.{◌≡◌, Bool, IfOk, OnOk, true};
 ghost use Rattle.lk_typed.specs.Elaborated.{InPlace, IsTyped, IsValue};
@@ -99,8 +99,8 @@ pub fn converted_operand(
     Ok(converted_part(conversion, Role::Operand))
 }
 
-/// The value with a number that is converted to a type directly, as by an assignment, an argument, a result or an
-/// initialiser.
+/// The value with a number that is converted to a type directly, as by an assignment, an
+/// argument, a result or an initialiser.
 pub fn given_part(walk: &mut Elaborator, ordinal: u32, target: &ExprType) -> Result<Part, NoMemory>
     ensures converted { IfOk result (λ part.
         Gives walk.old walk.new ordinal part (ConvertedTo (meaning_of walk.old.types target.now))) }
@@ -133,8 +133,8 @@ fn number_of(walk: &mut Elaborator, target: &ExprType, number: i128) -> Result<P
     Ok(Part::Number(number, ty))
 }
 
-/// The operand with a number by which a pointer moves in an address constant: the number that it is. It is a constant
-/// (C99 6.6, 9).
+/// The operand with a number by which a pointer moves in an address constant: the number that it is.
+/// It is a constant (C99 6.6, 9).
 fn moving(walk: &mut Elaborator, ordinal: u32, target: &ExprType) -> Result<Part, NoMemory>
     ensures operand { IfOk result (λ part.
         Gives walk.old walk.new ordinal part (OperandOf true (meaning_of walk.old.types target.now))) }
@@ -148,7 +148,8 @@ fn moving(walk: &mut Elaborator, ordinal: u32, target: &ExprType) -> Result<Part
     }
 }
 
-/// The operand with a number, converted to a type, and whether a pointer moves by it in an address constant (`IsOperand`).
+/// The operand with a number, converted to a type, and whether a pointer moves by it in an
+/// address constant (`IsOperand`).
 pub fn operand_part(
     walk: &mut Elaborator,
     ordinal: u32,

@@ -60,8 +60,8 @@ impl SourceTypes {
         table
     }
 
-    /// The pointer to a type. The table has room for it: no type that is declared is over the bounds of the language, and
-    /// those of a table are wider.
+    /// The pointer to a type. The table has room for it: no type that is declared is over the bounds of the
+    /// language, and those of a table are wider.
     pub fn pointer(&mut self, target: TypeId) -> Result<TypeId, NoMemory>
         requires { IsKnown self.old target }
         ensures means { IfOk result (λ t. meaning self.new t ≡ Pointer (meaning self.old target)) }

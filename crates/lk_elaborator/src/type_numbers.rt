@@ -20,8 +20,8 @@ pub(crate) fn is_number(types: &TypeTable, t: TypeId) -> bool
     t.0 < types.count()
 }
 
-/// The number itself, which is one of a type: each number that the records or the typed tree hold is one, and types
-/// stay while the table grows.
+/// The number itself, which is one of a type: each number that the records or the typed tree hold is one, and
+/// types stay while the table grows.
 pub fn known(types: &TypeTable, t: TypeId) -> Result<TypeId, NoMemory>
     ensures known { IfOk result (IsKnown types.now) }
     ensures value { IfOk result (λ same. same ≡ t) }

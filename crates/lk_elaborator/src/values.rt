@@ -203,7 +203,8 @@ fn written(walk: &mut Elaborator, ordinal: u32, target: &ExprType) -> Result<Con
     }))
 }
 
-/// What the value of the expression with a number is, converted to a type of the table or to a pointer to one.
+/// What the value of the expression with a number is, converted to a type of the
+/// table or to a pointer to one.
 pub(crate) fn conversion_at(
     walk: &mut Elaborator,
     ordinal: u32,
@@ -250,7 +251,8 @@ fn converted_node(
     }
 }
 
-/// The value of an expression, converted to a type of the table or to a pointer to one (`IsConverted`; C99 6.3).
+/// The value of an expression, converted to a type of the table or to a pointer to
+/// one (`IsConverted`; C99 6.3).
 pub fn converted(
     walk: &mut Elaborator,
     node: TypedExpr,

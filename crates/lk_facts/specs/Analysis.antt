@@ -23,8 +23,8 @@ IsOrder program after = (p q : ℕ) → (after p q ≡ true) ↔ After program p
 abbrev pub IsLinearTest : Program → (ℕ → Bool) → Type 0
 IsLinearTest program linear = (q : ℕ) → (linear q ≡ true) ↔ IsLinear program q
 
--- The verdicts of a program: those of its racing items with their locks, which rest on its items with theirs, on the locks
--- that are held at its points, on the order of these, and on which lock places are linear.
+-- The verdicts of a program: those of its racing items with their locks, which rest on its items with theirs,
+-- on the locks that are held at its points, on the order of these, and on which lock places are linear.
 pub record AreVerdictsOf (basis : Basis) (found : List Verdict) : Type 0 where
   pub held : LockSets
   pub lock_sets : AreLockSets basis held
@@ -35,7 +35,8 @@ pub record AreVerdictsOf (basis : Basis) (found : List Verdict) : Type 0 where
   pub items : AreItems basis (held_table held) has item_locks
   pub races : ItemTest
   pub race_locks : LockTest
-  pub racing : AreRaces basis (record { after = after; has = has; held = held_table held; locks = item_locks }) races race_locks
+  pub racing : AreRaces basis
+      (record { after = after; has = has; held = held_table held; locks = item_locks }) races race_locks
   pub linear : ℕ → Bool
   pub is_linear : IsLinearTest basis.program linear
   pub verdicts : AreVerdicts basis races race_locks linear found

@@ -1,4 +1,5 @@
--- Edges (LOCKSMITH: label flow): what is at one label may be at another. An edge joins two labels of one type.
+-- Edges (LOCKSMITH: label flow): what is at one label may be at another. An edge
+-- joins two labels of one type.
 use Rattle.std.specs.Prelude.{◌≡◌, ◌↔◌, ◌⊎◌, ℕ, suc, true, false, Option, Some, None, List, [], ◌∷◌, slice_get}
 use Rattle.lk_facts.specs.LabelRules.{IsPart, IsWhole, form_of, leads_inside, is_function}
 use Rattle.lk_facts.specs.Paths.{opposite, HasEdge}
@@ -77,13 +78,18 @@ module _ (program : Program) where
 
   -- a conversion (C99 6.3.2.3): to an equal type but for the sizes of arrays, to `void *`, and from `void *`
   pub data Converts (a p : ℕ) (u v : LabelName) (m : Mark) : Type 0 where
-    same : (s t : ℕ) → value_type_at program a ≡ Some s → value_type_at program p ≡ Some t → IsAlike program.types.types s t → Sub Plain (value a) (value p) u v m → Converts a p u v m
-    to_void : (t : ℕ) → GivesForm program a (Pointer t) → PointsToForm program p Void → Loc Plain (target a) (In (target p) (Part t)) u v m → Converts a p u v m
-    from_void : (t : ℕ) → PointsToForm program a Void → GivesForm program p (Pointer t) → Loc Plain (In (target a) (Part t)) (target p) u v m → Converts a p u v m
+    same : (s t : ℕ) → value_type_at program a ≡ Some s → value_type_at program p ≡ Some t →
+        IsAlike program.types.types s t → Sub Plain (value a) (value p) u v m → Converts a p u v m
+    to_void : (t : ℕ) → GivesForm program a (Pointer t) → PointsToForm program p Void →
+        Loc Plain (target a) (In (target p) (Part t)) u v m → Converts a p u v m
+    from_void : (t : ℕ) → PointsToForm program a Void → GivesForm program p (Pointer t) →
+        Loc Plain (In (target a) (Part t)) (target p) u v m → Converts a p u v m
 
   -- the arguments of a call or creation at the site of p
   abbrev pub Passes : (p g : ℕ) → List ℕ → LabelName → LabelName → Mark → Type 0
-  Passes p g args u v m = (i k a : ℕ) × (site_at program p ≡ Some i) × (slice_get args k ≡ Some a) × Sub (Enter i) (value a) (parameter g (suc k)) u v m
+  Passes p g args u v m =
+      (i k a : ℕ) × (site_at program p ≡ Some i) × (slice_get args k ≡ Some a)
+      × Sub (Enter i) (value a) (parameter g (suc k)) u v m
 
   -- the result of a call at the site of p
   abbrev pub GivesBack : (p g : ℕ) → LabelName → LabelName → Mark → Type 0
@@ -91,14 +97,15 @@ module _ (program : Program) where
 
   -- the arguments of a call of what a points to
   abbrev pub PassesThrough : (a : ℕ) → List ℕ → LabelName → LabelName → Mark → Type 0
-  PassesThrough a args u v m = (k b : ℕ) × (slice_get args k ≡ Some b) × Sub Plain (value b) (Of (target a) (Field (suc k))) u v m
+  PassesThrough a args u v m =
+      (k b : ℕ) × (slice_get args k ≡ Some b) × Sub Plain (value b) (Of (target a) (Field (suc k))) u v m
 
   abbrev pub Returns : (f : ℕ) → Option ℕ → LabelName → LabelName → Mark → Type 0
   Returns f None = NoEdge
   Returns f (Some a) = Sub Plain (value a) (result f)
 
-  -- What the action of the point p of the function f joins. A Binary whose value is a pointer moves its left operand (C99 6.5.6). The Write
-  -- of a static initialiser is one like others.
+  -- What the action of the point p of the function f joins. A Binary whose value is a pointer moves its left
+  -- operand (C99 6.5.6). The Write of a static initialiser is one like others.
   abbrev pub Row : (p f : ℕ) → Action → LabelName → LabelName → Mark → Type 0
   Row p f (action.Value number ty) = NoEdge
   Row p f (action.Null ty) = NoEdge
@@ -121,7 +128,8 @@ module _ (program : Program) where
   Row p f (action.Switch a cases) = NoEdge
   Row p f action.Skip = NoEdge
   Row p f (action.Call g args) = λ u v m. Passes p g args u v m ⊎ GivesBack p g u v m
-  Row p f (action.PointerCall a args) = λ u v m. PassesThrough a args u v m ⊎ Sub Plain (Of (target a) (Field 0)) (value p) u v m
+  Row p f (action.PointerCall a args) =
+      λ u v m. PassesThrough a args u v m ⊎ Sub Plain (Of (target a) (Field 0)) (value p) u v m
   Row p f (action.Return a) = Returns f a
   Row p f (action.Create g a) = Passes p g (a ∷ [])
   Row p f (action.StoreId a) = NoEdge
@@ -149,28 +157,39 @@ module _ (program : Program) where
     pub function : is_function (form_of program.types u.node) ≡ true
     pub points : Of (IsPart program u (Field k)) Target x
 
-  -- The edges are the least with these. Where an edge joins two pointers, what they point to is one thing, and is joined both ways; what it
-  -- joins it joins part by part; and of functions the results flow with it, and the parameters against it.
+  -- The edges are the least with these. Where an edge joins two pointers, what they point to is one thing,
+  -- and is joined both ways; what it joins it joins part by part; and of functions the results flow with it,
+  -- and the parameters against it.
   pub data IsEdge : LabelName → LabelName → Mark → Type 0 where
-    row : {u v : LabelName} {m : Mark} (p f : ℕ) (act : Action) → action_at program p ≡ Some act → function_at program p ≡ Some f → Row p f act u v m → IsEdge u v m
+    row : {u v : LabelName} {m : Mark} (p f : ℕ) (act : Action) → action_at program p ≡ Some act →
+        function_at program p ≡ Some f → Row p f act u v m → IsEdge u v m
     -- main's parameters, where it has any (C99 5.1.2.2.1)
-    argv : {u v : LabelName} {m : Mark} (r : ℕ) → IsRootOf Argv r → Loc Plain (In (place r) Element) (Of (parameter program.main 2) Target) u v m → IsEdge u v m
-    args : {u v : LabelName} {m : Mark} (r q : ℕ) → IsRootOf Args r → IsRootOf Argv q → Loc Plain (In (place r) Element) (Of (In (place q) Element) Target) u v m → IsEdge u v m
+    argv : {u v : LabelName} {m : Mark} (r : ℕ) → IsRootOf Argv r →
+        Loc Plain (In (place r) Element) (Of (parameter program.main 2) Target) u v m → IsEdge u v m
+    args : {u v : LabelName} {m : Mark} (r q : ℕ) → IsRootOf Args r → IsRootOf Argv q →
+        Loc Plain (In (place r) Element) (Of (In (place q) Element) Target) u v m → IsEdge u v m
     -- a function that is used as a value
-    passed : {u v : LabelName} {m : Mark} (g i k : ℕ) → value_site_of program g ≡ Some i → Sub (Enter i) (Of (code g) (Field (suc k))) (parameter g (suc k)) u v m → IsEdge u v m
-    given_back : {u v : LabelName} {m : Mark} (g i : ℕ) → value_site_of program g ≡ Some i → Sub (Leave i) (result g) (Of (code g) (Field 0)) u v m → IsEdge u v m
+    passed : {u v : LabelName} {m : Mark} (g i k : ℕ) → value_site_of program g ≡ Some i →
+        Sub (Enter i) (Of (code g) (Field (suc k))) (parameter g (suc k)) u v m → IsEdge u v m
+    given_back : {u v : LabelName} {m : Mark} (g i : ℕ) → value_site_of program g ≡ Some i →
+        Sub (Leave i) (result g) (Of (code g) (Field 0)) u v m → IsEdge u v m
     -- 1: pointers
-    forth : {u v x y : LabelName} {m : Mark} → IsEdge u v m → IsPart program u Target x → IsPart program v Target y → IsEdge x y m
-    back : {u v x y : LabelName} {m : Mark} → IsEdge u v m → IsPart program u Target x → IsPart program v Target y → IsEdge y x (opposite m)
+    forth : {u v x y : LabelName} {m : Mark} → IsEdge u v m → IsPart program u Target x →
+        IsPart program v Target y → IsEdge x y m
+    back : {u v x y : LabelName} {m : Mark} → IsEdge u v m → IsPart program u Target x →
+        IsPart program v Target y → IsEdge y x (opposite m)
     -- 2: structs, arrays and what `void *` points to
-    inside : {u v x y : LabelName} {m : Mark} (s : Sel) → IsEdge u v m → IsInside u s x → IsInside v s y → IsEdge x y m
+    inside : {u v x y : LabelName} {m : Mark} (s : Sel) → IsEdge u v m → IsInside u s x →
+        IsInside v s y → IsEdge x y m
     -- 3: functions
     results : {u v x y : LabelName} {m : Mark} → IsEdge u v m → IsBehind u 0 x → IsBehind v 0 y → IsEdge x y m
-    parameters : {u v x y : LabelName} {m : Mark} (k : ℕ) → IsEdge u v m → IsBehind u (suc k) x → IsBehind v (suc k) y → IsEdge y x (opposite m)
+    parameters : {u v x y : LabelName} {m : Mark} (k : ℕ) → IsEdge u v m → IsBehind u (suc k) x →
+        IsBehind v (suc k) y → IsEdge y x (opposite m)
 
   -- the edges between numbers of labels
   abbrev pub IsEdgeOf : List LabelName → ℕ → ℕ → Mark → Type 0
-  IsEdgeOf names a b m = (x y : LabelName) × (slice_get names a ≡ Some x) × (slice_get names b ≡ Some y) × IsEdge x y m
+  IsEdgeOf names a b m =
+      (x y : LabelName) × (slice_get names a ≡ Some x) × (slice_get names b ≡ Some y) × IsEdge x y m
 
   -- the list has just the edges, each once
   pub record AreEdges (names : List LabelName) (es : List Edge) : Type 0 where

@@ -1,4 +1,5 @@
--- Labels (LOCKSMITH: a label for each level of each type): what pointers may point to, and in which order labels stand.
+-- Labels (LOCKSMITH: a label for each level of each type): what pointers may point to, and
+-- in which order labels stand.
 use Rattle.std.specs.Prelude.{◌≡◌, ◌↔◌, ◌<◌, ◌≤◌, ◌⊎◌, ℕ, Bool, true, false, not, List, [], ◌∷◌, ◌++◌, map, filter_map, length, slice_get, Option, Some, Contains, AllPairs, MatchOption, min, ◌-◌, ◌^◌, nat_eq, ⊤}
 use Rattle.std.specs.Option.{option_map_or}
 use Rattle.lk_facts.specs.Labels.{LabelTable}
@@ -36,8 +37,8 @@ is_function (Struct s) = false
 is_function (Function result params dots) = true
 is_function (Opaque n) = false
 
--- a step from a node of this form leads to a place or a function. One from a function leads to its result or to a parameter of it, which
--- are values.
+-- a step from a node of this form leads to a place or a function. One from a function leads to its result or
+-- to a parameter of it, which are values.
 abbrev pub leads_to_place : CType → Sel → Bool
 leads_to_place form Target = true
 leads_to_place form Element = true
@@ -71,31 +72,37 @@ module _ (table : Table) where
     start : (n : NodeId) → IsStart t n → IsNodeOf t n
     part : (m n : NodeId) (s : Sel) → IsNodeOf t m → Steps m s n → IsNodeOf t n
 
-  -- The node names a place or a function. The Start does so where a root has the type (`whole`); that of a slot, a result or a point names
-  -- its value.
+  -- The node names a place or a function. The Start does so where a root has the type (`whole`); that of a
+  -- slot, a result or a point names its value.
   pub data NamesPlace (t : ℕ) (whole : Bool) : NodeId → Type 0 where
     start : (n : NodeId) → whole ≡ true → IsStart t n → NamesPlace t whole n
-    part : (m n : NodeId) (s : Sel) → IsNodeOf t m → leads_to_place (form_of m) s ≡ true → Steps m s n → NamesPlace t whole n
+    part : (m n : NodeId) (s : Sel) → IsNodeOf t m → leads_to_place (form_of m) s ≡ true → Steps m s n →
+        NamesPlace t whole n
 
   -- a node that is reached from the Start without Target
   pub data IsWithin (t : ℕ) : NodeId → Type 0 where
     start : (n : NodeId) → IsStart t n → IsWithin t n
-    part : (m n : NodeId) (s : Sel) → IsWithin t m → leads_inside (form_of m) s ≡ true → Steps m s n → IsWithin t n
+    part : (m n : NodeId) (s : Sel) → IsWithin t m → leads_inside (form_of m) s ≡ true →
+        Steps m s n → IsWithin t n
 
   -- the steps from a node, in order: Target, Element, Field by number, Part in the order of the table
   abbrev pub sels : ℕ → List Sel
-  sels t = Target ∷ Element ∷ map Field (numbers_from 0 (length (fields_of table (type_at table t)))) ++ map Part table.parts
+  sels t =
+      Target ∷ Element ∷ map Field (numbers_from 0 (length (fields_of table (type_at table t)))) ++
+      map Part table.parts
 
   -- the parts of a node, in order
   abbrev pub parts_of : Node → List Node
   parts_of node = filter_map (step table node) (sels node.type)
 
-  -- Where the nodes `seen` are listed and those `ahead` come next, the walk goes on with the nodes listed last: depth first, each node once
-  -- and before its parts.
+  -- Where the nodes `seen` are listed and those `ahead` come next, the walk goes on with the nodes listed
+  -- last: depth first, each node once and before its parts.
   pub data Walk : (seen ahead listed : List Node) → Type 0 where
     done : (seen : List Node) → Walk seen [] []
-    again : (node : Node) (seen ahead more : List Node) → Contains seen node → Walk seen ahead more → Walk seen (node ∷ ahead) more
-    fresh : (node : Node) (seen ahead below more : List Node) → IsMissing seen node → Walk (seen ++ node ∷ []) (parts_of node) below → Walk (seen ++ node ∷ below) ahead more →
+    again : (node : Node) (seen ahead more : List Node) → Contains seen node → Walk seen ahead more →
+        Walk seen (node ∷ ahead) more
+    fresh : (node : Node) (seen ahead below more : List Node) → IsMissing seen node →
+        Walk (seen ++ node ∷ []) (parts_of node) below → Walk (seen ++ node ∷ below) ahead more →
         Walk seen (node ∷ ahead) (node ∷ below ++ more)
 
   -- in the walk from the Start of the type the node m comes before n
@@ -164,18 +171,20 @@ module _ (program : Program) where
 
   -- an origin: a label of a root whose node is reached without Target
   abbrev pub IsOrigin : LabelName → Type 0
-  IsOrigin x = (r t : ℕ) × (x.holder ≡ Root r) × IsHolderType program (Root r) t × IsWithin program.types t x.node
+  IsOrigin x =
+      (r t : ℕ) × (x.holder ≡ Root r) × IsHolderType program (Root r) t × IsWithin program.types t x.node
 
   abbrev pub is_lock_name : LabelName → Bool
   is_lock_name x = is_mutex (form_of program.types x.node)
 
-  -- a holder that is there but once: a root other than a local or an allocation, or a point of a static initialiser, which is a step of no
-  -- function
+  -- a holder that is there but once: a root other than a local or an allocation, or a point of a static
+  -- initialiser, which is a step of no function
   abbrev pub is_global_holder : Holder → Bool
   is_global_holder (Root r) = option_map_or (λ root. is_global_kind root.kind) (root_at program r) false
   is_global_holder (Slot f s) = false
   is_global_holder (Result f) = false
-  is_global_holder (Point p) = option_map_or (λ f. nat_eq f (length program.functions)) (function_at program p) false
+  is_global_holder (Point p) =
+      option_map_or (λ f. nat_eq f (length program.functions)) (function_at program p) false
 
   -- the label is the location or lock place with this number
   abbrev pub IsPlaceNumber : LabelName → ℕ → Type 0
@@ -184,13 +193,14 @@ module _ (program : Program) where
   abbrev pub IsNoPlace : LabelName → Type 0
   IsNoPlace x = (n : ℕ) → IsPlaceNumber x n → ⊥
 
-  -- the order of labels: the locations and the lock places in theirs, then the rest by their holders, and those of one holder as the walk
-  -- of its nodes comes to them
+  -- the order of labels: the locations and the lock places in theirs, then the rest by their holders, and
+  -- those of one holder as the walk of its nodes comes to them
   pub data IsBefore (x y : LabelName) : Type 0 where
     places : (n m : ℕ) → IsPlaceNumber x n → IsPlaceNumber y m → n < m → IsBefore x y
     place_first : (n : ℕ) → IsPlaceNumber x n → IsNoPlace y → IsBefore x y
     holders : IsNoPlace x → IsNoPlace y → StandsBefore x.holder y.holder → IsBefore x y
-    nodes : (t : ℕ) → IsNoPlace x → IsNoPlace y → x.holder ≡ y.holder → IsHolderType program x.holder t → ComesBefore program.types t x.node y.node → IsBefore x y
+    nodes : (t : ℕ) → IsNoPlace x → IsNoPlace y → x.holder ≡ y.holder → IsHolderType program x.holder t →
+        ComesBefore program.types t x.node y.node → IsBefore x y
 
   -- what is known of a label. A number of a holder that is none of 32 bits is given as the last of these.
   pub record IsEntryOf (x : LabelName) (entry : LabelEntry) : Type 0 where
@@ -213,23 +223,32 @@ module _ (program : Program) where
 
   -- the label l is that of what the point's value points to
   abbrev pub IsTargetOf : LabelTable → ℕ → ℕ → Type 0
-  IsTargetOf labels p l = (x y : LabelName) × IsWhole (Point p) x × IsPart x Target y × (slice_get labels.names l ≡ Some y)
+  IsTargetOf labels p l =
+      (x y : LabelName) × IsWhole (Point p) x × IsPart x Target y × (slice_get labels.names l ≡ Some y)
 
-  -- the labels of the program: each once, in their order, with what is known of each, and with the target of each point
+  -- the labels of the program: each once, in their order, with what is known of each, and
+  -- with the target of each point
   pub record AreLabels (labels : LabelTable) : Type 0 where
     pub each : (x : LabelName) → Contains labels.names x ↔ IsLabel x
     pub different : AreDifferent labels.names
     pub ordered : AllPairs IsBefore labels.names
-    pub entries : (l : ℕ) (x : LabelName) (entry : LabelEntry) → slice_get labels.names l ≡ Some x → slice_get labels.entries l ≡ Some entry → IsEntryOf x entry
+    pub entries : (l : ℕ) (x : LabelName) (entry : LabelEntry) → slice_get labels.names l ≡ Some x →
+        slice_get labels.entries l ≡ Some entry → IsEntryOf x entry
     pub points : length labels.targets ≡ length program.points
-    pub targets : (p : ℕ) (target : Option ℕ) → slice_get labels.targets p ≡ Some target → MatchOption target ((l : ℕ) → IsTargetOf labels p l → ⊥) (IsTargetOf labels p)
+    pub targets : (p : ℕ) (target : Option ℕ) → slice_get labels.targets p ≡ Some target →
+        MatchOption target ((l : ℕ) → IsTargetOf labels p l → ⊥) (IsTargetOf labels p)
 
-  -- The point gives void a Part: it allocates an object of the type, or converts a pointer to it to or from `void *`. Types that differ in the
-  -- sizes of arrays alone count as the one with the least number.
+  -- The point gives void a Part: it allocates an object of the type, or converts a pointer to it to or from
+  -- `void *`. Types that differ in the sizes of arrays alone count as the one with the least number.
   pub data GivesPart (p : ℕ) : ℕ → Type 0 where
-    allocates : (t : ℕ) (count : Option ℕ) (clear : Bool) (r : ℕ) → action_at program p ≡ Some (Allocate t count clear r) → GivesPart p (least_of program.types t)
-    to_void : (a ty t : ℕ) → action_at program p ≡ Some (Convert a ty) → GivesForm program a (Pointer t) → PointsToForm program p Void → is_void (type_at program.types t) ≡ false → GivesPart p (least_of program.types t)
-    from_void : (a ty t : ℕ) → action_at program p ≡ Some (Convert a ty) → PointsToForm program a Void → GivesForm program p (Pointer t) → is_void (type_at program.types t) ≡ false → GivesPart p (least_of program.types t)
+    allocates : (t : ℕ) (count : Option ℕ) (clear : Bool) (r : ℕ) →
+        action_at program p ≡ Some (Allocate t count clear r) → GivesPart p (least_of program.types t)
+    to_void : (a ty t : ℕ) → action_at program p ≡ Some (Convert a ty) → GivesForm program a (Pointer t) →
+        PointsToForm program p Void → is_void (type_at program.types t) ≡ false →
+        GivesPart p (least_of program.types t)
+    from_void : (a ty t : ℕ) → action_at program p ≡ Some (Convert a ty) → PointsToForm program a Void →
+        GivesForm program p (Pointer t) → is_void (type_at program.types t) ≡ false →
+        GivesPart p (least_of program.types t)
 
   -- the point is the first one that gives this Part
   pub record IsFirstOf (t p : ℕ) : Type 0 where

@@ -8,7 +8,8 @@ module _ (points : List Point) (functions : List Function) where
   -- successors lead to the point from an entry, perhaps none
   pub data IsReached : ℕ → Type 0 where
     entry : (f : ℕ) (function : Function) → slice_get functions f ≡ Some function → IsReached function.entry
-    next : (p : ℕ) {q : ℕ} (point : Point) → IsReached p → slice_get points p ≡ Some point → has_id point.next q ≡ true → IsReached q
+    next : (p : ℕ) {q : ℕ} (point : Point) → IsReached p → slice_get points p ≡ Some point →
+        has_id point.next q ≡ true → IsReached q
 
   -- the successors and the entries are points
   pub record AreStepsInRange : Type 0 where

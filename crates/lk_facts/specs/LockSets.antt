@@ -13,7 +13,8 @@ pub record LockSets : Type 0 where
   pub released : List (List ℕ)
 
 abbrev pub sets_of : (labels : ℕ) → (at keep out released : List (List ℕ)) → LockSets
-sets_of labels at keep out released = record { labels = labels; at = at; keep = keep; out = out; released = released }
+sets_of labels at keep out released =
+    record { labels = labels; at = at; keep = keep; out = out; released = released }
 
 abbrev pub at_of : LockSets → ℕ → List ℕ
 at_of held p = slice_index_or held.at p []

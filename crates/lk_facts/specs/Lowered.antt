@@ -31,8 +31,9 @@ pub data Owner : Type 0 where
   point : ℕ → Owner
   function : ℕ → Owner
 
--- how many successors a point has where it isn't an exit: of a Branch two, of a Switch one a case and one more, of a Create one where it
--- made a thread and one where it failed; none where the thread ends (C99 6.8; POSIX pthread_create, pthread_exit)
+-- how many successors a point has where it isn't an exit: of a Branch two, of a Switch one a case and one
+-- more, of a Create one where it made a thread and one where it failed; none where the thread ends (C99 6.8;
+-- POSIX pthread_create, pthread_exit)
 abbrev pub ways_of : Action → ℕ
 ways_of (action.Branch a) = 2
 ways_of (action.Switch a cases) = suc (length cases)
@@ -146,12 +147,16 @@ module _ (program : Program) where
   abbrev pub HasPart : ℕ → List CellStep → ℕ → Type 0
   HasPart r path u = (t : ℕ) × IsRootType program r t × HasPartAt program.types t path u
 
-  -- A cell of the type t may begin with the value. Of an address it isn't asked what it leads to: a pointer may have gone through `void *` to
-  -- another type (C99 6.3.2.3, 1), and the size of an array may come behind the initialiser (C99 6.2.2, 4).
+  -- A cell of the type t may begin with the value. Of an address it isn't asked what it leads to: a pointer
+  -- may have gone through `void *` to another type (C99 6.3.2.3, 1), and the size of an array may come behind
+  -- the initialiser (C99 6.2.2, 4).
   abbrev pub MayBegin : (t : ℕ) → InitialValue → Type 0
   MayBegin t (value.Number n) = IsNumberOf program n t
   MayBegin t value.Null = (u : ℕ) × IsForm program.types t (Pointer u)
-  MayBegin t (value.Function f) = (u form : ℕ) × IsForm program.types t (Pointer u) × ((r : ℕ) × (root_of_function program f ≡ Some r) × IsRootType program r form) × IsAlike program.types.types u form
+  MayBegin t (value.Function f) =
+      (u form : ℕ) × IsForm program.types t (Pointer u)
+      × ((r : ℕ) × (root_of_function program f ≡ Some r) × IsRootType program r form)
+      × IsAlike program.types.types u form
   MayBegin t (value.Address r path past) = (u : ℕ) × IsForm program.types t (Pointer u)
   MayBegin t value.Ready = IsForm program.types t Mutex ⊎ IsForm program.types t Cond
 
@@ -191,7 +196,8 @@ module _ (program : Program) where
   abbrev pub HasStrings : Type 0
   HasStrings = (r : ℕ) × (root : Root) × (root_at program r ≡ Some root) × (root.kind ≡ Args)
 
-  -- the objects of main's arguments (C99 5.1.2.2.1): the pointers to the strings, and the chars of the strings
+  -- the objects of main's arguments (C99 5.1.2.2.1): the pointers to the strings,
+  -- and the chars of the strings
   abbrev pub IsArgument : RootKind → ℕ → Type 0
   IsArgument Global t = ⊤
   IsArgument Static t = ⊤
@@ -199,7 +205,8 @@ module _ (program : Program) where
   IsArgument (Heap one) t = ⊤
   IsArgument Text t = ⊤
   IsArgument Argv t = (string n : ℕ) × IsForm program.types t (Array string n) × IsString string × HasStrings
-  IsArgument Args t = (char n : ℕ) × IsForm program.types t (Array char n) × IsForm program.types char (Int Char)
+  IsArgument Args t =
+      (char n : ℕ) × IsForm program.types t (Array char n) × IsForm program.types char (Int Char)
   IsArgument FunctionRoot t = ⊤
 
   -- the place is a part of the object of such a root
@@ -218,39 +225,56 @@ module _ (program : Program) where
 
   pub record IsLowered : Type 0 where
     -- operands and successors of a point stand in its function
-    pub operands : (p : ℕ) (action : Action) → action_at program p ≡ Some action → AllOperands (λ a. function_at program a ≡ function_at program p) action
+    pub operands : (p : ℕ) (action : Action) → action_at program p ≡ Some action →
+        AllOperands (λ a. function_at program a ≡ function_at program p) action
     pub successors : (p q : ℕ) → IsNext program p q → function_at program q ≡ function_at program p
     -- each operand, slot, parameter and result has the type that its action needs
-    pub typed : (p f : ℕ) (action : Action) → action_at program p ≡ Some action → function_at program p ≡ Some f → IsTyped program p f action
+    pub typed : (p f : ℕ) (action : Action) → action_at program p ≡ Some action →
+        function_at program p ≡ Some f → IsTyped program p f action
     pub functions : (f : ℕ) → f < length program.functions → IsFunctionTyped program f
     -- the root of a function stands for it
-    pub function_roots : (f r : ℕ) → (root_of_function program f ≡ Some r) ↔ (function_of_root program r ≡ Some f)
-    -- each number below that of the sites is the site of exactly one live call or creation, or function that is used as a value
+    pub function_roots : (f r : ℕ) → (root_of_function program f ≡ Some r)
+        ↔ (function_of_root program r ≡ Some f)
+    -- each number below that of the sites is the site of exactly one live call or creation, or
+    -- function that is used as a value
     pub sites : (i : ℕ) → i < program.sites → IsSiteOfOne i
     pub value_sites : (f : ℕ) → ((i : ℕ) × (value_site_of program f ≡ Some i)) ↔ IsUsedAsValue f
     -- functions begin at their entries, and their returns lead to their exits
     pub entries : (f e : ℕ) → entry_of program f ≡ Some e → IsEntry f e
     pub exits : (f e : ℕ) → exit_of program f ≡ Some e → IsExit f e
-    pub returns : (p f e : ℕ) (a : Option ℕ) → action_at program p ≡ Some (Return a) → function_at program p ≡ Some f → exit_of program f ≡ Some e → next_of program p ≡ e ∷ []
+    pub returns : (p f e : ℕ) (a : Option ℕ) → action_at program p ≡ Some (Return a) →
+        function_at program p ≡ Some f → exit_of program f ≡ Some e → next_of program p ≡ e ∷ []
     -- each other point of a function has as many successors as its action asks for
-    pub ways : (p f : ℕ) (action : Action) → action_at program p ≡ Some action → function_at program p ≡ Some f → f < length program.functions → (IsExitOfOne p → ⊥) → length (next_of program p) ≡ ways_of action
+    pub ways : (p f : ℕ) (action : Action) → action_at program p ≡ Some action →
+        function_at program p ≡ Some f → f < length program.functions → (IsExitOfOne p → ⊥) →
+        length (next_of program p) ≡ ways_of action
     -- a wait takes the mutex again that it gave back, before anything else (POSIX pthread_cond_wait)
-    pub waits : (p q cond mutex : ℕ) → action_at program p ≡ Some (Release cond mutex) → IsNext program p q → action_at program q ≡ Some (Retake mutex)
-    -- `main` begins at the start of the program alone: no point calls it, starts a thread there, or takes its address
-    pub mains : (p : ℕ) (action : Action) → action_at program p ≡ Some action → named_function action ≡ Some program.main → ⊥
+    pub waits : (p q cond mutex : ℕ) → action_at program p ≡ Some (Release cond mutex) → IsNext program p q →
+        action_at program q ≡ Some (Retake mutex)
+    -- `main` begins at the start of the program alone: no point calls it, starts a
+    -- thread there, or takes its address
+    pub mains : (p : ℕ) (action : Action) → action_at program p ≡ Some action →
+        named_function action ≡ Some program.main → ⊥
     -- live is what is reached
     pub live : (p : ℕ) → (live_at program p ≡ true) ↔ IsReached program.points program.functions p
-    -- A text's bytes are there, and so is each cell that an initialiser of static storage names. It may begin with its value, and a point writes each pointer.
+    -- A text's bytes are there, and so is each cell that an initialiser of static storage names. It may begin
+    -- with its value, and a point writes each pointer.
     pub texts : (p r : ℕ) → action_at program p ≡ Some (OfText r) → IsText r
-    pub initials : (i : ℕ) (initial : Initial) → slice_get program.initials i ≡ Some initial → IsInitial initial
-    pub written : (i : ℕ) (initial : Initial) → slice_get program.initials i ≡ Some initial → IsWritten program initial initial.value
+    pub initials : (i : ℕ) (initial : Initial) →
+        slice_get program.initials i ≡ Some initial → IsInitial initial
+    pub written : (i : ℕ) (initial : Initial) → slice_get program.initials i ≡ Some initial →
+        IsWritten program initial initial.value
     -- void has the Parts that points give it
     pub parts : AreVoidParts program
     -- main's arguments, and its second parameter, which points to them
     pub arguments : (r : ℕ) (root : Root) → root_at program r ≡ Some root → IsArgument root.kind root.ty
-    pub argv : (holder : Holder) (t : ℕ) → parameter_of program program.main 2 ≡ Some holder → IsHolderType program holder t → (string : ℕ) × IsForm program.types t (Pointer string) × IsString string
+    pub argv : (holder : Holder) (t : ℕ) → parameter_of program program.main 2 ≡ Some holder →
+        IsHolderType program holder t →
+        (string : ℕ) × IsForm program.types t (Pointer string) × IsString string
     -- the locations are the places of cells with values, and the lock places those of mutexes
-    pub locations : (place : Place) → ((n : ℕ) × IsLocation program n × (place_at program n ≡ Some place)) ↔ IsPlaceOfValue place
-    pub locks : (place : Place) → ((n : ℕ) × IsLockPlace program n × (place_at program n ≡ Some place)) ↔ IsPlaceOfMutex place
+    pub locations : (place : Place) → ((n : ℕ) × IsLocation program n × (place_at program n ≡ Some place))
+        ↔ IsPlaceOfValue place
+    pub locks : (place : Place) → ((n : ℕ) × IsLockPlace program n × (place_at program n ≡ Some place))
+        ↔ IsPlaceOfMutex place
     -- no place has two numbers
     pub places_differ : AreDifferent program.places

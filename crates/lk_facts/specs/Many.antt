@@ -1,4 +1,5 @@
--- Which points may be performed more than once, and which mutexes have one object (LOCKSMITH: linearity of locks).
+-- Which points may be performed more than once, and which mutexes have one object
+-- (LOCKSMITH: linearity of locks).
 use Rattle.std.specs.Prelude.{◌≡◌, ℕ, true, Some, ⊤}
 use Rattle.lk_facts.specs.Effects.{entered}
 use Rattle.lk_facts.specs.Program.{live_at, function_at, effect_at, value_site_of, entry_of, place_at, root_at, IsLockPlace}
@@ -26,7 +27,8 @@ module _ (program : Program) where
     -- its function is used as a value
     value : {p f i : ℕ} → function_at program p ≡ Some f → value_site_of program f ≡ Some i → Many p
     -- its function has two sites
-    sites : {p f q r : ℕ} → function_at program p ≡ Some f → IsSiteOf f q → IsSiteOf f r → (q ≡ r → ⊥) → Many p
+    sites : {p f q r : ℕ} → function_at program p ≡ Some f → IsSiteOf f q → IsSiteOf f r →
+        (q ≡ r → ⊥) → Many p
     -- a site of its function may be performed more than once
     site : {p f q : ℕ} → function_at program p ≡ Some f → IsSiteOf f q → Many q → Many p
 

@@ -27,11 +27,13 @@ pub record AreMarked (ps : List ℕ) (old new : Marks) : Type 0 where
 -- the entries are marked, and only points that are reached
 pub record AreFound (points : List Point) (functions : List Function) (marks : Marks) : Type 0 where
   pub long : length marks.live.items ≡ length points
-  pub entries : (f : ℕ) (function : Function) → slice_get functions f ≡ Some function → IsMarked marks function.entry
+  pub entries : (f : ℕ) (function : Function) → slice_get functions f ≡ Some function →
+      IsMarked marks function.entry
   pub sound : (p : ℕ) → IsMarked marks p → IsReached points functions p
   pub listed : AreListed marks
 
 -- the successors of the first k listed points are marked
 abbrev pub AreFollowed : List Point → Marks → ℕ → Type 0
 AreFollowed points marks k =
-    (i p : ℕ) (point : Point) → i < k → slice_get marks.found.items i ≡ Some p → slice_get points p ≡ Some point → (q : ℕ) → has_id point.next q ≡ true → IsMarked marks q
+    (i p : ℕ) (point : Point) → i < k → slice_get marks.found.items i ≡ Some p →
+    slice_get points p ≡ Some point → (q : ℕ) → has_id point.next q ≡ true → IsMarked marks q

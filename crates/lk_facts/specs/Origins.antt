@@ -17,9 +17,11 @@ pub record OriginTable : Type 0 where
 abbrev pub origins_of : Rows → Rows → List Crossing → OriginTable
 origins_of all inner crossings = record { all = all; inner = inner; crossings = crossings }
 
--- the labels outside that flow to this label inside: the list that stands where the label does; none where it stands nowhere
+-- the labels outside that flow to this label inside: the list that stands where the label does;
+-- none where it stands nowhere
 abbrev pub outside_of : Crossing → ℕ → List ℕ
-outside_of crossing b = unwrap_or (slice_get crossing.outside (position_or_len (λ x. x == b) crossing.inside)) []
+outside_of crossing b =
+    unwrap_or (slice_get crossing.outside (position_or_len (λ x. x == b) crossing.inside)) []
 
 -- the labels that flow through a site to a label; none at a site past the end
 abbrev pub cross_of : OriginTable → ℕ → ℕ → List ℕ
@@ -27,7 +29,8 @@ cross_of origins i b = option_map_or (λ crossing. outside_of crossing b) (slice
 
 -- the three relations that the table holds
 abbrev pub flow_of : OriginTable → Flow
-flow_of origins = record { all = has origins.all; inner = has origins.inner; cross = λ i b m. has_id (cross_of origins i b) m }
+flow_of origins =
+    record { all = has origins.all; inner = has origins.inner; cross = λ i b m. has_id (cross_of origins i b) m }
 
 -- the numbers ascend, and are below the number of labels
 pub record IsSetBelow (labels : ℕ) (ids : List ℕ) : Type 0 where

@@ -17,16 +17,20 @@ AreEdgesWithin labels es = All (IsEdgeWithin (length labels.entries)) es
 -- row a has the labels that stand in Level with the label a
 pub record AreLevels (es : List Edge) (labels : LabelTable) (rows : Rows) : Type 0 where
   pub size : rows.size ≡ length labels.entries
-  pub levels : (a b : ℕ) → a < rows.size → (has rows a b ≡ true) ↔ Level (HasEdge es) (is_global_at labels) a b
+  pub levels : (a b : ℕ) → a < rows.size →
+      (has rows a b ≡ true) ↔ Level (HasEdge es) (is_global_at labels) a b
 
 -- the flow has All, Inner and Cross
 pub record IsFlowOf (es : List Edge) (labels : LabelTable) (flow : Flow) : Type 0 where
-  pub all : (b o : ℕ) → (flow.all b o ≡ true) ↔ InAll (HasEdge es) (is_global_at labels) (is_origin_at labels) b o
-  pub inner : (b o : ℕ) → (flow.inner b o ≡ true) ↔ InInner (HasEdge es) (is_global_at labels) (is_origin_at labels) b o
+  pub all : (b o : ℕ) → (flow.all b o ≡ true)
+      ↔ InAll (HasEdge es) (is_global_at labels) (is_origin_at labels) b o
+  pub inner : (b o : ℕ) → (flow.inner b o ≡ true)
+      ↔ InInner (HasEdge es) (is_global_at labels) (is_origin_at labels) b o
   pub cross : (i b m : ℕ) → (flow.cross i b m ≡ true) ↔ InCross (HasEdge es) (is_global_at labels) i b m
 
 -- the flow is closed under the rules of matched paths, also where it holds more than they ask for
 abbrev pub IsClosed : List Edge → LabelTable → Flow → Type 0
 IsClosed es labels flow =
-    IsFlowClosed (HasEdge es) (is_global_at labels) (is_origin_at labels) (Level (HasEdge es) (is_global_at labels))
+    IsFlowClosed (HasEdge es) (is_global_at labels) (is_origin_at labels)
+    (Level (HasEdge es) (is_global_at labels))
     (λ b o. flow.all b o ≡ true) (λ b o. flow.inner b o ≡ true) (λ i b m. flow.cross i b m ≡ true)

@@ -1,4 +1,5 @@
--- Matched paths (LOCKSMITH: label flow with calls and returns matched): which labels flow to which along edges whose marks fit.
+-- Matched paths (LOCKSMITH: label flow with calls and returns matched): which labels flow to which
+-- along edges whose marks fit.
 use Rattle.std.specs.Prelude.{◌≡◌, ℕ, Bool, true, false, List, [], ◌∷◌, ◌++◌, ◌⊎◌, Contains}
 use Rattle.lk_facts.specs.declared.edge.Edge.{Edge}
 use Rattle.lk_facts.specs.declared.edge.Mark.{Mark}
@@ -17,7 +18,8 @@ opposite Plain = Plain
 opposite (Enter i) = Leave i
 opposite (Leave i) = Enter i
 
--- Each Enter(i) is matched by a later Leave(i), with a balanced word between them, and each Leave is so matched.
+-- Each Enter(i) is matched by a later Leave(i), with a balanced word between them,
+-- and each Leave is so matched.
 pub data Balanced : List Mark → Type 0 where
   empty : Balanced []
   plain : (w : List Mark) → Balanced w → Balanced (Plain ∷ w)
@@ -26,7 +28,8 @@ pub data Balanced : List Mark → Type 0 where
 -- the unmatched marks are all of one kind: they stand between balanced words
 pub data OnlyUnmatched (kind : ℕ → Mark) : List Mark → Type 0 where
   none : (w : List Mark) → Balanced w → OnlyUnmatched kind w
-  another : (i : ℕ) (v w : List Mark) → OnlyUnmatched kind v → Balanced w → OnlyUnmatched kind (v ++ kind i ∷ w)
+  another : (i : ℕ) (v w : List Mark) → OnlyUnmatched kind v → Balanced w →
+      OnlyUnmatched kind (v ++ kind i ∷ w)
 
 abbrev pub OnlyLeaves : List Mark → Type 0
 OnlyLeaves = OnlyUnmatched Leave
@@ -35,10 +38,12 @@ abbrev pub OnlyEnters : List Mark → Type 0
 OnlyEnters = OnlyUnmatched Enter
 
 module _ (edge : ℕ → ℕ → Mark → Type 0) (global : ℕ → Bool) where
-  -- a list of edges with these marks, each beginning where the one before ended, with no global label strictly inside
+  -- a list of edges with these marks, each beginning where the one before ended, with no
+  -- global label strictly inside
   pub data Segment : ℕ → List Mark → ℕ → Type 0 where
     empty : {a : ℕ} → Segment a [] a
-    step : {a b c : ℕ} {m : Mark} {w : List Mark} → edge a b m → (w ≡ []) ⊎ (global b ≡ false) → Segment b w c → Segment a (m ∷ w) c
+    step : {a b c : ℕ} {m : Mark} {w : List Mark} → edge a b m → (w ≡ []) ⊎ (global b ≡ false) →
+        Segment b w c → Segment a (m ∷ w) c
 
   -- a segment whose marks are balanced
   abbrev pub Level : ℕ → ℕ → Type 0

@@ -39,11 +39,13 @@ spot_of program p = option_map (λ point. point.spot) (slice_get program.points 
 
 -- whether it goes into a function by its number
 abbrev pub enters_at : Program → ℕ → Bool
-enters_at program p = option_map_or (λ point. is_some (entered (effect_of point.action))) (slice_get program.points p) false
+enters_at program p =
+    option_map_or (λ point. is_some (entered (effect_of point.action))) (slice_get program.points p) false
 
 -- whether it accesses cells and writes them
 abbrev pub writes_at : Program → ℕ → Bool
-writes_at program p = option_map_or (λ point. writes (effect_of point.action)) (slice_get program.points p) false
+writes_at program p =
+    option_map_or (λ point. writes (effect_of point.action)) (slice_get program.points p) false
 
 abbrev pub site_at : Program → ℕ → Option ℕ
 site_at program p = option_and_then (λ point. point.site) (slice_get program.points p)
@@ -72,7 +74,8 @@ value_site_of program f = option_and_then (λ function. function.value_site) (sl
 -- what holds the parameter k of a function, counted from 1
 abbrev pub parameter_of : Program → ℕ → ℕ → Option Holder
 parameter_of program f zero = None
-parameter_of program f (suc k) = option_and_then (λ function. slice_get function.parameters k) (slice_get program.functions f)
+parameter_of program f (suc k) =
+    option_and_then (λ function. slice_get function.parameters k) (slice_get program.functions f)
 
 -- what holds the parameters of a function, in their order
 abbrev pub parameters_of : Program → ℕ → Option (List Holder)
@@ -115,7 +118,8 @@ function_of_kind kind.Args f = None
 
 -- the function that a root stands for
 abbrev pub function_of_root : Program → ℕ → Option ℕ
-function_of_root program r = option_and_then (λ root. function_of_kind root.kind root.function) (slice_get program.roots r)
+function_of_root program r =
+    option_and_then (λ root. function_of_kind root.kind root.function) (slice_get program.roots r)
 
 abbrev pub place_of : ℕ → NodeId → Place
 place_of root node = record { root = root; node = node }

@@ -33,13 +33,16 @@ IsForm table t form = slice_get table.types t ≡ Some form
 -- the struct type s has the member k, of type t
 abbrev pub IsMember : Table → (s k t : ℕ) → Type 0
 IsMember table s k t =
-    (number : ℕ) × IsForm table s (Struct number) × ((member : StructMember) × (slice_get (members_of table number) k ≡ Some member) × (member.ty ≡ t))
+    (number : ℕ) × IsForm table s (Struct number)
+    × ((member : StructMember) × (slice_get (members_of table number) k ≡ Some member) × (member.ty ≡ t))
 
 -- the steps lead from an object of type t to a part of type u that is there
 pub data HasPartAt (table : Table) : (t : ℕ) → List CellStep → (u : ℕ) → Type 0 where
   whole : (t : ℕ) → HasPartAt table t [] t
-  field : (t k m : ℕ) (path : List CellStep) (u : ℕ) → IsMember table t k m → HasPartAt table m path u → HasPartAt table t (ToField k ∷ path) u
-  index : (t i e n : ℕ) (path : List CellStep) (u : ℕ) → IsForm table t (Array e n) → i < n → HasPartAt table e path u → HasPartAt table t (ToIndex i ∷ path) u
+  field : (t k m : ℕ) (path : List CellStep) (u : ℕ) → IsMember table t k m → HasPartAt table m path u →
+      HasPartAt table t (ToField k ∷ path) u
+  index : (t i e n : ℕ) (path : List CellStep) (u : ℕ) → IsForm table t (Array e n) → i < n →
+      HasPartAt table e path u → HasPartAt table t (ToIndex i ∷ path) u
 
 -- a type of objects: not void, and not that of a function (C99 6.2.5)
 abbrev pub IsObjectForm : CType → Type 0
@@ -150,18 +153,23 @@ module _ (program : Program) where
   IsUnary unary.Complement a p = (k : Kind) × GivesForm a (Int k) × GivesForm p (Int k)
   IsUnary unary.Not a p = (GivesNumber a ⊎ GivesPointer a) × GivesInt p
 
-  -- an operand that points into an array, of which one element is given, or to an element, from which the pointer moves
+  -- an operand that points into an array, of which one element is given, or to an element,
+  -- from which the pointer moves
   abbrev pub IsIndex : Bool → (a b p : ℕ) → Type 0
   IsIndex true a b p = (e n : ℕ) × PointsToForm a (Array e n) × GivesNumber b × PointsTo p e
   IsIndex false a b p = Moves a b p
 
   -- the function's type is that of its root
   abbrev pub IsFunctionType : ℕ → CType → Type 0
-  IsFunctionType f form = (r : ℕ) × (root : Root) × (root_of_function program f ≡ Some r) × (root_at program r ≡ Some root) × IsForm program.types root.ty form
+  IsFunctionType f form =
+      (r : ℕ) × (root : Root) × (root_of_function program f ≡ Some r) × (root_at program r ≡ Some root)
+      × IsForm program.types root.ty form
 
   -- the arguments and the value of a call of a function of this type
   abbrev pub IsCall : CType → List ℕ → ℕ → Type 0
-  IsCall form args p = (result : ℕ) × (params : List ℕ) × (dots : Bool) × (form ≡ Function result params dots) × AreGiven args params × GivesResult p result
+  IsCall form args p =
+      (result : ℕ) × (params : List ℕ) × (dots : Bool) × (form ≡ Function result params dots)
+      × AreGiven args params × GivesResult p result
 
   -- the slot of a function has the type
   abbrev pub IsSlot : (f s t : ℕ) → Type 0
@@ -178,11 +186,15 @@ module _ (program : Program) where
   IsHolderType (holder.Result f) t = result_of program f ≡ Some t
   IsHolderType (holder.Point p) t = value_type_at program p ≡ Some t
 
-  -- the root of an allocation at p: it has the type, or is an array of it without a size where there is a count
+  -- the root of an allocation at p: it has the type, or is an array of it without
+  -- a size where there is a count
   abbrev pub IsAllocated : (p r t : ℕ) → Option ℕ → Type 0
-  IsAllocated p r t None = (root : Root) × (root_at program r ≡ Some root) × (root.kind ≡ Heap true) × (root.point ≡ Some p) × (root.ty ≡ t)
+  IsAllocated p r t None =
+      (root : Root) × (root_at program r ≡ Some root) × (root.kind ≡ Heap true)
+      × (root.point ≡ Some p) × (root.ty ≡ t)
   IsAllocated p r t (Some n) =
-      (root : Root) × (root_at program r ≡ Some root) × (root.kind ≡ Heap false) × (root.point ≡ Some p) × IsForm program.types root.ty (Array t 0)
+      (root : Root) × (root_at program r ≡ Some root) × (root.kind ≡ Heap false) × (root.point ≡ Some p)
+      × IsForm program.types root.ty (Array t 0)
 
   -- the number of the elements of an allocation is a size_t (C99 7.20.3)
   abbrev pub IsCount : Option ℕ → Type 0
@@ -207,8 +219,8 @@ module _ (program : Program) where
   abbrev pub IsObjectIn : (f r : ℕ) → Type 0
   IsObjectIn f r = (root : Root) × (root_at program r ≡ Some root) × IsObjectOfKind f root.function root.kind
 
-  -- a conversion (C99 6.3): of numbers; of a pointer to _Bool; of a pointer to its own type; of a pointer to an object to `void *`
-  -- and back; of a thread id to its own type
+  -- a conversion (C99 6.3): of numbers; of a pointer to _Bool; of a pointer to its own type; of a pointer to
+  -- an object to `void *` and back; of a thread id to its own type
   pub data IsConversion (a p : ℕ) : Type 0 where
     numbers : GivesNumber a → GivesNumber p → IsConversion a p
     truth : GivesPointer a → GivesForm p (Int kind.Bool) → IsConversion a p
@@ -222,11 +234,14 @@ module _ (program : Program) where
 
   -- a function that a thread can start at takes and returns a `void *` (POSIX pthread_create)
   abbrev pub IsStartRoutine : ℕ → Type 0
-  IsStartRoutine g = (pointer void : ℕ) × IsForm program.types void Void × IsForm program.types pointer (Pointer void) × IsFunctionType g (Function pointer (pointer ∷ []) false)
+  IsStartRoutine g =
+      (pointer void : ℕ) × IsForm program.types void Void × IsForm program.types pointer (Pointer void)
+      × IsFunctionType g (Function pointer (pointer ∷ []) false)
 
   -- what holds a parameter of a function is a slot or an object of its frame
   abbrev pub IsHolderIn : ℕ → Holder → Type 0
-  IsHolderIn f (holder.Root r) = (root : Root) × (root_at program r ≡ Some root) × (root.kind ≡ Local) × (root.function ≡ Some f)
+  IsHolderIn f (holder.Root r) =
+      (root : Root) × (root_at program r ≡ Some root) × (root.kind ≡ Local) × (root.function ≡ Some f)
   IsHolderIn f (holder.Slot g s) = g ≡ f
   IsHolderIn f (holder.Result g) = ⊥
   IsHolderIn f (holder.Point p) = ⊥
@@ -244,11 +259,13 @@ module _ (program : Program) where
   abbrev pub IsTyped : (p f : ℕ) → Action → Type 0
   IsTyped p f (action.Value number ty) = (value_type_at program p ≡ Some ty) × IsNumberOf number ty
   IsTyped p f (action.Null ty) = (value_type_at program p ≡ Some ty) × GivesPointer p
-  IsTyped p f (action.Func g) = (r t : ℕ) × (root_of_function program g ≡ Some r) × IsRootType r t × PointsTo p t
+  IsTyped p f (action.Func g) =
+      (r t : ℕ) × (root_of_function program g ≡ Some r) × IsRootType r t × PointsTo p t
   IsTyped p f action.SelfId = GivesForm p ThreadId
   IsTyped p f (action.Root r) = IsObjectIn f r × ((t : ℕ) × IsRootType r t × PointsTo p t)
   IsTyped p f (action.Text r) = (t : ℕ) × IsRootType r t × PointsTo p t
-  IsTyped p f (action.Field a member) = (s t : ℕ) × PointsTo a s × IsMember program.types s member t × PointsTo p t
+  IsTyped p f (action.Field a member) =
+      (s t : ℕ) × PointsTo a s × IsMember program.types s member t × PointsTo p t
   IsTyped p f (action.Index a b into) = IsIndex into a b p
   IsTyped p f (action.Read a raw) = (t : ℕ) × PointsTo a t × Gives p t × GivesScalar p
   IsTyped p f (action.Write a b raw) = (t : ℕ) × PointsTo a t × Gives b t × GivesScalar b × GivesNone p
@@ -277,10 +294,13 @@ module _ (program : Program) where
   IsTyped p f (action.Init a) = (PointsToForm a Mutex ⊎ PointsToForm a Cond) × (GivesInt p ⊎ GivesNone p)
   IsTyped p f (action.Destroy a) = (PointsToForm a Mutex ⊎ PointsToForm a Cond) × GivesInt p
   IsTyped p f (action.Signal a) = PointsToForm a Cond × GivesInt p
-  IsTyped p f (action.Allocate ty count zero root) = IsCount count × IsAllocated p root ty count × PointsToForm p Void
+  IsTyped p f (action.Allocate ty count zero root) =
+      IsCount count × IsAllocated p root ty count × PointsToForm p Void
   IsTyped p f (action.Free a) = PointsToForm a Void × GivesNone p
   IsTyped p f (action.Scan a) = PointsToForm a (Int kind.Char) × (GivesInt p ⊎ GivesNone p)
-  IsTyped p f (action.Fill a place named) = PointsTo a (node_of program.types place.node).type × HoldsCell (node_of program.types place.node).type × GivesNone p
+  IsTyped p f (action.Fill a place named) =
+      PointsTo a (node_of program.types place.node).type
+      × HoldsCell (node_of program.types place.node).type × GivesNone p
 
   -- the function's parameters and its result have the types of its root, which is its own
   pub record IsFunctionTyped (f : ℕ) : Type 0 where
@@ -289,5 +309,7 @@ module _ (program : Program) where
     pub dots : Bool
     pub of : IsFunctionType f (Function result params dots)
     pub gives : (t : ℕ) → result_of program f ≡ Some t → IsAlike program.types.types t result
-    pub takes : (k t : ℕ) → slice_get params k ≡ Some t → (holder : Holder) × (u : ℕ) × (parameter_of program f (suc k) ≡ Some holder) × IsHolderIn f holder × IsHolderType holder u × IsAlike program.types.types u t
+    pub takes : (k t : ℕ) → slice_get params k ≡ Some t →
+        (holder : Holder) × (u : ℕ) × (parameter_of program f (suc k) ≡ Some holder) × IsHolderIn f holder
+        × IsHolderType holder u × IsAlike program.types.types u t
     pub takes_no_more : parameter_of program f (suc (length params)) ≡ None

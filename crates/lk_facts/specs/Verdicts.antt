@@ -17,7 +17,8 @@ module _ (basis : Basis) (races : ItemTest) (locks : LockTest) where
 
   -- each racing item of main for o and the access has a lock that can only be at the place q
   abbrev pub IsLockedBy : ℕ → ℕ → ℕ → Type 0
-  IsLockedBy o a q = (child : Bool) → races basis.program.main child o a ≡ true → (x : ℕ) × (locks basis.program.main child o a x ≡ true) × MeansOnly basis.flow x q
+  IsLockedBy o a q = (child : Bool) → races basis.program.main child o a ≡ true →
+      (x : ℕ) × (locks basis.program.main child o a x ≡ true) × MeansOnly basis.flow x q
 
   module _ (linear : ℕ → Bool) where
     -- LockSet: the linear lock places by which a racing access is locked

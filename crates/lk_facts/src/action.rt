@@ -47,7 +47,8 @@ pub enum Action {
         a: u32,
         /// The operand by which it moves on.
         b: u32,
-        /// Whether `a` points to an array, of which this gives the element `b`. Else the pointer moves by `b`.
+        /// Whether `a` points to an array, of which this gives the element `b`.
+        /// Else the pointer moves by `b`.
         into: bool,
     },
     /// Reads the cell that the operand points to.
@@ -168,7 +169,8 @@ pub enum Action {
     Init(u32),
     /// Makes it not ready (POSIX `pthread_mutex_destroy`).
     Destroy(u32),
-    /// Wakes threads that wait on the condition variable that the operand points to (POSIX `pthread_cond_signal`).
+    /// Wakes threads that wait on the condition variable that the operand points to
+    /// (POSIX `pthread_cond_signal`).
     Signal(u32),
     /// Gives null or a pointer to a new object (C99 7.20.3).
     Allocate {

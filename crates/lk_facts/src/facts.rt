@@ -8,8 +8,9 @@ use crate::origins::Origins;
 use crate::points::Points;
 use std::marker::Model;
 
-/// What is known of a program, as it is handed on: its points, its labels, and which origins may flow where. They speak of
-/// the same points and labels, and an origin that is a lock is exactly the label of a lock place.
+/// What is known of a program, as it is handed on: its points, its labels, and which origins
+/// may flow where. They speak of the same points and labels, and an origin that is a lock is
+/// exactly the label of a lock place.
 #[derive(Drop)]
 pub struct Facts<'a> {
     points: &'a Points,
@@ -27,8 +28,8 @@ impl<'a> Model for Facts<'a> {
     ghost invariant = { λ a. AreFacts (facts_of a.points.now a.labels.now a.origins.now) };
 }
 
-/// Whether a label is an origin and a lock exactly where it is that of a lock place, and its root is there where it is an
-/// origin.
+/// Whether a label is an origin and a lock exactly where it is that of a lock place, and its root is
+/// there where it is an origin.
 fn label_fits(points: &Points, labels: &Labels, l: Label) -> bool
     requires { l < length labels.now.entries }
     ensures { IsTrue result ↔ IsLabelOf points.now labels.now l }

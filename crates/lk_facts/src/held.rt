@@ -30,7 +30,8 @@ impl Model for Held {
 }
 
 impl Held {
-    /// Whether there are as many sets of each kind, and all are sets of numbers below that of the labels, as `new` asks.
+    /// Whether there are as many sets of each kind, and all are sets of numbers below that
+    /// of the labels, as `new` asks.
     pub fn fits(
         labels: u32,
         at: &[IdSet],

@@ -42,7 +42,8 @@ fn are_labels(targets: &[Option<Label>], labels: usize) -> bool
 }
 
 impl Labels {
-    /// Whether there is an entry for each of at most 65,536 names, and each target is one of the labels, as `new` asks.
+    /// Whether there is an entry for each of at most 65,536 names, and each target is one
+    /// of the labels, as `new` asks.
     pub fn fits(
         names: &IndexSet<LabelName>,
         entries: &[LabelEntry],
@@ -55,8 +56,8 @@ impl Labels {
             && are_labels(targets, entries.len())
     }
 
-    /// The labels with these names in their order and the entry of each, and for each point the label of what its value
-    /// points to. It takes no memory.
+    /// The labels with these names in their order and the entry of each, and for each point the label of what
+    /// its value points to. It takes no memory.
     pub fn new(
         names: IndexSet<LabelName>,
         entries: Vec<LabelEntry>,

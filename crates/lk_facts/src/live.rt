@@ -74,8 +74,8 @@ fn follow(points: &[Point], functions: &[Function], marks: &mut Marks) -> Result
     Ok(())
 }
 
-/// For each point whether it is live: successors lead to it from the entry of a function. What the points say themselves
-/// of being live plays no part, so whoever makes a program asks this first.
+/// For each point whether it is live: successors lead to it from the entry of a function. What the points say
+/// themselves of being live plays no part, so whoever makes a program asks this first.
 pub fn live_points(
     alloc: Global,
     points: &[Point],

@@ -51,8 +51,8 @@ impl Places {
         self.set.len()
     }
 
-    /// The number of this part of a root: that of the equal place that is there, or of the place put at the end. Where
-    /// no memory is found the places are as before.
+    /// The number of this part of a root: that of the equal place that is there, or of the place put at the
+    /// end. Where no memory is found the places are as before.
     pub fn put(&mut self, root: u32, node: NodeId) -> Result<u32, NoMemory>
         requires { length self.old < 65536 }
         ensures put { IfOk result (IsPut self.old self.new (place_of root node)) }

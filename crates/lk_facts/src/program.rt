@@ -18,7 +18,8 @@ pub struct Program {
     pub roots: Seq<Root>,
     /// Its types.
     pub types: TypeTable,
-    /// Its locations in their order, and after them its lock places in theirs. Their numbers are those of labels.
+    /// Its locations in their order, and after them its lock places in theirs. Their
+    /// numbers are those of labels.
     pub places: Places,
     /// How many of the places are locations.
     pub locations: u32,

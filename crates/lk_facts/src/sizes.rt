@@ -173,7 +173,8 @@ impl Sizes {
         }
     }
 
-    /// Whether the numbers in a point are in range, and it has a site just where it is a live call or creation.
+    /// Whether the numbers in a point are in range, and it has a site just where
+    /// it is a live call or creation.
     fn has_point(self, point: &Point) -> bool
         ensures { IsTrue result ↔ range.IsPointInRange self point.now }
     {

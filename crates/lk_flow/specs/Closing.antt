@@ -40,14 +40,16 @@ module _ (program : Program) where
   FieldsBoth u v m k = InsideBoth u v m (Field k)
 
   abbrev pub PartsBoth : (u v : LabelName) → Mark → ℕ → LabelName → LabelName → Mark → Type 0
-  PartsBoth u v m k x y n = (t : ℕ) × (slice_get program.types.parts k ≡ Some t) × InsideBoth u v m (Part t) x y n
+  PartsBoth u v m k x y n =
+      (t : ℕ) × (slice_get program.types.parts k ≡ Some t) × InsideBoth u v m (Part t) x y n
 
   -- and of functions the results with it, and the parameters against it
   abbrev pub ResultsBoth : (u v : LabelName) → Mark → LabelName → LabelName → Mark → Type 0
   ResultsBoth u v m x y n = (n ≡ m) × IsBehind program u 0 x × IsBehind program v 0 y
 
   abbrev pub ParametersBoth : (u v : LabelName) → Mark → ℕ → LabelName → LabelName → Mark → Type 0
-  ParametersBoth u v m k x y n = (n ≡ opposite m) × IsBehind program v (suc k) x × IsBehind program u (suc k) y
+  ParametersBoth u v m k x y n =
+      (n ≡ opposite m) × IsBehind program v (suc k) x × IsBehind program u (suc k) y
 
   abbrev pub FunctionsBoth : (u v : LabelName) → Mark → LabelName → LabelName → Mark → Type 0
   FunctionsBoth u v m x y n = ResultsBoth u v m x y n ⊎ AnyOf (ParametersBoth u v m) x y n
@@ -68,4 +70,5 @@ module _ (program : Program) where
     pub within : n ≤ length es
     pub sound : (e : Edge) → Contains es e → Joins names (IsEdge program) e
     pub based : (e : Edge) → Joins names Base e → Contains es e
-    pub done : (k : ℕ) (e f : Edge) (u v : LabelName) → k < n → slice_get es k ≡ Some e → AreEnds names e u v → Joins names (Next u v e.mark) f → Contains es f
+    pub done : (k : ℕ) (e f : Edge) (u v : LabelName) → k < n → slice_get es k ≡ Some e →
+        AreEnds names e u v → Joins names (Next u v e.mark) f → Contains es f

@@ -26,13 +26,18 @@ module _ (names : List LabelName) where
 
   -- the same of what belongs to a label that was found
   abbrev pub FindsFrom : (LabelName → LabelName → Type 0) → Option ℕ → Option ℕ → Type 0
-  FindsFrom S from found = MatchOption from (found ≡ None) (λ l. (x : LabelName) → slice_get names l ≡ Some x → Finds (S x) found)
+  FindsFrom S from found =
+      MatchOption from (found ≡ None) (λ l. (x : LabelName) → slice_get names l ≡ Some x → Finds (S x) found)
 
 -- the part of a label to which a step leads, where it is a place or a function
 abbrev pub FindsPart : Program → List LabelName → LabelName → Sel → Option ℕ → Type 0
-FindsPart program names x sel found = IsLabel program x → leads_to_place (form_of program.types x.node) sel ≡ true → Finds names (IsPart program x sel) found
+FindsPart program names x sel found =
+    IsLabel program x → leads_to_place (form_of program.types x.node) sel ≡ true →
+    Finds names (IsPart program x sel) found
 
 -- the label of the node that a node of a holder points to: nothing where it points to none
-pub data FindsTarget (table : Table) (names : List LabelName) (h : Holder) (n : NodeId) : Option ℕ → Type 0 where
+pub data FindsTarget (table : Table) (names : List LabelName) (h : Holder) (n : NodeId) : Option ℕ →
+    Type 0 where
   nowhere : None ≡ step table (node_of table n) Target → FindsTarget table names h n None
-  somewhere : (m : NodeId) (found : Option ℕ) → Steps table n Target m → IsNumberOf names (name_with h m) found → FindsTarget table names h n found
+  somewhere : (m : NodeId) (found : Option ℕ) → Steps table n Target m →
+      IsNumberOf names (name_with h m) found → FindsTarget table names h n found

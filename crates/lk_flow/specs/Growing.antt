@@ -17,7 +17,8 @@ pub record IsPair (from to : Option ℕ) (mark : Mark) (e : Edge) : Type 0 where
   pub passes : e.mark ≡ mark
 
 -- the edge joins two labels that are joined by this relation
-pub record Joins (names : List LabelName) (R : LabelName → LabelName → Mark → Type 0) (e : Edge) : Type 0 where
+pub record Joins (names : List LabelName) (R : LabelName → LabelName → Mark → Type 0)
+    (e : Edge) : Type 0 where
   pub u : LabelName
   pub v : LabelName
   pub begins : slice_get names e.from ≡ Some u

@@ -89,9 +89,9 @@ fn listed(alloc: Global, found: &Found) -> Result<Vec<Edge>, NoMemory>
     Ok(edges)
 }
 
-/// The edges of a program between its labels (LOCKSMITH: label flow), each once: those of the rows of its points, of main's
-/// parameters and of the functions that are used as values, and all that follow from these by the three rules. `NoMemory`
-/// where memory ends.
+/// The edges of a program between its labels (LOCKSMITH: label flow), each once: those of the rows of its
+/// points, of main's parameters and of the functions that are used as values, and all that follow from these
+/// by the three rules. `NoMemory` where memory ends.
 pub fn edges(alloc: Global, points: &Points, labels: &Labels) -> Result<Vec<Edge>, NoMemory>
     requires { AreLabels points.now labels.now }
     ensures edges { IfOk result (λ edges. AreEdges points.now labels.now.names edges.items) }

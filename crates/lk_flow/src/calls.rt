@@ -16,7 +16,8 @@ use lk_facts::{Holder, Labels, Mark, Points, Site};
 /// More than the fields of any type: a type of a table has at most 65,537 nodes.
 const FIELD_BOUND: usize = 65_537;
 
-/// Joins what an argument of a call through a pointer points to with what the parameter `k` of the function does.
+/// Joins what an argument of a call through a pointer points to with what the
+/// parameter `k` of the function does.
 fn put_pointer_argument(
     points: &Points,
     labels: &Labels,
@@ -59,7 +60,8 @@ fn put_pointer_arguments(
     Ok(())
 }
 
-/// Joins the arguments of a call through a pointer with the parameters, and the result with what the call gives.
+/// Joins the arguments of a call through a pointer with the parameters, and the
+/// result with what the call gives.
 pub fn put_pointer_call(
     points: &Points,
     labels: &Labels,
@@ -84,7 +86,8 @@ pub fn put_pointer_call(
     found.put(from, to, &Mark::Plain)
 }
 
-/// Joins what the parameter `k` of the type of a function points to with what the parameter of the function does.
+/// Joins what the parameter `k` of the type of a function points to with what the
+/// parameter of the function does.
 fn put_parameter(
     points: &Points,
     labels: &Labels,

@@ -38,7 +38,8 @@ fn put_argv(points: &Points, labels: &Labels, r: u32, found: &mut Found) -> Resu
     found.put(from, to, &Mark::Plain)
 }
 
-/// Joins an element of the root `r` with what an element of the root `q` points to, where `q` is that of the pointers.
+/// Joins an element of the root `r` with what an element of the root `q` points to, where
+/// `q` is that of the pointers.
 fn put_strings(
     points: &Points,
     labels: &Labels,

@@ -1,4 +1,5 @@
--- What the code keeps of an address constant: whether it stays in its array; not whose place it is. And the address that an operator or a name gives where it gives a typing.
+-- What the code keeps of an address constant: whether it stays in its array; not whose place it is. And the
+-- address that an operator or a name gives where it gives a typing.
 use Rattle.std.specs.Prelude.{◌&&◌, Option, Some, None, if◌then◌else◌}
 use Rattle.lk_tree.specs.declared.operators.BinaryOperator.{BinaryOperator}
 use Rattle.lk_tree.specs.declared.operators.BinaryOperator.TheVariants as binary
@@ -51,7 +52,9 @@ moved_by_operator binary.Remainder address by = spec.NotAddress
 
 -- of two values
 abbrev pub binary_address : BinaryOperator → Typing → Typing → spec.Address
-binary_address op a b = if is_pointer a.type && is_integer b.type then moved_by_operator op a.address b.constant else spec.NotAddress
+binary_address op a b =
+    if is_pointer a.type && is_integer b.type then moved_by_operator op a.address b.constant
+    else spec.NotAddress
 
 -- & keeps the address of a place, * that of a value
 abbrev pub prefix_address : PrefixOperator → Typing → spec.Address

@@ -36,7 +36,8 @@ pub record StandsAs (table : Table) (stands : Stands) (env : Env) : Type 0 where
 -- the arguments with their typings, where each has one
 abbrev pub AreGiven : Table → Env → Given → Option (List spec.Argument) → Type 0
 AreGiven table env given None = given.are_typed ≡ false
-AreGiven table env given (Some xs) = (given.are_typed ≡ true) × AreArguments table env given.arguments.items xs
+AreGiven table env given (Some xs) =
+    (given.are_typed ≡ true) × AreArguments table env given.arguments.items xs
 
 pub record IsGiven (table : Table) (env : Env) (given : Given) (ys : List Judged) : Type 0 where
   pub arguments : AreGiven table env given (arguments_of ys)

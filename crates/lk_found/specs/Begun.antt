@@ -22,7 +22,9 @@ begun_where (Some s) tag = None
 
 -- the same of a use that may not stand
 abbrev pub begun_if_admitted : Env → TagUse → Name → Option (Option Name)
-begun_if_admitted env wanted name = if may_use env (tag_meant env wanted name) wanted then begun_where (struct_meant (tag_meant env wanted name)) (Some name) else None
+begun_if_admitted env wanted name =
+    if may_use env (tag_meant env wanted name) wanted
+    then begun_where (struct_meant (tag_meant env wanted name)) (Some name) else None
 
 -- at `struct tag {`, whatever its members
 abbrev pub definition_begun : Env → Option Name → Option (Option Name)

@@ -19,7 +19,8 @@ use Rattle.lk_found.specs.Keepings.{Codes, KeepsEach, codes_at}
 -- the codes of the name, whose type this is, at its own place
 abbrev pub name_codes : Env → Option Ty → NameUse → Option Named → List Codes
 name_codes behind t becomes None = []
-name_codes behind t becomes (Some named) = codes_at (mark named.spot named.ordinal) (name_use_rules behind t named.name becomes) ∷ []
+name_codes behind t becomes (Some named) =
+    codes_at (mark named.spot named.ordinal) (name_use_rules behind t named.name becomes) ∷ []
 
 -- with those of a struct that gets the name as a member: they stand at the whole declarator
 abbrev pub use_codes : Left → Declarator → Option Ty → List Codes
@@ -40,7 +41,13 @@ KeepsUse env old left d new = KeepsEach old (codes_of_use env left d) new
 -- what a whole declarator is given, with the type on its left and what its name becomes
 abbrev pub left_of : Env → Bool → Option Ty → Declarator → NameUse → Left
 left_of env may_be_absent t d becomes =
-    record { type = t; may_be_absent = may_be_absent; behind = extend env ((declarator_found d).additions env); use_of_name = becomes; is_whole = true }
+    record {
+      type = t;
+      may_be_absent = may_be_absent;
+      behind = extend env ((declarator_found d).additions env);
+      use_of_name = becomes;
+      is_whole = true;
+    }
 
 -- what the parameters of the function declarator beside the name declare: their names and tags
 abbrev pub parameters_told : Env → Declarator → Additions

@@ -51,7 +51,8 @@ refusal_of f = record { code = f.breach.code; spot = f.spot; name = f.breach.nam
 
 abbrev pub IsFoundTyping : Table → Found → Option Typing → Type 0
 IsFoundTyping table found None = found.typing ≡ None
-IsFoundTyping table found (Some x) = (t : Typed) × (found.typing ≡ Some t) × IsTyping table t x × (found.address ≡ kept_of x.address)
+IsFoundTyping table found (Some x) =
+    (t : Typed) × (found.typing ≡ Some t) × IsTyping table t x × (found.address ≡ kept_of x.address)
 
 pub record IsFound (table : Table) (env : Env) (found : Found) (x : Judged) : Type 0 where
   pub typing : IsFoundTyping table found x.typing
@@ -78,12 +79,14 @@ pub record IsOfTypeName (table : Table) (n t : ℕ) (env : Env) (node : Node) : 
   pub known : IsKnown table t
   pub type : (name_found name env).type ≡ Some (meaning table t)
 
--- the initialiser that is the expression with this number is an initialiser word for objects of a type, or none
+-- the initialiser that is the expression with this number is an initialiser word
+-- for objects of a type, or none
 abbrev pub IsOfKind : Table → InitialiserKind → Option Ty → Type 0
 IsOfKind table (Word t) word = IsKnown table t × (word ≡ Some (meaning table t))
 IsOfKind table Value word = word ≡ None
 
-pub record IsOfInitialiser (table : Table) (n : ℕ) (kind : InitialiserKind) (env : Env) (node : Node) : Type 0 where
+pub record IsOfInitialiser (table : Table) (n : ℕ) (kind : InitialiserKind) (env : Env)
+    (node : Node) : Type 0 where
   pub object : Option Object
   pub init : Init
   pub is : node ≡ AnInitialiser object init
@@ -112,8 +115,11 @@ pub record IsOfName (table : Table) (n : ℕ) (d : DeclaredHere) (env : Env) (no
 
 -- its form, by what was found of the parts
 abbrev pub JudgedForm : Type 0
-JudgedForm = ExprForm-F DeclaratorForm ExprForm MemberDeclarator Specifier Declarator Judged Item Member Parameter Named
+JudgedForm =
+    ExprForm-F DeclaratorForm ExprForm MemberDeclarator Specifier Declarator Judged Item
+    Member Parameter Named
 
 -- what is found of it, in the environment where it begins and in that behind its parts
 abbrev pub judged_of : Env → Env → ℕ → JudgedForm → Judged
-judged_of env behind n form = record { typing = typing_of (rule behind n form); look = look_of env form; adds = additions_of form }
+judged_of env behind n form =
+    record { typing = typing_of (rule behind n form); look = look_of env form; adds = additions_of form }

@@ -25,24 +25,34 @@ abbrev pub sized : Env → Option Declarator → Option Expr → Form
 sized e inner size = AnArray (size_in size (extend e (inner_adds inner e)))
 
 abbrev pub with_parameters : Env → Option Declarator → List Parameter → Bool → Form
-with_parameters e inner ps dots = AFunction (parameters_of (tellers ps) dots (enter (extend e (inner_adds inner e)))).types dots
+with_parameters e inner ps dots =
+    AFunction (parameters_of (tellers ps) dots (enter (extend e (inner_adds inner e)))).types dots
 
 pub data HasForms : Env → Declarator → List FormAt → Type 0 where
-  star_alone : {e : Env} {d : Declarator} {qs : List Qualifier} → out-DeclaratorForm d.form ≡ DeclaratorForm-F.Star qs None → HasForms e d (formed d APointer ∷ [])
-  star : {e : Env} {d : Declarator} {qs : List Qualifier} {inner : Declarator} {fs : List FormAt} → out-DeclaratorForm d.form ≡ DeclaratorForm-F.Star qs (Some inner) →
-      HasForms e inner fs → HasForms e d (formed d APointer ∷ fs)
-  named : {e : Env} {d : Declarator} {name : env.Name} → out-DeclaratorForm d.form ≡ DeclaratorForm-F.Named name → HasForms e d []
-  group : {e : Env} {d : Declarator} {inner : Declarator} {fs : List FormAt} → out-DeclaratorForm d.form ≡ DeclaratorForm-F.Group inner → HasForms e inner fs → HasForms e d fs
-  array_alone : {e : Env} {d : Declarator} {size : Option Expr} → out-DeclaratorForm d.form ≡ DeclaratorForm-F.ArrayOf None size →
+  star_alone : {e : Env} {d : Declarator} {qs : List Qualifier} →
+      out-DeclaratorForm d.form ≡ DeclaratorForm-F.Star qs None → HasForms e d (formed d APointer ∷ [])
+  star : {e : Env} {d : Declarator} {qs : List Qualifier} {inner : Declarator} {fs : List FormAt} →
+      out-DeclaratorForm d.form ≡ DeclaratorForm-F.Star qs (Some inner) → HasForms e inner fs →
+      HasForms e d (formed d APointer ∷ fs)
+  named : {e : Env} {d : Declarator} {name : env.Name} →
+      out-DeclaratorForm d.form ≡ DeclaratorForm-F.Named name → HasForms e d []
+  group : {e : Env} {d : Declarator} {inner : Declarator} {fs : List FormAt} →
+      out-DeclaratorForm d.form ≡ DeclaratorForm-F.Group inner → HasForms e inner fs → HasForms e d fs
+  array_alone : {e : Env} {d : Declarator} {size : Option Expr} →
+      out-DeclaratorForm d.form ≡ DeclaratorForm-F.ArrayOf None size →
       HasForms e d (formed d (sized e None size) ∷ [])
-  array : {e : Env} {d : Declarator} {inner : Declarator} {size : Option Expr} {fs : List FormAt} → out-DeclaratorForm d.form ≡ DeclaratorForm-F.ArrayOf (Some inner) size →
-      HasForms e inner fs → HasForms e d (formed d (sized e (Some inner) size) ∷ fs)
-  function_alone : {e : Env} {d : Declarator} {ps : List Parameter} {dots : Bool} → out-DeclaratorForm d.form ≡ DeclaratorForm-F.FunctionOf None ps dots →
+  array : {e : Env} {d : Declarator} {inner : Declarator} {size : Option Expr} {fs : List FormAt} →
+      out-DeclaratorForm d.form ≡ DeclaratorForm-F.ArrayOf (Some inner) size → HasForms e inner fs →
+      HasForms e d (formed d (sized e (Some inner) size) ∷ fs)
+  function_alone : {e : Env} {d : Declarator} {ps : List Parameter} {dots : Bool} →
+      out-DeclaratorForm d.form ≡ DeclaratorForm-F.FunctionOf None ps dots →
       HasForms e d (formed d (with_parameters e None ps dots) ∷ [])
-  function : {e : Env} {d : Declarator} {inner : Declarator} {ps : List Parameter} {dots : Bool} {fs : List FormAt} → out-DeclaratorForm d.form ≡ DeclaratorForm-F.FunctionOf (Some inner) ps dots →
+  function : {e : Env} {d : Declarator} {inner : Declarator} {ps : List Parameter} {dots : Bool}
+      {fs : List FormAt} → out-DeclaratorForm d.form ≡ DeclaratorForm-F.FunctionOf (Some inner) ps dots →
       HasForms e inner fs → HasForms e d (formed d (with_parameters e (Some inner) ps dots) ∷ fs)
 
 -- the type that a declarator makes, and whether one on the way is over a bound, are those of its forms
 abbrev pub TypesFollowForms : Type 0
-TypesFollowForms = (span : Span) (d : Declarator) (fs : List FormAt) → HasForms span.env d fs → (t : Option Ty) →
-    ((declarator_found d).type span t ≡ shaped span fs t) × ((declarator_found d).is_large span t ≡ is_large_shape span fs t)
+TypesFollowForms = (span : Span) (d : Declarator) (fs : List FormAt) → HasForms span.env d fs →
+    (t : Option Ty) → ((declarator_found d).type span t ≡ shaped span fs t)
+    × ((declarator_found d).is_large span t ≡ is_large_shape span fs t)

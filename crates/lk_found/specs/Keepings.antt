@@ -16,7 +16,8 @@ codes_at mark broken = record { mark = mark; broken = broken }
 
 abbrev pub KeepsEach : Kept → List Codes → Kept → Type 0
 KeepsEach old [] new = new ≡ old
-KeepsEach old (codes ∷ others) new = (middle : Kept) × KeepsCodes old codes.mark codes.broken middle × KeepsEach middle others new
+KeepsEach old (codes ∷ others) new =
+    (middle : Kept) × KeepsCodes old codes.mark codes.broken middle × KeepsEach middle others new
 
 -- none of them tells a name
 abbrev pub AreUnnamed : List Breach → Type 0
@@ -37,4 +38,5 @@ BreaksEach codes = OfEach (λ mark broken. HasBreach broken) codes
 
 -- `at_end` is the environment behind the whole source
 abbrev pub KeepsAll : Env → Kept → List Placed → List Codes → Kept → Type 0
-KeepsAll at_end old ps codes new = Keeps old (λ f. FaultIn at_end ps f ⊎ FaultOfEach codes f) (IsBroken at_end ps ⊎ BreaksEach codes) new
+KeepsAll at_end old ps codes new =
+    Keeps old (λ f. FaultIn at_end ps f ⊎ FaultOfEach codes f) (IsBroken at_end ps ⊎ BreaksEach codes) new

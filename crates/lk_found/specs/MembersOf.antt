@@ -56,7 +56,8 @@ member_of behind false before name t faulty = field_told behind before name t fa
 abbrev pub found_of : Bool → Declarator → Env → Option Ty → List Field → MemberTold
 found_of bit_field d env t before =
     let told = declarator_found d in
-    member_of (extend env (told.additions env)) bit_field before told.name (type_made env false t told) (faulty_member (told.additions env) (told.holds_sizeof env))
+    member_of (extend env (told.additions env)) bit_field before told.name (type_made env false t told)
+    (faulty_member (told.additions env) (told.holds_sizeof env))
 
 -- a width
 abbrev pub width_told : Expr → Env → MemberTold
@@ -64,7 +65,8 @@ width_told e env = faulty_member (expr_adds e env) (expression e (as_operand env
 
 abbrev pub member_codes : Env → List Field → Declarator → Option Ty → List Codes
 member_codes behind before d t =
-    name_codes behind t (IsMember before) (declarator_found d).name ++ codes_at (mark d.spot d.ordinal) (of_type t (large_struct_rules behind before)) ∷ []
+    name_codes behind t (IsMember before) (declarator_found d).name ++
+    codes_at (mark d.spot d.ordinal) (of_type t (large_struct_rules behind before)) ∷ []
 
 -- with 21 the name is told
 abbrev pub is_again : Code → Bool
@@ -87,12 +89,15 @@ pub record IsSizeWith (table : Table) (fields : List CodeField) (t : ℕ) (large
 abbrev pub IsLarger : Table → Env → List CodeField → ℕ → Option TypeSize → Type 0
 IsLarger table behind fields t larger =
     MatchOption larger (is_none_broken (large_struct_rules behind (map (field_in table) fields) (meaning table t)) ≡ false)
-    (λ size. IsSizeWith table fields t size × (is_none_broken (large_struct_rules behind (map (field_in table) fields) (meaning table t)) ≡ true))
+    (λ size. IsSizeWith table fields t size
+    × (is_none_broken (large_struct_rules behind (map (field_in table) fields) (meaning table t)) ≡ true))
 
 -- whether the struct may have it as a field
 abbrev pub may_have : Env → List Field → Option Named → Ty → Bool
-may_have behind before name t = is_free behind before name t && is_none_broken (large_struct_rules behind before t)
+may_have behind before name t =
+    is_free behind before name t && is_none_broken (large_struct_rules behind before t)
 
 -- the size is there where it may
 abbrev pub IsThereWhere : Table → Env → List CodeField → Option Named → ℕ → Option TypeSize → Type 0
-IsThereWhere table behind fields name t size = is_some size ≡ may_have behind (map (field_in table) fields) name (meaning table t)
+IsThereWhere table behind fields name t size =
+    is_some size ≡ may_have behind (map (field_in table) fields) name (meaning table t)

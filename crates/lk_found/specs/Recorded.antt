@@ -31,7 +31,8 @@ pub record Recorded : Type 0 where
   pub tags : List StructTag
 
 abbrev pub nothing_recorded : Recorded
-nothing_recorded = record { founds = []; meant = []; first_uses = []; taken = []; named = []; initialisers = []; declared = []; tags = [] }
+nothing_recorded =
+    record { founds = []; meant = []; first_uses = []; taken = []; named = []; initialisers = []; declared = []; tags = [] }
 
 -- the first of two uses
 abbrev pub earlier : Option Use → Use → Use
@@ -40,12 +41,14 @@ earlier (Some before) later = if nat_lt later.ordinal before.ordinal then later 
 
 -- a use of the name that a node declares
 abbrev pub with_use : ℕ → Use → List (ℕ × Use) → List (ℕ × Use)
-with_use declaring used uses = insert_entry nat_eq uses declaring (earlier (lookup (nat_eq declaring) uses) used)
+with_use declaring used uses =
+    insert_entry nat_eq uses declaring (earlier (lookup (nat_eq declaring) uses) used)
 
 -- what a name stands for, where an expression is one
 abbrev pub with_word : Use → Option Meant → Recorded → Recorded
 with_word used None r = r
-with_word used (Some meant) r = record r { meant = insert_entry nat_eq r.meant used.ordinal meant; first_uses = with_use meant.ordinal used r.first_uses }
+with_word used (Some meant) r =
+    record r { meant = insert_entry nat_eq r.meant used.ordinal meant; first_uses = with_use meant.ordinal used r.first_uses }
 
 -- a name whose address is taken, where an expression takes one's
 abbrev pub with_taken : Use → Option Meant → Recorded → Recorded
@@ -58,7 +61,8 @@ use_of e = record { spot = e.spot; ordinal = e.ordinal }
 -- an expression of which this is found
 abbrev pub with_expression : Expr → Found → NamesIn → Recorded → Recorded
 with_expression e found names r =
-    with_taken (use_of e) names.taken (with_word (use_of e) names.word (record r { founds = insert_entry nat_eq r.founds e.ordinal found }))
+    with_taken (use_of e) names.taken
+    (with_word (use_of e) names.word (record r { founds = insert_entry nat_eq r.founds e.ordinal found }))
 
 -- the type of a type name, where it has one
 abbrev pub with_named : ℕ → Option ℕ → Recorded → Recorded

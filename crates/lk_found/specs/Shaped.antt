@@ -1,4 +1,5 @@
--- The type that the forms of a declarator make together of the type on its left, and the codes of these forms (C99 6.7.5).
+-- The type that the forms of a declarator make together of the type on its left, and the
+-- codes of these forms (C99 6.7.5).
 use Rattle.std.specs.Prelude.{◌||◌, Bool, false, Option, List, [], ◌∷◌, map, IfSome}
 use Rattle.std.specs.Option.{option_map}
 use Rattle.lk_types.specs.Table.{Table, IsKnown}
@@ -37,7 +38,8 @@ shaped span (f ∷ fs) t = shaped span fs (type_by span f.form t)
 -- whether one of them makes a type that is over a bound
 abbrev pub is_large_shape : Span → List FormAt → Option Ty → Bool
 is_large_shape span [] t = false
-is_large_shape span (f ∷ fs) t = is_over span.behind (made_of f.form span t) || is_large_shape span fs (type_by span f.form t)
+is_large_shape span (f ∷ fs) t =
+    is_over span.behind (made_of f.form span t) || is_large_shape span fs (type_by span f.form t)
 
 -- their codes
 abbrev pub codes_by : Span → List FormAt → Option Ty → List Codes

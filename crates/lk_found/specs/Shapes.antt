@@ -62,7 +62,8 @@ type_by span form t = within_bounds span.behind (made_of form span t)
 -- whether it is complete and whether it is faulty, where the declarator begins
 abbrev pub IsElement : List Members → Element → Option Ty → Type 0
 IsElement structs element None = ⊤
-IsElement structs element (Some t) = (is_complete structs t ≡ element.is_complete) × (is_broken structs t ≡ element.is_broken)
+IsElement structs element (Some t) =
+    (is_complete structs t ≡ element.is_complete) × (is_broken structs t ≡ element.is_broken)
 
 -- where it is complete and not faulty the table can have arrays of it
 abbrev pub IsElementIn : Table → Element → ℕ → Type 0
@@ -85,7 +86,8 @@ is_faulty (size.Written c) = false
 
 -- ---- what a form made of a type
 
-pub record IsMadeBy (old new : Table) (span : Span) (form : Form) (left : Option Ty) (made : Made) : Type 0 where
+pub record IsMadeBy (old new : Table) (span : Span) (form : Form) (left : Option Ty)
+    (made : Made) : Type 0 where
   pub code : made.code ≡ told (rules_of form span left)
   pub type : option_map (meaning new) made.ty ≡ type_by span form left
   pub large : made.is_large ≡ is_over span.behind (made_of form span left)

@@ -53,7 +53,8 @@ AreOthers table Several types = AreSeveral types
 -- ---- specifiers so far
 
 -- they tell this, whatever they add to the environment, and these codes hold
-pub record IsGathered (table : Table) (gathered : Gathered) (told : SpecifierTold) (broken : List spec.Breach) : Type 0 where
+pub record IsGathered (table : Table) (gathered : Gathered) (told : SpecifierTold)
+    (broken : List spec.Breach) : Type 0 where
   pub storages : gathered.storages.items ≡ told.storages
   pub words : gathered.words.items ≡ told.words
   pub types : AreOthers table gathered.others told.types
@@ -62,10 +63,12 @@ pub record IsGathered (table : Table) (gathered : Gathered) (told : SpecifierTol
 
 -- the type that they name together
 abbrev pub IsNamed : Table → Option (Option ℕ) → Option (Option Ty) → Type 0
-IsNamed table found named = (option_map (option_map (meaning table)) found ≡ named) × IfSome found (λ t. IfSome t (IsKnown table))
+IsNamed table found named =
+    (option_map (option_map (meaning table)) found ≡ named) × IfSome found (λ t. IfSome t (IsKnown table))
 
 -- all of a list
-pub record IsSpecified (table : Table) (holder : Holder) (specified : Specified) (told : SpecifierTold) (broken : List spec.Breach) : Type 0 where
+pub record IsSpecified (table : Table) (holder : Holder) (specified : Specified) (told : SpecifierTold)
+    (broken : List spec.Breach) : Type 0 where
   pub storages : specified.storages.items ≡ told.storages
   pub named : option_map (meaning table) specified.named ≡ type_of told
   pub type : option_map (meaning table) specified.ty ≡ type_in holder told

@@ -13,9 +13,11 @@ use Rattle.lk_found.specs.Specified.{IsGathered}
 use Rattle.lk_found.specs.declared.gathered.Gathered.{Gathered}
 
 -- the code of a use of a tag is gathered, which is admitted or not
-pub record IsTagUse (env : Env) (wanted : TagUse) (tag : Option Name) (before after : Gathered) (admitted : Bool) : Type 0 where
+pub record IsTagUse (env : Env) (wanted : TagUse) (tag : Option Name) (before after : Gathered)
+    (admitted : Bool) : Type 0 where
   pub may : admitted ≡ may_use env (tag_found env wanted tag) wanted
-  pub gathered : (table : Table) (others : SpecifierTold) (codes : List Breach) → IsGathered table before others codes →
+  pub gathered : (table : Table) (others : SpecifierTold) (codes : List Breach) →
+      IsGathered table before others codes →
       IsGathered table after others (codes ++ optional_tag_rules env wanted tag)
 
 -- one more type is gathered, and whether a sizeof stands in it
@@ -26,4 +28,5 @@ PutsType old new before after t holds =
 
 -- all structs but this one are begun still
 abbrev pub KeepsOthersBegun : ℕ → List Members → List Members → Type 0
-KeepsOthersBegun s old new = (t : ℕ) → (t ≡ s → ⊥) → slice_get old t ≡ Some Begun → slice_get new t ≡ Some Begun
+KeepsOthersBegun s old new = (t : ℕ) → (t ≡ s → ⊥) → slice_get old t ≡ Some Begun →
+    slice_get new t ≡ Some Begun

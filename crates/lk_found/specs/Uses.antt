@@ -1,4 +1,5 @@
--- The names of which an expression speaks itself: the name that it is, and the one whose address it takes; and when what is recorded of them is true and whole.
+-- The names of which an expression speaks itself: the name that it is, and the one whose address it takes;
+-- and when what is recorded of them is true and whole.
 use Rattle.std.specs.Prelude.{ℕ, ◌≡◌, ◌≤◌, ⊤, Option, Some, None, List, nat_eq}
 use Rattle.std.specs.Map.{lookup}
 use Rattle.lk_tree.specs.declared.expression.DeclaratorForm.TheOpen.{ExprForm-F}
@@ -100,7 +101,8 @@ pub record IsOfWord (table : Table) (n : ℕ) (meant : Meant) (env : Env) (node 
 
 -- one that stands no later speaks of the name
 abbrev pub HasUse : List (ℕ × Use) → (declaring ordinal : ℕ) → Type 0
-HasUse uses declaring ordinal = (used : Use) × (lookup (nat_eq declaring) uses ≡ Some used) × (used.ordinal ≤ ordinal)
+HasUse uses declaring ordinal =
+    (used : Use) × (lookup (nat_eq declaring) uses ≡ Some used) × (used.ordinal ≤ ordinal)
 
 -- `spoken_of` gives the name of which an expression speaks
 module _ (spoken_of : Env → Expr → Option Declared) where
@@ -117,10 +119,12 @@ module _ (spoken_of : Env → Expr → Option Declared) where
   abbrev pub HasUses : Env → List Placed → List (ℕ × Use) → Type 0
   HasUses at_end nodes uses =
       (outer : Placed) → IsIn outer nodes → (env : Env) (e : Expr) (declared : Declared) →
-      Stands (parts at_end) (breaches at_end) (hiding at_end) mark_of outer.env outer.node env (AnExpression e) → spoken_of env e ≡ Some declared → HasUse uses declared.ordinal e.ordinal
+      Stands (parts at_end) (breaches at_end) (hiding at_end) mark_of outer.env outer.node env
+      (AnExpression e) → spoken_of env e ≡ Some declared → HasUse uses declared.ordinal e.ordinal
 
   -- what was there before, perhaps earlier, and what the expressions in these nodes speak of
-  pub record AddsUses (at_end : Env) (old : List (ℕ × Use)) (nodes : List Placed) (new : List (ℕ × Use)) : Type 0 where
+  pub record AddsUses (at_end : Env) (old : List (ℕ × Use)) (nodes : List Placed)
+      (new : List (ℕ × Use)) : Type 0 where
     pub truth : AddsTruth at_end IsOfUse old nodes new
     pub kept : (declaring ordinal : ℕ) → HasUse old declaring ordinal → HasUse new declaring ordinal
     pub each : HasUses at_end nodes new

@@ -1,4 +1,5 @@
--- The nodes inside a declarator that are no declarators, in the order of the text, and its forms so far (C99 6.7.5).
+-- The nodes inside a declarator that are no declarators, in the order of the text, and
+-- its forms so far (C99 6.7.5).
 use Rattle.std.specs.Prelude.{◌≡◌, ◌++◌, ◌||◌, Bool, false, Option, Some, None, List, [], ◌∷◌, if◌then◌else◌, option_map}
 use Rattle.lk_tree.specs.declared.expression.Declarator.{Declarator}
 use Rattle.lk_tree.specs.declared.expression.Expr.{Expr}
@@ -22,7 +23,8 @@ abbrev pub size_part : Env → Option Declarator → Option Expr → List Placed
 size_part e inner size = perhaps (extend e (inner_adds inner e)) AnExpression size
 
 abbrev pub parameter_parts : Env → Option Declarator → List Parameter → Bool → List Placed
-parameter_parts e inner ps dots = parameters_in_turn (is_lone ps dots) (enter (extend e (inner_adds inner e))) ps
+parameter_parts e inner ps dots =
+    parameters_in_turn (is_lone ps dots) (enter (extend e (inner_adds inner e))) ps
 
 -- sizes and parameters, in the order of the text
 abbrev pub inside : {e : Env} {d : Declarator} {fs : List FormAt} → HasForms e d fs → List Placed
@@ -33,7 +35,8 @@ inside (group is has) = inside has
 inside (array_alone {e = e} {size = size} is) = size_part e None size
 inside (array {e = e} {inner = inner} {size = size} is has) = inside has ++ size_part e (Some inner) size
 inside (function_alone {e = e} {ps = ps} {dots = dots} is) = parameter_parts e None ps dots
-inside (function {e = e} {inner = inner} {ps = ps} {dots = dots} is has) = inside has ++ parameter_parts e (Some inner) ps dots
+inside (function {e = e} {inner = inner} {ps = ps} {dots = dots} is has) =
+    inside has ++ parameter_parts e (Some inner) ps dots
 
 -- ---- a declarator that may be missing
 
@@ -56,7 +59,8 @@ pub record HasLayer (before after : Walked) (layer : LayerAt) (holds : Bool) : T
   pub parameters : after.parameters ≡ before.parameters
 
 -- a function with these parameters around: what they declare is kept where they stand beside the name
-pub record HasFunction (before after : Walked) (at : At) (dots : Bool) (found : ParametersFound) : Type 0 where
+pub record HasFunction (before after : Walked) (at : At) (dots : Bool)
+    (found : ParametersFound) : Type 0 where
   pub layers : after.layers.items ≡ before.layers.items ++ record { at = at; layer = code.Function found.types dots } ∷ []
   pub is_name : after.is_name ≡ false
   pub holds_sizeof : after.holds_sizeof ≡ (before.holds_sizeof || found.holds_sizeof)

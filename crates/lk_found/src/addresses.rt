@@ -1,4 +1,5 @@
-//! Address constants, as far as a fault depends on them: whether an address stays in its array (C99 6.5.6, 7 and 8; 6.6, 9).
+//! Address constants, as far as a fault depends on them: whether an address stays in its array
+//! (C99 6.5.6, 7 and 8; 6.6, 9).
 ghost use Rattle.std.specs.Prelude.{◌≡◌, ℕ, ◌<◌};
 ghost use Rattle.std.specs.Option.{option_map};
 ghost use Rattle.lk_types.specs.Table.{Table, IsKnown};
@@ -21,7 +22,8 @@ use lk_typed::{
 };
 use lk_types::{CType, TypeId, TypeTable};
 
-/// A place of static storage: an element of an array, or one past the last; what is no element counts as an array of one.
+/// A place of static storage: an element of an array, or one past the last; what is no
+/// element counts as an array of one.
 #[derive(Clone, Copy)]
 pub struct Place {
     /// The number of the element.
@@ -266,7 +268,8 @@ fn moved_by_operator(op: BinaryOperator, address: Address, by: Constant) -> Addr
 pub fn binary(types: &TypeTable, op: BinaryOperator, a: &Typed, at: Address, b: &Typed) -> Address
     requires first { IsOperand types.now a.now }
     requires second { IsOperand types.now b.now }
-    ensures { (x y : Typing) → IsTyping types.now a.now x → IsTyping types.now b.now y → at ≡ kept_of x.address →
+    ensures { (x y : Typing) → IsTyping types.now a.now x → IsTyping types.now b.now y →
+        at ≡ kept_of x.address →
         result ≡ kept_of (binary_address op x y) }
 {
     if is_pointer(types, &a.ty) && is_integer(types, &b.ty) {

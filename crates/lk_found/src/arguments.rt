@@ -1,4 +1,5 @@
-//! The arguments of a call (C99 6.5.2.2): what was found of them, how each is passed, and what the rule of calls says.
+//! The arguments of a call (C99 6.5.2.2): what was found of them, how each is passed, and
+//! what the rule of calls says.
 ghost use Rattle.std.specs.Prelude.{◌≡◌, ◌++◌, ◌∷◌, [], Option, IfSome, OnOk, List, slice_get};
 ghost use Rattle.lk_types.specs.Table.{Table};
 ghost use Rattle.lk_typed.specs.Calls as spec;
@@ -123,7 +124,8 @@ fn call_of(types: &TypeTable, role: Role, f: &Found, typing: &Typed, given: &Giv
     requires function { IsOperand types.now typing.now }
     requires arguments { AreOperands types.now given.now }
     ensures { (env : Env) (x : spec.Argument) (ys : List Judged) → role_in types.now role ≡ env.role →
-        IsTyping types.now typing.now x.typing → IsLook env f.now.look x.look → IsGiven types.now env given.now ys →
+        IsTyping types.now typing.now x.typing → IsLook env f.now.look x.look →
+        IsGiven types.now env given.now ys →
         IsRuled types.now result (with_arguments (arguments_of ys) (call_rule env x)) }
 {
     if given.are_typed {

@@ -8,7 +8,8 @@ use lk_base::NoMemory;
 use std::alloc::Global;
 use std::marker::Model;
 
-/// Values by the numbers of nodes of the syntax tree. A contract sees it as the list of its entries, the oldest first.
+/// Values by the numbers of nodes of the syntax tree. A contract sees it as the list of
+/// its entries, the oldest first.
 #[derive(Drop)]
 pub struct ByNumber<V> {
     entries: IndexMap<u32, V>,

@@ -52,7 +52,8 @@ impl MembersFound {
         self.is_sound = false;
     }
 
-    /// A bit-field of which this width is found: it is no field. The answer says whether the width has a type.
+    /// A bit-field of which this width is found: it is no field. The answer says
+    /// whether the width has a type.
     pub fn put_width(&mut self, width: Found) -> bool
         ensures typed { result ≡ is_some width.typing }
         ensures put { self.new ≡ record self.old {

@@ -1,4 +1,5 @@
-//! What specifiers tell together: their storage classes, the type that they name, and their codes (C99 6.7.1, 6.7.2).
+//! What specifiers tell together: their storage classes, the type that they name, and
+//! their codes (C99 6.7.1, 6.7.2).
 ghost use Rattle.std.specs.Prelude.{◌≡◌, ◌++◌, ◌∷◌, ◌||◌, [], List, Option, None, unwrap_or, if◌then◌else◌, OnOk, IfOk, IfSome};
 ghost use Rattle.std.specs.Option.{option_map};
 ghost use Rattle.lk_types.specs.Table.{Table, IsKnown};
@@ -99,7 +100,8 @@ impl Gathered {
     pub fn put_type(&mut self, t: Option<TypeId>)
         ensures { (table : Table) (told : SpecifierTold) (broken : List SpecBreach) →
             IfSome t (IsKnown table) → IsGathered table self.old told broken →
-            IsGathered table self.new (record told { types = told.types ++ option_map (meaning table) t ∷ [] }) broken }
+            IsGathered table self.new
+            (record told { types = told.types ++ option_map (meaning table) t ∷ [] }) broken }
     {
         self.others = with_other(self.others, t);
     }
@@ -125,11 +127,12 @@ impl Gathered {
         Ok(())
     }
 
-    /// What words and other types name together: words in a combination of 6.7.2, or one other type. The inner type is
-    /// missing where that is faulty.
+    /// What words and other types name together: words in a combination of 6.7.2, or one other type. The
+    /// inner type is missing where that is faulty.
     fn named_type(&self) -> Option<Option<TypeId>>
         ensures { (table : Table) (told : SpecifierTold) (broken : List SpecBreach) → IsReady table →
-            IsGathered table self.now told broken → IsNamed table result (spec.named_type told.words told.types) }
+            IsGathered table self.now told broken →
+            IsNamed table result (spec.named_type told.words told.types) }
     {
         match self.others {
             Others::Nothing => match type_of_words(self.words.as_slice()) {
@@ -156,7 +159,8 @@ impl Gathered {
     pub fn specified(mut self, holder: Holder) -> Result<Specified, NoMemory>
         ensures { IfOk result (λ specified. (table : Table) (told : SpecifierTold) (broken : List SpecBreach) →
             IsReady table → IsGathered table self told broken →
-            IsSpecified table (holder_of holder) specified told (broken ++ specifier_rules (holder_of holder) told)) }
+            IsSpecified table (holder_of holder) specified told
+            (broken ++ specifier_rules (holder_of holder) told)) }
     {
         let named = self.named_type();
         let code = specifier_code(holder, self.storages.as_slice(), named.is_some());

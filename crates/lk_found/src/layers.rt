@@ -26,8 +26,8 @@ pub enum Layer {
     Pointer,
     /// An array of it.
     Array(ArraySize),
-    /// A function that returns it. The types of the parameters are missing where one of them is faulty; the flag says whether
-    /// `...` ends them.
+    /// A function that returns it. The types of the parameters are missing where one of them is faulty; the
+    /// flag says whether `...` ends them.
     Function(Option<TypeIds>, bool),
 }
 
@@ -256,7 +256,8 @@ pub fn made_by(
     ensures made { IfOk result (λ made. (span : Span) → AreFields types.old (fields_in span.behind) →
         IsElement span.env.structs element (option_map (meaning types.old) left) →
         span.may_be_absent ≡ may_be_absent →
-        IsMadeBy types.old types.new span (form_in types.old layer) (option_map (meaning types.old) left) made) }
+        IsMadeBy types.old types.new span (form_in types.old layer)
+        (option_map (meaning types.old) left) made) }
     ensures known { IfOk result (IsKnownMade types.new) }
     ensures grown { IsGrown types.old types.new }
     ensures err { OnErr result (types.new ≡ types.old) }

@@ -1,5 +1,5 @@
-//! What is found of the nodes of a source and recorded of them while types and faults are checked, and what the rules say of
-//! what was found (C99 6.5, 6.7.2 to 6.7.6).
+//! What is found of the nodes of a source and recorded of them while types and faults are checked, and what
+//! the rules say of what was found (C99 6.5, 6.7.2 to 6.7.6).
 //!
 //! Nothing here knows the state of the checker: its walk gathers these values and asks these functions.
 #![tactic(auto)]

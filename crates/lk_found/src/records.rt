@@ -152,7 +152,8 @@ impl Records {
         self.first_uses.get(declaring)
     }
 
-    /// Whether `&` is applied to the name that the node with this number declares, perhaps in parentheses (C99 6.5.3.2).
+    /// Whether `&` is applied to the name that the node with this number declares, perhaps
+    /// in parentheses (C99 6.5.3.2).
     pub fn is_taken(&self, declaring: u32) -> bool
         ensures { result ≡ is_some (lookup (nat_eq declaring) self.now.taken) }
     {

@@ -82,8 +82,8 @@ fn role_of_plain(types: &TypeTable, left: &Found) -> Role
     }
 }
 
-/// The right side of an assignment: that of `=` is converted to the type of the left one, where that is no function; that of
-/// `op=` isn't converted directly.
+/// The right side of an assignment: that of `=` is converted to the type of the left one, where that is no
+/// function; that of `op=` isn't converted directly.
 pub fn role_on_right(types: &TypeTable, op: AssignOperator, left: &Found) -> Role
     requires { HasOperand types.now left.now }
     ensures value { (env : Env) (x : Option Typing) → IsFoundTyping types.now left.now x →

@@ -136,7 +136,8 @@ fn choice_of(types: &TypeTable, c: &Typed, a: &Typed, b: &Typed) -> Ruled
     requires condition { IsOperand types.now c.now }
     requires first { IsOperand types.now a.now }
     requires second { IsOperand types.now b.now }
-    ensures { (z x y : Typing) → IsTyping types.now c.now z → IsTyping types.now a.now x → IsTyping types.now b.now y →
+    ensures { (z x y : Typing) → IsTyping types.now c.now z → IsTyping types.now a.now x →
+        IsTyping types.now b.now y →
         IsRuled types.now result (choice_rule (spec_value z) (spec_value x) (spec_value y)) }
 {
     let condition = value(types, c);
@@ -154,7 +155,8 @@ fn arms_ruled(types: &TypeTable, c: &Typed, a: &Found, b: &Found) -> Ruled
     requires second { HasOperand types.now b.now }
     ensures { (z : Typing) (x y : Option Typing) → IsTyping types.now c.now z →
         IsFoundTyping types.now a.now x → IsFoundTyping types.now b.now y →
-        IsRuled types.now result (with_two x y (λ a b. choice_rule (spec_value z) (spec_value a) (spec_value b))) }
+        IsRuled types.now result
+        (with_two x y (λ a b. choice_rule (spec_value z) (spec_value a) (spec_value b))) }
 {
     match a.typing {
         Some(first) => match b.typing {
@@ -195,7 +197,8 @@ fn binary_of(
     requires first { IsOperand types.now a.now }
     requires second { IsOperand types.now b.now }
     ensures { (x y : Typing) → IsPart types.now a.now at x → IsTyping types.now b.now y →
-        IsRuled types.now result (binary_rule (structs_in types.now structs.now) op (spec_value x) (spec_value y)) }
+        IsRuled types.now result
+        (binary_rule (structs_in types.now structs.now) op (spec_value x) (spec_value y)) }
 {
     let first_at = value_address(types, a, at);
     let first = value(types, a);

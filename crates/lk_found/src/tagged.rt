@@ -18,7 +18,8 @@ use lk_names::{Names, TagUse, struct_meant};
 /// Whether a use of a tag may stand where it stands; one without a tag may.
 pub fn admits(names: &Names, wanted: TagUse, tag: Option<&Name>) -> bool
     ensures { (table : Table) (rest : Env) → result ≡ may_use (env_in table rest names.now)
-        (tag_found (env_in table rest names.now) (rules_use wanted) (option_copied tag.entry)) (rules_use wanted) }
+        (tag_found (env_in table rest names.now) (rules_use wanted) (option_copied tag.entry))
+        (rules_use wanted) }
 {
     match tag {
         Some(name) => names.may_use(names.tag_meant(wanted, name), wanted),
@@ -53,7 +54,8 @@ pub fn tag_breach(
 /// The code of `enum tag`: 25 where there is no such tag, 21 where it is no enumeration's.
 pub fn enum_breach(names: &Names, name: &Name) -> Result<Option<Breach>, NoMemory>
     ensures { IfOk result (λ breach. (table : Table) (rest : Env) → optional_breach breach ≡
-        enum_rules (env_in table rest names.now) name.now (look_up_tag (env_in table rest names.now) name.now)) }
+        enum_rules (env_in table rest names.now) name.now
+        (look_up_tag (env_in table rest names.now) name.now)) }
 {
     if names.look_up_tag(name).is_none() {
         return Ok(Some(Breach {

@@ -1,5 +1,5 @@
--- Rows that are passed on along the arrows of a graph, as far as they have been. Only the private calls of this crate speak
--- of it.
+-- Rows that are passed on along the arrows of a graph, as far as they have been. Only the private
+-- calls of this crate speak of it.
 use Rattle.std.specs.Prelude.{◌≡◌, ◌⊎◌, ℕ, Bool, true, false, List, ⊤, length}
 use Rattle.lk_facts.specs.Reach.{Plus}
 use Rattle.lk_graph.specs.Search.{IsArrow}
@@ -21,10 +21,12 @@ ArePassed graph rows = (a b : ℕ) → IsArrow graph a b → IsPassed rows a b
 
 -- or is marked
 abbrev pub ArePassedOrMarked : List (List ℕ) → List Bool → Rows → Type 0
-ArePassedOrMarked graph marks rows = (a b : ℕ) → IsArrow graph a b → IsPassed rows a b ⊎ (is_marked marks a ≡ true)
+ArePassedOrMarked graph marks rows =
+    (a b : ℕ) → IsArrow graph a b → IsPassed rows a b ⊎ (is_marked marks a ≡ true)
 
 -- a marked row was passed on, and isn't marked any more
-pub record IsRowPassed (graph : List (List ℕ)) (a : ℕ) (old new : Rows) (before now : List Bool) (changed : Bool) : Type 0 where
+pub record IsRowPassed (graph : List (List ℕ)) (a : ℕ) (old new : Rows) (before now : List Bool)
+    (changed : Bool) : Type 0 where
   pub going : Going (AreReached graph) (λ _. ⊤) old new changed
   pub long : length now ≡ length before
   pub waits : ArePassedOrMarked graph before old → ArePassedOrMarked graph now new

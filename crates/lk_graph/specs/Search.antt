@@ -12,8 +12,8 @@ IsArrow graph a b = leads graph a b ≡ true
 abbrev pub LeadsInto : List (List ℕ) → List Bool → ℕ → ℕ → Type 0
 LeadsInto graph marks a b = IsArrow graph a b × (is_marked marks b ≡ true)
 
--- Arrows lead from a to b and back to a, through marked numbers alone. The other graph has the same arrows the other way
--- round, and is followed from a first.
+-- Arrows lead from a to b and back to a, through marked numbers alone. The other graph has the same arrows
+-- the other way round, and is followed from a first.
 abbrev pub IsOnRound : (graph back : List (List ℕ)) → List Bool → ℕ → ℕ → Type 0
 IsOnRound graph back marks a = Plus (λ x y. IsArrow graph x y × Plus (LeadsInto back marks) a y) a
 

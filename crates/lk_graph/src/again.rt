@@ -24,8 +24,8 @@ pub(crate) struct Entering {
     pub below: u32,
 }
 
-/// The points that may be performed more than once: control may come back to the point, or its function is used as a
-/// value, has two sites, or has a site that may be performed more than once.
+/// The points that may be performed more than once: control may come back to the point, or its function is
+/// used as a value, has two sites, or has a site that may be performed more than once.
 pub fn many(alloc: Global, points: &Points) -> Result<IdSet, NoMemory>
     ensures { IfOk result (Lists (Many points.now)) }
 {
@@ -132,8 +132,8 @@ fn put_sites(
     Ok(())
 }
 
-/// Puts the function that a point goes into behind those that are entered, and behind those that are entered more than
-/// once where another point goes into it too, or control may come back to this one.
+/// Puts the function that a point goes into behind those that are entered, and behind those that are entered
+/// more than once where another point goes into it too, or control may come back to this one.
 fn put_site(
     points: &Points,
     cycles: &IdSet,
@@ -159,7 +159,8 @@ fn put_site(
     Ok(())
 }
 
-/// Whether the function that a point goes into was found to be entered, or control may come back to the point.
+/// Whether the function that a point goes into was found to be entered, or
+/// control may come back to the point.
 fn comes_again(cycles: &IdSet, point: u32, function: u32, once: &Found) -> bool
     ensures { result ≡ (has_id once.now.list function || has_id cycles.now point) }
 {
@@ -212,7 +213,8 @@ fn push_entering(points: &Points, point: u32, found: &mut Vec<Entering>) -> Resu
     Ok(())
 }
 
-/// Puts the functions behind the others that are entered from those that were found, each found function after the other.
+/// Puts the functions behind the others that are entered from those that were found, each
+/// found function after the other.
 fn grow(enterings: &[Entering], again: &mut Found) -> Result<(), NoMemory>
     requires { All (λ e. e.below < again.old.size) enterings.now }
     ensures { OnOk result ((f : ℕ) →

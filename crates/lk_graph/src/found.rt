@@ -8,7 +8,8 @@ use lk_base::NoMemory;
 use std::alloc::Global;
 use std::marker::Model;
 
-/// Numbers below a size, each once, in the order in which they were found. A contract sees the size and the list.
+/// Numbers below a size, each once, in the order in which they were found. A
+/// contract sees the size and the list.
 #[derive(Drop)]
 pub(crate) struct Found {
     /// For each number whether it was found.

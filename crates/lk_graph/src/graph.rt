@@ -7,7 +7,8 @@ use lk_base::{NoMemory, Seq};
 use std::alloc::Global;
 use std::marker::Model;
 
-/// Arrows between the numbers below a size. A contract sees for each number the list of those to which its arrows lead.
+/// Arrows between the numbers below a size. A contract sees for each number the list of
+/// those to which its arrows lead.
 #[derive(Drop)]
 pub struct Graph {
     /// How many numbers there are.

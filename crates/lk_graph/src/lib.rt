@@ -1,4 +1,5 @@
-//! What can come after a control point, which points can come again, and which may be performed more than once.
+//! What can come after a control point, which points can come again, and which may
+//! be performed more than once.
 #![tactic(auto)]
 
 mod again;

@@ -29,8 +29,9 @@ pub fn cycles(alloc: Global, points: &Points) -> Result<IdSet, NoMemory>
 }
 
 impl Graph {
-    /// The numbers from which arrows lead back to them, by one or more. Each of the order is asked in turn for the cycles
-    /// through it that no earlier one is on, so that an order in which arrows lead on, cycles apart, keeps them short.
+    /// The numbers from which arrows lead back to them, by one or more. Each of the order is asked in turn
+    /// for the cycles through it that no earlier one is on, so that an order in which arrows lead on,
+    /// cycles apart, keeps them short.
     fn on_cycles(&self, alloc: Global, back: &Graph, order: &[u32]) -> Result<Found, NoMemory>
         requires back { IsTurned self.now back.now }
         requires order { AreAllBelow (length self.now) order.now }

@@ -30,9 +30,9 @@ pub fn all_functions(alloc: Global, points: &Points) -> Result<Vec<u32>, NoMemor
     Ok(functions)
 }
 
-/// Each point, in an order in which control may come to them: those of one of these functions behind the other, each point
-/// behind those that lead to it, cycles apart. Points to which no entry of these leads stand first. Their order serves
-/// speed alone.
+/// Each point, in an order in which control may come to them: those of one of these functions behind the
+/// other, each point behind those that lead to it, cycles apart. Points to which no entry of these leads
+/// stand first. Their order serves speed alone.
 pub fn in_order_of(alloc: Global, points: &Points, functions: &[u32]) -> Result<Vec<u32>, NoMemory>
     requires { All (λ f. f < length points.now.functions) functions.now }
     ensures { IfOk result (λ order. AreAllBelow (length points.now.points) order.items) }

@@ -32,8 +32,8 @@ pub fn after(alloc: Global, points: &Points) -> Result<BitRows, NoMemory>
 }
 
 impl Graph {
-    /// Row a has each number to which arrows lead from a, by one or more. An order in which arrows lead back, cycles apart,
-    /// has each row passed on once.
+    /// Row a has each number to which arrows lead from a, by one or more. An order in which arrows lead back,
+    /// cycles apart, has each row passed on once.
     fn closed(&self, alloc: Global, order: &[u32]) -> Result<BitRows, NoMemory>
         requires small { length self.now ≤ 65536 }
         requires order { AreAllBelow (length self.now) order.now }
@@ -74,8 +74,8 @@ impl Graph {
         Ok(rows)
     }
 
-    /// Lets the marked rows be passed on along the arrows, in this order, and answers whether a pair was new. Those rows are
-    /// marked then that have grown since they were passed on.
+    /// Lets the marked rows be passed on along the arrows, in this order, and answers whether a pair was new.
+    /// Those rows are marked then that have grown since they were passed on.
     fn pass_marked(&self, order: &[u32], rows: &mut BitRows, marks: &mut Vec<bool>) -> bool
         requires order { AreAllBelow (length self.now) order.now }
         requires size { rows.old.size ≡ length self.now }
@@ -120,8 +120,8 @@ fn put_row(rows: &mut BitRows, a: u32, ids: &[u32])
     }
 }
 
-/// Lets what stands with one number stand with each of the others too, marks those whose rows have grown, and answers
-/// whether one has.
+/// Lets what stands with one number stand with each of the others too, marks those whose rows have grown,
+/// and answers whether one has.
 fn pass_each(from: u32, into: &[u32], rows: &mut BitRows, marks: &mut Vec<bool>) -> bool
     requires from { from < rows.old.size }
     requires into { All (λ a. a < rows.old.size) into.now }
@@ -140,8 +140,8 @@ fn pass_each(from: u32, into: &[u32], rows: &mut BitRows, marks: &mut Vec<bool>)
     changed
 }
 
-/// Lets what stands with one number stand with the other too, marks that one where its row has grown, and answers whether it
-/// has.
+/// Lets what stands with one number stand with the other too, marks that one where its row has
+/// grown, and answers whether it has.
 fn pass_one(from: u32, into: u32, rows: &mut BitRows, marks: &mut Vec<bool>) -> bool
     requires from { from < rows.old.size }
     requires into { into < rows.old.size }

@@ -12,12 +12,12 @@ use lk_facts::{Points, RootKind};
 use lk_sets::IdSet;
 use std::alloc::Global;
 
-/// The labels of the linear lock places: those that have one mutex at most. Their paths go into no array, and their roots
-/// are of static storage, locals of functions that are entered once at most, or the one objects of allocations that are
-/// performed once at most.
+/// The labels of the linear lock places: those that have one mutex at most. Their paths go into no array, and
+/// their roots are of static storage, locals of functions that are entered once at most, or the one objects
+/// of allocations that are performed once at most.
 ///
-/// The numbers that may be performed more than once are those of these points, and the node of each place is one of the
-/// program's types.
+/// The numbers that may be performed more than once are those of these points, and the node of each place
+/// is one of the program's types.
 pub fn linear(alloc: Global, points: &Points, many: &IdSet) -> Result<IdSet, NoMemory>
     requires many { (p : ℕ) → (has_id many.now p ≡ true) ↔ Many points.now p }
     requires nodes { ArePlaceNodes points.now }

@@ -30,9 +30,9 @@ pub(crate) struct Walk {
 }
 
 impl Graph {
-    /// Each number, in the order in which a walk along the arrows leaves them that begins at these, the last of them
-    /// first: behind those to which arrows lead from it, cycles apart. Those that the walk doesn't come to stand behind
-    /// the others.
+    /// Each number, in the order in which a walk along the arrows leaves them that begins at these, the last
+    /// of them first: behind those to which arrows lead from it, cycles apart. Those that the walk doesn't
+    /// come to stand behind the others.
     pub fn ends_first(&self, alloc: Global, begins: &[u32]) -> Result<Vec<u32>, NoMemory>
         requires { All (λ a. a < length self.now) begins.now }
         ensures { IfOk result (λ order. AreAllBelow (length self.now) order.items) }
@@ -86,7 +86,8 @@ impl Graph {
         }
     }
 
-    /// Comes to a number: where that is the first time, what arrows lead to from there is next, and then it is left.
+    /// Comes to a number: where that is the first time, what arrows lead to from there
+    /// is next, and then it is left.
     fn enter(&self, a: u32, walk: &mut Walk) -> Result<(), NoMemory>
         requires number { a < length self.now }
         requires walk { IsWalk (length self.now) walk.old }

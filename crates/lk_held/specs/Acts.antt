@@ -9,7 +9,8 @@ use Rattle.lk_links.specs.declared.link.Link.{Link}
 
 -- what the rules rest on
 abbrev pub basis_in : Acts → Basis
-basis_in acts = record { program = acts.points.now; labels = acts.labels.now; flow = flow_of acts.facts.now.origins }
+basis_in acts =
+    record { program = acts.points.now; labels = acts.labels.now; flow = flow_of acts.facts.now.origins }
 
 -- the point takes the mutex of this label, or takes none
 abbrev pub IsTaken : Basis → ℕ → Option ℕ → Type 0

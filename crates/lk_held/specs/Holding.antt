@@ -40,18 +40,21 @@ module _ (basis : Basis) where
     pub kept : (x : ℕ) → has_id ids x ≡ true → MayDrop basis (Released basis) p x → ⊥
     pub lost : (x : ℕ) → has_id locks x ≡ true → has_id ids x ≡ false → MayDrop basis (Released basis) p x
 
-  -- by the table p doesn't add x: it takes no lock that is x, and some function that it runs, if any, returns without one
+  -- by the table p doesn't add x: it takes no lock that is x, and some function that it
+  -- runs, if any, returns without one
   pub data Omits (at : ℕ → ℕ → Bool) (p x : ℕ) : Type 0 where
     runs_none : NotTaken basis p x → RunsNone basis p → Omits at p x
     not_from : {f g : ℕ} {way : Way} → NotTaken basis p x → Runs basis p f way g →
-        ((y e : ℕ) → is_lock_at basis.labels y ≡ true → RisesAs basis.flow way y x → exit_of basis.program g ≡ Some e → at e y ≡ false) → Omits at p x
+        ((y e : ℕ) → is_lock_at basis.labels y ≡ true → RisesAs basis.flow way y x →
+        exit_of basis.program g ≡ Some e → at e y ≡ false) → Omits at p x
 
   -- by the table the function of the link returns with a lock that is x outside, or without one
   abbrev pub Brings : (at : ℕ → ℕ → Bool) → ℕ → Link → Type 0
   Brings at x link = IsBrought basis at link.way link.below x
 
   abbrev pub Lacks : (at : ℕ → ℕ → Bool) → ℕ → Link → Type 0
-  Lacks at x link = (y e : ℕ) → is_lock_at basis.labels y ≡ true → RisesAs basis.flow link.way y x → exit_of basis.program link.below ≡ Some e → at e y ≡ false
+  Lacks at x link = (y e : ℕ) → is_lock_at basis.labels y ≡ true → RisesAs basis.flow link.way y x →
+      exit_of basis.program link.below ≡ Some e → at e y ≡ false
 
   -- no link runs a function
   abbrev pub NoneRuns : List Link → Type 0
@@ -60,7 +63,8 @@ module _ (basis : Basis) where
   -- what each function returns with that a link runs: there is one, and what isn't brought one lacks
   pub record AreMet (at : ℕ → ℕ → Bool) (links : List Link) (ids : List ℕ) : Type 0 where
     pub some : OneRuns links (λ link. ⊤)
-    pub brought : (x : ℕ) (link : Link) → has_id ids x ≡ true → Contains links link → link.starts ≡ false → Brings at x link
+    pub brought : (x : ℕ) (link : Link) → has_id ids x ≡ true → Contains links link →
+        link.starts ≡ false → Brings at x link
     pub lacking : (x : ℕ) → has_id ids x ≡ false → OneRuns links (Lacks at x)
 
   -- what the function of the link returns with too, of the labels before
@@ -84,7 +88,8 @@ module _ (basis : Basis) where
     pub locks : (x : ℕ) → has_id ids x ≡ true → is_lock_at basis.labels x ≡ true
     pub held : (x : ℕ) → has_id ids x ≡ true → Adds basis at p x ⊎ Keeps basis (Released basis) at p x
     pub omitted : (x : ℕ) → is_lock_at basis.labels x ≡ true → has_id ids x ≡ false → Omits at p x
-    pub lost : (x : ℕ) → is_lock_at basis.labels x ≡ true → has_id ids x ≡ false → (at p x ≡ false) ⊎ MayDrop basis (Released basis) p x
+    pub lost : (x : ℕ) → is_lock_at basis.labels x ≡ true → has_id ids x ≡ false →
+        (at p x ≡ false) ⊎ MayDrop basis (Released basis) p x
 
 -- a set of locks for each point, none where nothing is held by the rules
 pub record AreStates (basis : Basis) (states : States) : Type 0 where
@@ -99,11 +104,13 @@ pub record Sheds (points ids : List ℕ) (old new : States) : Type 0 where
   pub locks : new.locks ≡ old.locks
   pub long : length new.sets.items ≡ length old.sets.items
   pub fewer : (p x : ℕ) → holds new p x ≡ true → holds old p x ≡ true
-  pub gone : (p x : ℕ) → holds old p x ≡ true → holds new p x ≡ false → (has_id points p ≡ true) × (has_id ids x ≡ false)
+  pub gone : (p x : ℕ) → holds old p x ≡ true → holds new p x ≡ false →
+      (has_id points p ≡ true) × (has_id ids x ≡ false)
 
 -- the points hold only what is in the set
 abbrev pub AreWithin : List ℕ → List ℕ → States → Type 0
-AreWithin points ids states = (p x : ℕ) → has_id points p ≡ true → holds states p x ≡ true → has_id ids x ≡ true
+AreWithin points ids states = (p x : ℕ) → has_id points p ≡ true → holds states p x ≡ true →
+    has_id ids x ≡ true
 
 module _ (basis : Basis) where
   -- what was taken away isn't held on some way

@@ -55,7 +55,8 @@ module _ (basis : Basis) where
 
   -- what p releases, by the sets, is in the set of its function
   abbrev pub HasReleased : ℕ → List (List ℕ) → Type 0
-  HasReleased p sets = (f x : ℕ) → function_at basis.program p ≡ Some f → Drops basis (Releases sets) p x → has_in sets f x ≡ true
+  HasReleased p sets = (f x : ℕ) → function_at basis.program p ≡ Some f → Drops basis (Releases sets) p x →
+      has_in sets f x ≡ true
 
   -- each function's set has just what it releases
   pub record AreReleased (found : List (List ℕ)) : Type 0 where

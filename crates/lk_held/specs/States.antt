@@ -22,7 +22,8 @@ weight states = sum_by (weight_of (length states.locks)) states.sets.items
 -- what is left of the locks of a point is what is in the set too, and that is less
 pub record IsLess (states : States) (point : ℕ) (set left : List ℕ) : Type 0 where
   pub members : (x : ℕ) → has_id left x ≡ (holds states point x && has_id set x)
-  pub lighter : length left < option_map_or (weight_of (length states.locks)) (slice_get states.sets.items point) 0
+  pub lighter : length left
+      < option_map_or (weight_of (length states.locks)) (slice_get states.sets.items point) 0
 
 -- the locks of the point that aren't in the set are taken away
 pub record Narrows (old new : States) (point : ℕ) (set : List ℕ) (changed : Bool) : Type 0 where

@@ -44,7 +44,8 @@ impl Acts<'_, '_> {
         Ok(locks)
     }
 
-    /// Takes away what the function of a link doesn't return with, as it is outside it, where the link runs one.
+    /// Takes away what the function of a link doesn't return with, as it is outside
+    /// it, where the link runs one.
     fn meet_risen(
         &self,
         alloc: Global,
@@ -68,8 +69,8 @@ impl Acts<'_, '_> {
         Ok(())
     }
 
-    /// The labels with which each function returns that a point runs, as they are outside it, or nothing where it runs
-    /// none.
+    /// The labels with which each function returns that a point runs, as they are outside it,
+    /// or nothing where it runs none.
     fn brought(&self, alloc: Global, point: u32, states: &States) -> Result<Option<IdSet>, NoMemory>
         requires linked { AreLinks (basis_in self.now) self.now.links.now }
         requires point { point < length self.now.points.now.points }

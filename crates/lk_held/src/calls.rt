@@ -10,8 +10,9 @@ use lk_graph::{Graph, all_functions, in_order_of};
 use std::alloc::Global;
 
 impl Acts<'_, '_> {
-    /// Each point, in an order in which control may come to them, and each function behind those that its points run, cycles
-    /// apart. What a function returns with is then known where it is run. The order serves speed alone.
+    /// Each point, in an order in which control may come to them, and each function behind those
+    /// that its points run, cycles apart. What a function returns with is then known where it is
+    /// run. The order serves speed alone.
     pub(crate) fn order(&self, alloc: Global) -> Result<Vec<u32>, NoMemory>
         requires linked { AreLinks (basis_in self.now) self.now.links.now }
         ensures { IfOk result (λ order. AreAllBelow (length self.now.points.now.points) order.items) }

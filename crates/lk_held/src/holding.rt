@@ -19,7 +19,8 @@ use lk_links::empty_set;
 use lk_sets::IdSet;
 use std::alloc::Global;
 
-/// Takes away from the locks of the points those that aren't in the set, and answers whether something changed.
+/// Takes away from the locks of the points those that aren't in the set, and
+/// answers whether something changed.
 fn narrow_each(
     alloc: Global,
     points: &[u32],
@@ -40,8 +41,8 @@ fn narrow_each(
 }
 
 impl Acts<'_, '_> {
-    /// Takes away from the successors of a point what isn't held once it has run, and answers whether something
-    /// changed.
+    /// Takes away from the successors of a point what isn't held once it has run, and
+    /// answers whether something changed.
     fn pass(
         &self,
         alloc: Global,
@@ -82,8 +83,8 @@ impl Acts<'_, '_> {
         self.pass(alloc, point, states, dropped)
     }
 
-    /// Lets each point pass on what is held once it has run, where it is live. In an order in which control comes to the
-    /// points a straight line of code is done in one round.
+    /// Lets each point pass on what is held once it has run, where it is live. In an order in which control
+    /// comes to the points a straight line of code is done in one round.
     fn round(
         &self,
         alloc: Global,

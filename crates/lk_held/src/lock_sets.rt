@@ -20,8 +20,8 @@ use lk_links::{Links, empty_set};
 use lk_sets::IdSet;
 use std::alloc::Global;
 
-/// The locks that are held at each point and at the exit of each function, those that each point keeps while it
-/// runs another function, and those that each function may release.
+/// The locks that are held at each point and at the exit of each function, those that each point keeps while
+/// it runs another function, and those that each function may release.
 ///
 /// A lock set holds a place in the stead of each label that can mean that place alone.
 pub fn held(alloc: Global, facts: &Facts<'_>) -> Result<Held, NoMemory>

@@ -126,8 +126,8 @@ impl Acts<'_, '_> {
         add(released, self.points.function(point), &ids)
     }
 
-    /// Lets each point add what it releases, and answers whether something was new. In an order in which each function
-    /// stands behind those that it runs, one round does it, recursion apart.
+    /// Lets each point add what it releases, and answers whether something was new. In an order in which each
+    /// function stands behind those that it runs, one round does it, recursion apart.
     fn release_each(
         &self,
         alloc: Global,

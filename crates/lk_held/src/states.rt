@@ -55,7 +55,8 @@ impl States {
         }
     }
 
-    /// Takes away from the locks of a point those that aren't in the set, and answers whether something changed.
+    /// Takes away from the locks of a point those that aren't in the set, and
+    /// answers whether something changed.
     pub(crate) fn narrow(
         &mut self,
         alloc: Global,

@@ -24,7 +24,8 @@ file_map entries = map.from_entries (each (λ e. (string_bytes e.0, e.1.items)) 
 -- how these values are told apart: as the tuples of their parts
 abbrev pub call_code : Coded CallState
 call_code =
-    code_by (List ℕ × (ℕ × ℕ)) (coded× (coded_list coded_ℕ) (coded× coded_ℕ coded_ℕ)) (λ c. (c.listed, (c.made, c.faults)))
+    code_by (List ℕ × (ℕ × ℕ)) (coded× (coded_list coded_ℕ) (coded× coded_ℕ coded_ℕ))
+    (λ c. (c.listed, (c.made, c.faults)))
     (λ p. record { listed = p.0; made = p.1.0; faults = p.1.1 }) (λ _. refl)
 
 abbrev pub shelf_code : Coded ShelfState

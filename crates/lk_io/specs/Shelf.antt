@@ -44,7 +44,8 @@ is_whole_failed (Ok _) = false
 -- what reading leaves of the shelf's count and of its bad name, the name of the last read that failed.
 -- The count never falls. Where a read failed it rose, and a told bad name is the name that was asked
 -- for; else both are as they were
-pub record ReadCounts (name : List ℕ) (before now : ℕ) (bad_before bad_now : Option (List ℕ)) (failed : Bool) : Type 0 where
+pub record ReadCounts (name : List ℕ) (before now : ℕ) (bad_before bad_now : Option (List ℕ))
+    (failed : Bool) : Type 0 where
   pub later : before ≤ now
   pub rose : OnTrue failed (Rose before now)
   pub named : OnTrue failed (ForSome bad_now (λ told. told ≡ name))

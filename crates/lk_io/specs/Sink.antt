@@ -14,7 +14,8 @@ pub record TakesPart (before now : Option (List ℕ)) (bytes : List ℕ) : Type 
   pub short : count < length bytes
   pub taken : Takes before now (take count bytes)
 
--- what a sink over a stream shows: the bytes that the stream holds, where it tells them, and the count of faults
+-- what a sink over a stream shows: the bytes that the stream holds, where it tells
+-- them, and the count of faults
 pub record StreamState : Type 0 where
   pub holds : Option (List ℕ)
   pub faults : ℕ

@@ -55,9 +55,11 @@ impl MemShelf {
         }
     }
 
-    /// Puts a file on the shelf, in the place of one of that name. Where no memory is found the shelf is as before.
+    /// Puts a file on the shelf, in the place of one of that name. Where no memory is
+    /// found the shelf is as before.
     pub fn put(&mut self, name: &str, bytes: &[u8]) -> Result<(), NoMemory>
-        ensures ok { OnOk result (self.new ≡ record self.old { files = map.insert self.old.files name.now bytes.now }) }
+        ensures ok { OnOk result
+            (self.new ≡ record self.old { files = map.insert self.old.files name.now bytes.now }) }
         ensures err { OnErr result (self.new ≡ self.old) }
     {
         let name = String::from_str(self.alloc, name)?;
@@ -104,12 +106,15 @@ impl Shelf for MemShelf {
 
         // What is read is determined, and so is what is left.
         ensures bytes { IfOk result (λ n. IfSome (map.get self.old.files name.now) (λ file.
-            (n ≡ min (length into.old) (length file - from)) × (into.new ≡ take n (drop from file) ++ drop n into.old))) }
+            (n ≡ min (length into.old) (length file - from))
+            × (into.new ≡ take n (drop from file) ++ drop n into.old))) }
         ensures ok { OnOk result (self.new ≡ record self.old { calls = after_call self.old.calls }) }
-        ensures err { OnErr result (self.new ≡ record self.old { calls = after_fault self.old.calls; bad = Some name.now }) }
+        ensures err { OnErr result
+            (self.new ≡ record self.old { calls = after_fault self.old.calls; bad = Some name.now }) }
         ensures into_err { OnErr result (into.new ≡ into.old) }
 
-        ensures counts { ReadCounts name.now self.old.calls.faults self.new.calls.faults self.old.bad self.new.bad
+        ensures counts { ReadCounts name.now self.old.calls.faults self.new.calls.faults
+            self.old.bad self.new.bad
             (is_failed result) }
     {
         if self.calls.begin() {

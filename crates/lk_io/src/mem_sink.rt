@@ -36,7 +36,8 @@ impl Model for MemSink {
 }
 
 impl MemSink {
-    /// An empty sink, which takes at most `room` bytes in all and `most` at once, and on which no write is listed to fail.
+    /// An empty sink, which takes at most `room` bytes in all and `most` at once, and on
+    /// which no write is listed to fail.
     pub fn with_room(alloc: Global, room: usize, most: usize) -> Result<MemSink, NoMemory>
         requires { 0 < most }
         ensures { IfOk result (λ sink. sink ≡ record { gone = []; room = room; most = most; calls = no_calls }) }

@@ -23,7 +23,8 @@ pub fn read_whole<F: Shelf>(
     requires { IsFileName name.now }
 
     // Where the shelf tells its files, what is answered is the named one.
-    ensures file { ForSome (F.held shelf.old) (λ files. IfOk result (λ bytes. files name.now ≡ Some bytes.items)) }
+    ensures file { ForSome (F.held shelf.old)
+        (λ files. IfOk result (λ bytes. files name.now ≡ Some bytes.items)) }
     ensures within { IfOk result (λ bytes. vec_len bytes ≤ limit) }
 
     // Where it tells them, `TooLong` comes only at a file that is longer. It always comes there if no read fails.
@@ -34,7 +35,8 @@ pub fn read_whole<F: Shelf>(
         → IsErrOf result ReadFault.TooLong ⊎ IsErrOf result ReadFault.NoMemory) }
 
     ensures held { F.held shelf.new ≡ F.held shelf.old }
-    ensures counts { ReadCounts name.now (F.faults shelf.old) (F.faults shelf.new) (F.bad shelf.old) (F.bad shelf.new)
+    ensures counts { ReadCounts name.now (F.faults shelf.old) (F.faults shelf.new)
+        (F.bad shelf.old) (F.bad shelf.new)
         (is_whole_failed result) }
 {
     let mut bytes = Vec::new(alloc);

@@ -13,7 +13,8 @@ pub trait Shelf {
     /// How often a read has failed: a number of 64 bits, which stands still at its last value.
     ghost faults: { Self → ℕ };
 
-    /// The name of the last read that failed. There is none where no read has, or where the shelf does not tell it.
+    /// The name of the last read that failed. There is none where no read has, or
+    /// where the shelf does not tell it.
     ghost bad: { Self → Option (List ℕ) };
 
     /// Reads bytes of the named file, from a place on, into the front of `into`, and answers how many.

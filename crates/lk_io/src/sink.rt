@@ -13,7 +13,8 @@ pub trait Sink {
     /// How often a write has failed: a number of 64 bits, which stands still at its last value.
     ghost faults: { Self → ℕ };
 
-    /// Writes bytes from the first on, and answers how many: at least one, where there is one. A failed write takes none.
+    /// Writes bytes from the first on, and answers how many: at least one, where there is
+    /// one. A failed write takes none.
     fn write(&mut self, bytes: &[u8]) -> Result<usize, Failed>
         ensures within { IfOk result (λ n. n ≤ length bytes.now) }
         ensures some { IfOk result (λ n. 0 < length bytes.now → 0 < n) }

@@ -11,8 +11,8 @@ use std::marker::Model;
 
 /// A stream of the system, as standard output or standard error. It flushes within each write.
 ///
-/// A contract sees its count of faults, and the bytes that the stream holds, where the stream tells them. It does not
-/// tell what went, since a stream whose flush fails may hold the bytes of that write.
+/// A contract sees its count of faults, and the bytes that the stream holds, where the stream tells them. It
+/// does not tell what went, since a stream whose flush fails may hold the bytes of that write.
 #[derive(Drop)]
 pub struct StdSink<W: Write> {
     stream: W,
@@ -62,7 +62,8 @@ impl<W: Write> Sink for StdSink<W> {
 #[tactic(auto, using(crate::proofs::Writing::appends_kept))]
 fn write_through<W: Write>(stream: &mut W, bytes: &[u8]) -> io::Result<usize>
     ensures within { IfOk result (λ n. n ≤ length bytes.now) }
-    ensures held { IfOk result (λ n. Appends (W.contents stream.old) (W.contents stream.new) (take n bytes.now)) }
+    ensures held { IfOk result
+        (λ n. Appends (W.contents stream.old) (W.contents stream.new) (take n bytes.now)) }
 {
     let count = stream.write(bytes)?;
     stream.flush()?;

@@ -30,5 +30,6 @@ module _ (facts : FactTable) where
   -- those of the first n points
   pub record AreAccessesBelow (held : LockSets) (n : ℕ) (base : List (Correlation × List ℕ)) : Type 0 where
     pub each : All (IsOwn held) base
-    pub all : (p f x : ℕ) → p < n → Accesses (basis_of facts) p f x → (set : List ℕ) × Contains base (item_of f false x p, set)
+    pub all : (p f x : ℕ) → p < n → Accesses (basis_of facts) p f x →
+        (set : List ℕ) × Contains base (item_of f false x p, set)
     pub in_range : AreInRange facts (length facts.labels.entries) base

@@ -23,8 +23,8 @@ fn access(facts: &Facts<'_>, point: u32) -> Option<Correlation>
     })
 }
 
-/// Puts the own item of a point, where it has one, behind those of the points before it, with the locks that are held
-/// there.
+/// Puts the own item of a point, where it has one, behind those of the points before it, with
+/// the locks that are held there.
 fn push_access(
     alloc: Global,
     facts: &Facts<'_>,

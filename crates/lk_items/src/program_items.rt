@@ -13,10 +13,11 @@ use lk_links::Links;
 use lk_rise::{Items, Subjects, rise};
 use std::alloc::Global;
 
-/// What each function accesses, itself and in what it runs and starts, with the locks that are held at each access
-/// wherever it is made.
+/// What each function accesses, itself and in what it runs and starts, with the locks that are held at
+/// each access wherever it is made.
 ///
-/// The subject of an item is the label by which the function names what is accessed. Lock sets are those of the points.
+/// The subject of an item is the label by which the function names what is accessed. Lock
+/// sets are those of the points.
 pub fn items(alloc: Global, facts: &Facts<'_>, held: &Held) -> Result<Items, NoMemory>
     requires held_points { length held.now.at ≡ length facts.now.program.points }
     requires held_labels { held.now.labels ≡ length facts.now.labels.entries }

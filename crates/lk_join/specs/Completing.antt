@@ -9,8 +9,8 @@ use Rattle.lk_types.specs.Table.{Table, is_open, members_of}
 use Rattle.lk_types.specs.declared.c_type.CType.TheVariants.{Array, Struct}
 use Rattle.lk_join.specs.Forms.{IsHere, IsMember}
 
--- `types` is the table of a source, `structs` has of each of its structs the number in the program, and `row` the same of its first types
--- a struct of the program has the members of one of the source
+-- `types` is the table of a source, `structs` has of each of its structs the number in the program, and `row`
+-- the same of its first types a struct of the program has the members of one of the source
 pub record IsGiven (types : Table) (row structs : List ℕ) (table : Table) (n : ℕ) : Type 0 where
   pub number : ℕ
   pub known : number < length types.members
@@ -37,7 +37,8 @@ pub record HasStepsBelow (types : Table) (steps s : ℕ) : Type 0 where
 
 -- the program has members of a struct, where the source completes it
 abbrev pub IsCompleted : (types : Table) → (structs : List ℕ) → Table → ℕ → Type 0
-IsCompleted types structs table a = (n : ℕ) → IsHere structs a n → is_open types a ≡ false → is_open table n ≡ false
+IsCompleted types structs table a = (n : ℕ) → IsHere structs a n → is_open types a ≡ false →
+    is_open table n ≡ false
 
 -- the same of its first structs
 abbrev pub AreCompleted : (types : Table) → (structs : List ℕ) → Table → (count : ℕ) → Type 0
@@ -45,11 +46,13 @@ AreCompleted types structs table count = (a : ℕ) → a < count → IsCompleted
 
 -- the struct that a type of the source is, where it is one
 abbrev pub IsHeld : (types : Table) → (structs : List ℕ) → Table → ℕ → Type 0
-IsHeld types structs table u = (s : ℕ) → slice_get types.types u ≡ Some (Struct s) → IsCompleted types structs table s
+IsHeld types structs table u = (s : ℕ) → slice_get types.types u ≡ Some (Struct s) →
+    IsCompleted types structs table s
 
 -- the struct of which a type of the source is an array, where it is one
 abbrev pub IsElementHeld : (types : Table) → (structs : List ℕ) → Table → ℕ → Type 0
-IsElementHeld types structs table t = (u n : ℕ) → slice_get types.types t ≡ Some (Array u n) → IsHeld types structs table u
+IsElementHeld types structs table t = (u n : ℕ) → slice_get types.types t ≡ Some (Array u n) →
+    IsHeld types structs table u
 
 -- a struct that the source completes, and the program not yet
 pub record IsToComplete (types : Table) (structs : List ℕ) (table : Table) (s : ℕ) : Type 0 where
@@ -70,5 +73,6 @@ pub record IsGivenBy (units : Units) (structs rows : List (List ℕ)) (table : T
 -- the structs of the program have the members that the first sources give, and these are completed there
 pub record HasMembers (units : Units) (structs rows : List (List ℕ)) (table : Table) : Type 0 where
   pub given : (n : ℕ) → is_open table n ≡ false → IsGivenBy units structs rows table n
-  pub completed : (s : ℕ) (unit : TypedUnit) (row here : List ℕ) → slice_get units s ≡ Some unit → slice_get rows s ≡ Some row → slice_get structs s ≡ Some here →
+  pub completed : (s : ℕ) (unit : TypedUnit) (row here : List ℕ) → slice_get units s ≡ Some unit →
+      slice_get rows s ≡ Some row → slice_get structs s ≡ Some here →
       AreCompleted unit.types here table (length unit.types.members)

@@ -1,4 +1,5 @@
--- The types of a source as they are in the program (C99 6.2.7). `row` has of each type of the source its number in the program, and `structs` the same of its structs.
+-- The types of a source as they are in the program (C99 6.2.7). `row` has of each type of the source its
+-- number in the program, and `structs` the same of its structs.
 use Rattle.std.specs.Prelude.{◌≡◌, ℕ, Bool, false, List, Some, length, slice_get}
 use Rattle.std.specs.List.{AllZip}
 use Rattle.lk_base.specs.declared.kind.Kind.{Kind}
@@ -26,7 +27,8 @@ pub data HasForm (row structs : List ℕ) : CType → CType → Type 0 where
   pointer : {a b : ℕ} → IsHere row a b → HasForm row structs (Pointer a) (Pointer b)
   array : {a b n : ℕ} → IsHere row a b → HasForm row structs (Array a n) (Array b n)
   struct : {a b : ℕ} → IsHere structs a b → HasForm row structs (Struct a) (Struct b)
-  function : {a b : ℕ} {ps qs : List ℕ} {dots : Bool} → IsHere row a b → AllZip (IsHere row) ps qs → HasForm row structs (Function a ps dots) (Function b qs dots)
+  function : {a b : ℕ} {ps qs : List ℕ} {dots : Bool} → IsHere row a b → AllZip (IsHere row) ps qs →
+      HasForm row structs (Function a ps dots) (Function b qs dots)
 
 -- a member of a struct of the source in the program: the same name, with the program's type
 abbrev pub IsMember : (row : List ℕ) → StructMember → StructMember → Type 0
@@ -43,14 +45,17 @@ abbrev pub ArePutAt : Table → (row structs : List ℕ) → List CType → Type
 ArePutAt table row structs forms = AllZip (IsPutAt table row structs) forms row
 
 -- the same of the first sources, each with its structs and its row
-pub record AreRowsOf (units : Units) (structs : List (List ℕ)) (table : Table) (rows : List (List ℕ)) (count : ℕ) : Type 0 where
+pub record AreRowsOf (units : Units) (structs : List (List ℕ)) (table : Table) (rows : List (List ℕ))
+    (count : ℕ) : Type 0 where
   pub size : length rows ≡ count
-  pub each : (s : ℕ) (unit : TypedUnit) (row : List ℕ) → slice_get units s ≡ Some unit → slice_get rows s ≡ Some row →
+  pub each : (s : ℕ) (unit : TypedUnit) (row : List ℕ) → slice_get units s ≡ Some unit →
+      slice_get rows s ≡ Some row →
       (here : List ℕ) × (slice_get structs s ≡ Some here) × ArePutAt table row here unit.types.types
 
 -- the table has the pointer to the type, unless that is over the bounds of a table
 abbrev pub HasPointer : Table → ℕ → Type 0
-HasPointer table t = is_over (form_size table (Pointer t)) ≡ false → (pointer : ℕ) × (slice_get table.types pointer ≡ Some (Pointer t))
+HasPointer table t = is_over (form_size table (Pointer t)) ≡ false →
+    (pointer : ℕ) × (slice_get table.types pointer ≡ Some (Pointer t))
 
 -- a later table that has the members of structs and the pointers which an earlier one has
 pub record KeepsPointers (old new : Table) : Type 0 where

@@ -22,17 +22,21 @@ HaveTypeTables units = All (λ unit. IsTypeTable unit.types) units
 abbrev pub struct_size : Table → ℕ → TypeSize
 struct_size table s = fields_size table (types_of (members_of table s))
 
--- complete structs of two sources are as large, where they have one number in the program: `structs` has those of the first, and `numbers` those of the second
+-- complete structs of two sources are as large, where they have one number in the program: `structs` has
+-- those of the first, and `numbers` those of the second
 abbrev pub AreAsLarge : (types : Table) (structs : List ℕ) (others : Table) (numbers : List ℕ) → Type 0
-AreAsLarge types structs others numbers = (a b n : ℕ) → IsHere structs a n → IsHere numbers b n → is_open types a ≡ false → is_open others b ≡ false → struct_size types a ≡ struct_size others b
+AreAsLarge types structs others numbers = (a b n : ℕ) → IsHere structs a n → IsHere numbers b n →
+    is_open types a ≡ false → is_open others b ≡ false → struct_size types a ≡ struct_size others b
 
 -- complete structs of the program are as large as those of a source that they are
 abbrev pub AreAsLargeHere : (types : Table) (structs : List ℕ) → Table → Type 0
-AreAsLargeHere types structs table = (a n : ℕ) → IsHere structs a n → is_open types a ≡ false → is_open table n ≡ false → struct_size table n ≡ struct_size types a
+AreAsLargeHere types structs table = (a n : ℕ) → IsHere structs a n → is_open types a ≡ false →
+    is_open table n ≡ false → struct_size table n ≡ struct_size types a
 
 -- the same of all sources
 abbrev pub AreAllAsLarge : Units → (structs : List (List ℕ)) → Table → Type 0
-AreAllAsLarge units structs table = (s : ℕ) (unit : TypedUnit) (here : List ℕ) → slice_get units s ≡ Some unit → slice_get structs s ≡ Some here → AreAsLargeHere unit.types here table
+AreAllAsLarge units structs table = (s : ℕ) (unit : TypedUnit) (here : List ℕ) →
+    slice_get units s ≡ Some unit → slice_get structs s ≡ Some here → AreAsLargeHere unit.types here table
 
 -- the first types of a source are in the program's table, and its structs are as large there
 pub record IsJoining (types : Table) (row structs : List ℕ) (table : Table) : Type 0 where
@@ -50,4 +54,5 @@ pub record IsDoneBefore (types : Table) (count s : ℕ) : Type 0 where
 
 -- structs of the program that are no smaller than this stay open
 abbrev pub KeepsOpen : (types : Table) (structs : List ℕ) (steps : ℕ) (old new : Table) → Type 0
-KeepsOpen types structs steps old new = (a n : ℕ) → IsHere structs a n → is_open types a ≡ false → steps ≤ (struct_size types a).steps → is_open old n ≡ true → is_open new n ≡ true
+KeepsOpen types structs steps old new = (a n : ℕ) → IsHere structs a n → is_open types a ≡ false →
+    steps ≤ (struct_size types a).steps → is_open old n ≡ true → is_open new n ≡ true

@@ -5,7 +5,8 @@ use Rattle.lk_link.specs.declared.place.StructOf.{StructOf}
 
 -- no struct has two places
 abbrev pub AreDistinct : List StructOf → Type 0
-AreDistinct structs = (i j : ℕ) (s : StructOf) → slice_get structs i ≡ Some s → slice_get structs j ≡ Some s → i ≡ j
+AreDistinct structs = (i j : ℕ) (s : StructOf) → slice_get structs i ≡ Some s →
+    slice_get structs j ≡ Some s → i ≡ j
 
 -- a list has what another has at the same places
 abbrev pub IsLonger : (old new : List StructOf) → Type 0
@@ -27,7 +28,9 @@ pub record ArePutAt (old new row : List StructOf) (places : List ℕ) : Type 0 w
   pub from : (k : ℕ) (x : StructOf) → slice_get new k ≡ Some x → (slice_get old k ≡ Some x) ⊎ Contains row x
 
 -- the same of the structs of several lists
-pub record AreAllPutAt (old new : List StructOf) (rows : List (List StructOf)) (places : List (List ℕ)) : Type 0 where
+pub record AreAllPutAt (old new : List StructOf) (rows : List (List StructOf))
+    (places : List (List ℕ)) : Type 0 where
   pub longer : IsLonger old new
   pub each : AllZip (HavePlaces new) places rows
-  pub from : (k : ℕ) (x : StructOf) → slice_get new k ≡ Some x → (slice_get old k ≡ Some x) ⊎ ((row : List StructOf) × Contains rows row × Contains row x)
+  pub from : (k : ℕ) (x : StructOf) → slice_get new k ≡ Some x →
+      (slice_get old k ≡ Some x) ⊎ ((row : List StructOf) × Contains rows row × Contains row x)

@@ -37,7 +37,8 @@ module _ (units : Units) (externs : List (List ℕ)) where
   -- why sources make no program: 60 where none has a `main`, else the first of 61 to 63
   pub data IsRefusal : Refusal → Type 0 where
     without_main : (HasMain units → ⊥) → IsRefusal no_main
-    clashing : (clash : Clash) → HasMain units → IsFirstClash units externs clash → IsRefusal (refusal_of clash)
+    clashing : (clash : Clash) → HasMain units → IsFirstClash units externs clash →
+        IsRefusal (refusal_of clash)
 
   abbrev pub IsFault : Fault → Type 0
   IsFault (fault.Refused refusal) = IsRefusal refusal

@@ -72,8 +72,8 @@ fn is_open(table: &TypeTable, s: u32) -> bool
 }
 
 impl Source<'_> {
-    /// Gives a struct of the program the members of one of the source. It can have them: it has none yet, and their types
-    /// have their numbers, and are complete and as large as they are in the source.
+    /// Gives a struct of the program the members of one of the source. It can have them: it has none yet, and
+    /// their types have their numbers, and are complete and as large as they are in the source.
     fn give_members(&self, row: &[TypeId], s: u32, table: &mut TypeTable) -> Result<(), NoMemory>
         requires joining { IsJoining self.now.types.now row.now self.now.structs.now table.old }
         requires before { IsDoneBefore self.now.types.now (length row.now) s }
@@ -106,8 +106,8 @@ impl Source<'_> {
         has_members(table, self.struct_here(s))
     }
 
-    /// Completes a struct in the program, where the source completes it, and before it those that it holds by value. Its
-    /// members have fewer than so many steps.
+    /// Completes a struct in the program, where the source completes it, and before it those that it holds by
+    /// value. Its members have fewer than so many steps.
     fn complete(
         &self,
         row: &[TypeId],
@@ -140,8 +140,8 @@ impl Source<'_> {
         Ok(())
     }
 
-    /// Completes the struct of which a type of the source is an array, where it is one: the types of its members stand
-    /// before it in the source's table.
+    /// Completes the struct of which a type of the source is an array, where it is one: the types of its
+    /// members stand before it in the source's table.
     pub(crate) fn complete_element(
         &self,
         row: &[TypeId],

@@ -102,7 +102,8 @@ impl Entities {
         Ok(number)
     }
 
-    /// Tells of an entity that is there what a source says of it: where that defines it, the source and its type there.
+    /// Tells of an entity that is there what a source says of it: where that defines it,
+    /// the source and its type there.
     fn tell(&mut self, number: u32, is: &WholeEntity)
         requires there { number < length self.old.list }
         requires may { MayTellAt self.old.list number is.now }
@@ -203,8 +204,8 @@ impl Entities {
         Ok(Seq::new(numbers))
     }
 
-    /// Puts the entities of the sources, where none are put yet. Answers of each entity of each source its number in the
-    /// program.
+    /// Puts the entities of the sources, where none are put yet. Answers of each entity of each
+    /// source its number in the program.
     fn put_sources(
         &mut self,
         alloc: Global,
@@ -240,8 +241,8 @@ pub(crate) struct Joined {
     pub(crate) rows: Vec<Seq<u32>>,
 }
 
-/// The entities of the program that the sources make: one for each name of external linkage, and one of each source for
-/// each other, in the order of their first declarations.
+/// The entities of the program that the sources make: one for each name of external linkage, and one of each
+/// source for each other, in the order of their first declarations.
 pub(crate) fn join_entities(
     alloc: Global,
     units: &[TypedUnit],

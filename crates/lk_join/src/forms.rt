@@ -63,8 +63,8 @@ impl Source<'_> {
         self.structs[s as usize] as u32
     }
 
-    /// A form of the source, made of the program's types: those that it is made of there are among the first, which have
-    /// their numbers.
+    /// A form of the source, made of the program's types: those that it is made of there are among the
+    /// first, which have their numbers.
     pub(crate) fn form_here(&self, row: &[TypeId], form: &CType) -> Result<CType, NoMemory>
         requires { IsMadeOf self.now.types.now (length row.now) form.now }
         ensures { IfOk result (HasForm row.now self.now.structs.now form.now) }

@@ -125,9 +125,9 @@ fn join(alloc: Global, units: Vec<TypedUnit>) -> Result<Whole, NoMemory>
     whole_of(alloc, units, types, joined)
 }
 
-/// The program that checked sources make together, where `externs` has the names that `--externs` lists (C99 5.1.2.2.1,
-/// 6.2.7, 6.9). They are refused with 60 exactly where none of them has a `main`, else with the first of 61 to 63 where
-/// one of these holds.
+/// The program that checked sources make together, where `externs` has the names that `--externs` lists
+/// (C99 5.1.2.2.1, 6.2.7, 6.9). They are refused with 60 exactly where none of them has a `main`, else with
+/// the first of 61 to 63 where one of these holds.
 pub fn link(alloc: Global, units: Vec<TypedUnit>, externs: &[Name]) -> Result<Whole, Fault>
     requires sources { AreSources units.items }
     requires few { length units.items < 2 ^ 32 }

@@ -80,8 +80,8 @@ fn numbers_of(
     })
 }
 
-/// Of each struct of each source its number in the program: two have one number exactly where they are one struct there
-/// (C99 6.2.7).
+/// Of each struct of each source its number in the program: two have one number exactly where they are
+/// one struct there (C99 6.2.7).
 ///
 /// `becomes` tells of each struct of each source what it is in the program, as `resolve` gives it.
 pub fn number_structs(

@@ -89,7 +89,8 @@ impl Source<'_> {
         Ok(row)
     }
 
-    /// Puts the types of the source to the program's, and completes there what it completes. Answers the types' numbers.
+    /// Puts the types of the source to the program's, and completes there what it
+    /// completes. Answers the types' numbers.
     fn join(&self, table: &mut TypeTable) -> Result<Seq<TypeId>, NoMemory>
         requires { IsJoining self.now.types.now [] self.now.structs.now table.old }
         ensures large { OnOk result (AreAsLargeHere self.now.types.now self.now.structs.now table.new) }
@@ -189,9 +190,9 @@ fn put_all_pointers(rows: &[Seq<TypeId>], table: &mut TypeTable) -> Result<(), N
     Ok(())
 }
 
-/// The types of the program that the sources make: those of each source, in their order, and the pointers to them. Each
-/// has the form that it has in its source, made of the program's types, and a struct is the one of the program that
-/// `numbers` tells (C99 6.2.7).
+/// The types of the program that the sources make: those of each source, in their order, and the pointers to
+/// them. Each has the form that it has in its source, made of the program's types, and a struct is the one of
+/// the program that `numbers` tells (C99 6.2.7).
 pub(crate) fn join_types(
     alloc: Global,
     units: &[TypedUnit],

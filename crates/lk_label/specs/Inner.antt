@@ -1,4 +1,5 @@
--- Nodes that are reached without Target, as far as they are found. Only the private calls of this crate speak of it.
+-- Nodes that are reached without Target, as far as they are found. Only the private
+-- calls of this crate speak of it.
 use Rattle.std.specs.Prelude.{◌≡◌, ◌⊎◌, ◌<◌, ◌≤◌, ℕ, Bool, true, false, List, Some, Contains, length, slice_get}
 use Rattle.lk_facts.specs.LabelRules.{IsStart, IsWithin, Steps, form_of, leads_inside}
 use Rattle.lk_types.specs.Table.{Table}
@@ -7,7 +8,8 @@ use Rattle.lk_types.specs.declared.c_type.CType.TheVariants.{Void, Int, ThreadId
 use Rattle.lk_types.specs.declared.node.NodeId.{NodeId}
 use Rattle.lk_types.specs.declared.node.Sel.{Sel}
 
--- whether the parts of a type lie in the same object: those of an array, of a struct, and of what `void *` points to
+-- whether the parts of a type lie in the same object: those of an array, of a struct,
+-- and of what `void *` points to
 abbrev pub has_inner : CType → Bool
 has_inner Void = true
 has_inner (Int k) = false
@@ -36,4 +38,5 @@ module _ (table : Table) where
     pub within : k ≤ length found
     pub only : (n : NodeId) → Contains found n → IsWithin table t n
     pub start : (n : NodeId) → IsStart table t n → Contains found n
-    pub done : (i : ℕ) (m n : NodeId) → i < k → slice_get found i ≡ Some m → LeadsInside m n → Contains found n
+    pub done : (i : ℕ) (m n : NodeId) → i < k → slice_get found i ≡ Some m →
+        LeadsInside m n → Contains found n

@@ -10,11 +10,13 @@ module _ (program : Program) where
   -- an entry for each of the names
   pub record AreEntriesOf (names : List LabelName) (entries : List LabelEntry) : Type 0 where
     pub count : length entries ≡ length names
-    pub each : (l : ℕ) (x : LabelName) (entry : LabelEntry) → slice_get names l ≡ Some x → slice_get entries l ≡ Some entry → IsEntryOf program x entry
+    pub each : (l : ℕ) (x : LabelName) (entry : LabelEntry) → slice_get names l ≡ Some x →
+        slice_get entries l ≡ Some entry → IsEntryOf program x entry
 
   -- the target of the point is the label with this number, and there is none where the point has no target
   pub record IsTarget (names : List LabelName) (p : ℕ) (target : Option ℕ) : Type 0 where
-    pub exact : MatchOption target ((l : ℕ) → IsTargetOf program (labels_of names [] []) p l → ⊥) (IsTargetOf program (labels_of names [] []) p)
+    pub exact : MatchOption target ((l : ℕ) → IsTargetOf program (labels_of names [] []) p l →
+        ⊥) (IsTargetOf program (labels_of names [] []) p)
     pub in_range : IfSome target (λ l. l < length names)
 
   -- the targets of the first n points

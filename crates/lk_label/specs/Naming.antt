@@ -1,5 +1,5 @@
--- The nodes of a type that name places and functions, and those of them that are found so far. Only the private calls of this crate speak of
--- it.
+-- The nodes of a type that name places and functions, and those of them that are found so far. Only the
+-- private calls of this crate speak of it.
 use Rattle.std.specs.Prelude.{◌≡◌, ◌↔◌, ◌⊎◌, ◌<◌, ℕ, Bool, true, List, Some, AllPairs, Contains, slice_get}
 use Rattle.lk_facts.specs.LabelRules.{ComesBefore, IsStart, NamesPlace, Steps, form_of, leads_to_place}
 use Rattle.lk_types.specs.Table.{Table}
@@ -13,7 +13,8 @@ pub record AreJoined (old more new : List NodeId) : Type 0 where
 
 -- m stands somewhere before n
 abbrev pub StandsEarlier : List NodeId → (m n : NodeId) → Type 0
-StandsEarlier nodes m n = (i : ℕ) × (j : ℕ) × (slice_get nodes i ≡ Some m) × (slice_get nodes j ≡ Some n) × (i < j)
+StandsEarlier nodes m n =
+    (i : ℕ) × (j : ℕ) × (slice_get nodes i ≡ Some m) × (slice_get nodes j ≡ Some n) × (i < j)
 
 -- those of the nodes that are among others, in the order of the nodes
 pub record AreKept (nodes others kept : List NodeId) : Type 0 where
@@ -31,7 +32,9 @@ module _ (table : Table) where
 
   -- the places and functions to which steps lead from these nodes, and the Start where a root has the type
   abbrev pub ArePlaces : ℕ → Bool → (nodes places : List NodeId) → Type 0
-  ArePlaces t whole nodes places = (n : NodeId) → Contains places n ↔ (((whole ≡ true) × IsStart table t n) ⊎ ((m : NodeId) × Contains nodes m × LeadsToPlace m n))
+  ArePlaces t whole nodes places =
+      (n : NodeId) → Contains places n
+      ↔ (((whole ≡ true) × IsStart table t n) ⊎ ((m : NodeId) × Contains nodes m × LeadsToPlace m n))
 
   -- the nodes of a type that name a place or a function, in the order of its walk
   pub record AreNamed (t : ℕ) (whole : Bool) (nodes : List NodeId) : Type 0 where

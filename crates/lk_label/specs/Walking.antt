@@ -8,10 +8,12 @@ use Rattle.lk_types.specs.declared.node.Base.TheVariants.{Start}
 use Rattle.lk_types.specs.declared.node.NodeId.{NodeId}
 
 -- the first node ahead that isn't listed, and what is ahead behind it
-pub data IsNext (listed : List NodeId) : (ahead : List NodeId) → Option NodeId → (rest : List NodeId) → Type 0 where
+pub data IsNext (listed : List NodeId) : (ahead : List NodeId) → Option NodeId →
+    (rest : List NodeId) → Type 0 where
   none : IsNext listed [] None []
   here : (n : NodeId) (rest : List NodeId) → IsMissing listed n → IsNext listed (n ∷ rest) (Some n) rest
-  over : (n : NodeId) (ahead : List NodeId) (next : Option NodeId) (rest : List NodeId) → Contains listed n → IsNext listed ahead next rest → IsNext listed (n ∷ ahead) next rest
+  over : (n : NodeId) (ahead : List NodeId) (next : Option NodeId) (rest : List NodeId) → Contains listed n →
+      IsNext listed ahead next rest → IsNext listed (n ∷ ahead) next rest
 
 module _ (table : Table) where
   -- the nodes are the parts of a node, in order
@@ -31,7 +33,9 @@ module _ (table : Table) where
     pub count : length listed ≡ k
     pub nodes : All (IsNode table) listed
     pub nodes_ahead : All (IsNode table) ahead
-    pub goes_on : (more : List Node) → Walk table (map (node_of table) listed) (map (node_of table) ahead) more → Walk table [] (first (Start t) ∷ []) (map (node_of table) listed ++ more)
+    pub goes_on : (more : List Node) →
+        Walk table (map (node_of table) listed) (map (node_of table) ahead) more →
+        Walk table [] (first (Start t) ∷ []) (map (node_of table) listed ++ more)
 
   -- the nodes of a type in the order of the walk from its Start
   pub record IsWalkOf (t : ℕ) (ids : List NodeId) : Type 0 where

@@ -72,11 +72,12 @@ fn with_targets(
     Ok(Labels::new(names.into_set(), entries, targets))
 }
 
-/// The labels of a program (LOCKSMITH: a label for each level of each type): each holder's nodes that name a place or a
-/// function, the locations and lock places first, with what is known of each and the target of each point.
+/// The labels of a program (LOCKSMITH: a label for each level of each type): each holder's nodes
+/// that name a place or a function, the locations and lock places first, with what is known of each
+/// and the target of each point.
 ///
-/// `TooMany` is answered exactly where there are more than 65,536 of them, unless memory ends first: where labels are
-/// answered, there are no more.
+/// `TooMany` is answered exactly where there are more than 65,536 of them, unless memory ends first: where
+/// labels are answered, there are no more.
 pub fn labels(alloc: Global, points: &Points) -> Result<Labels, LabelFault>
     ensures ok { IfOk result (AreLabels points.now) }
     ensures too_many { result ≡ Err TooMany → HasMoreLabels points.now 65536 }

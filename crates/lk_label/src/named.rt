@@ -24,8 +24,8 @@ pub fn put_all(nodes: &[NodeId], found: &mut Nodes) -> Result<(), NoMemory>
     Ok(())
 }
 
-/// Puts the places and functions to which steps lead from a node: its parts, or none where it is a function, since its
-/// result and its parameters are values.
+/// Puts the places and functions to which steps lead from a node: its parts, or none where it is a function,
+/// since its result and its parameters are values.
 fn put_places(
     alloc: Global,
     types: &TypeTable,
@@ -55,7 +55,8 @@ fn start_place(alloc: Global, types: &TypeTable, t: TypeId, whole: bool) -> Resu
     Ok(places)
 }
 
-/// The places and functions to which steps lead from the nodes of a type, and its Start where a root has the type.
+/// The places and functions to which steps lead from the nodes of a type, and its
+/// Start where a root has the type.
 fn places(
     alloc: Global,
     types: &TypeTable,
@@ -88,8 +89,8 @@ fn kept(alloc: Global, nodes: &[NodeId], others: &Nodes) -> Result<Vec<NodeId>, 
     Ok(kept)
 }
 
-/// The nodes of a type that name a place or a function, in the order of its walk. The Start does so where a root has the
-/// type (`whole`).
+/// The nodes of a type that name a place or a function, in the order of its walk. The Start does so where a
+/// root has the type (`whole`).
 pub fn named_nodes(
     alloc: Global,
     types: &TypeTable,

@@ -58,7 +58,8 @@ fn push_part(
 ) -> Result<(), NoMemory>
     requires node { IsNode types.now node.now }
     requires sel { IsSel types.now sel }
-    ensures { OnOk result ((sels : List Sel) → HasParts types.now node.now sels parts.old.items → HasParts types.now node.now (sels ++ sel ∷ []) parts.new.items) }
+    ensures { OnOk result ((sels : List Sel) → HasParts types.now node.now sels parts.old.items →
+        HasParts types.now node.now (sels ++ sel ∷ []) parts.new.items) }
 {
     if let Some(NodeId { base, number }) = types.step_node(*node, sel) {
         parts.push(NodeId { base, number })?;

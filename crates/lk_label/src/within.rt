@@ -13,7 +13,8 @@ use lk_base::NoMemory;
 use lk_types::{CType, NodeId, TypeId, TypeTable};
 use std::alloc::Global;
 
-/// Whether the parts of a type lie in the same object: those of an array, of a struct, and of what `void *` points to.
+/// Whether the parts of a type lie in the same object: those of an array, of a struct,
+/// and of what `void *` points to.
 fn has_inner(types: &TypeTable, t: TypeId) -> bool
     requires { IsKnown types.now t }
     ensures { result ≡ has_inner (type_at types.now t) }

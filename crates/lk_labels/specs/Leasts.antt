@@ -35,7 +35,8 @@ put_labels leasts (l ∷ ls) = put_labels (put_label leasts l.name l.ordinal) ls
 -- the least number of the labels with this name, where there is one
 abbrev pub least_of : List ℕ → List Label → Option ℕ
 least_of name [] = None
-least_of name (l ∷ ls) = if is_name name l.name then Some (lesser_of l.ordinal (least_of name ls)) else least_of name ls
+least_of name (l ∷ ls) = if is_name name l.name then Some (lesser_of l.ordinal (least_of name ls))
+    else least_of name ls
 
 -- one of the labels has this name and this number
 pub record LabelNamed (found : List Label) (name : List ℕ) (n : ℕ) : Type 0 where
@@ -44,6 +45,7 @@ pub record LabelNamed (found : List Label) (name : List ℕ) (n : ℕ) : Type 0 
   pub is : is_name label.name name ≡ true
   pub ordinal : label.ordinal ≡ n
 
--- the numbers are those of these labels: at each name the least one of a label with it, and nothing where there is none
+-- the numbers are those of these labels: at each name the least one of a label with it,
+-- and nothing where there is none
 abbrev pub AreLabels : Leasts → List Label → Type 0
 AreLabels leasts found = (name : List ℕ) → number_of leasts name ≡ least_of name found

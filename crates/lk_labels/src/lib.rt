@@ -1,4 +1,5 @@
-//! The labels of a function, each found by its name in constant time (C99 6.8.1), and the rules of labels and `goto`.
+//! The labels of a function, each found by its name in constant time (C99 6.8.1), and
+//! the rules of labels and `goto`.
 #![tactic(auto)]
 
 mod body;

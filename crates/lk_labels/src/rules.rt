@@ -30,7 +30,8 @@ fn is_before(number: Option<u32>, other: u32) -> bool
     }
 }
 
-/// The code of `name:`, the node with this number: 26 where the function has the label before it (C99 6.8.1, 3).
+/// The code of `name:`, the node with this number: 26 where the function has the
+/// label before it (C99 6.8.1, 3).
 pub fn label_code(labels: &Labels, name: &Name, ordinal: u32) -> Option<Code>
     ensures { (around : Around) → AreLabels labels.now around.labels →
         result ≡ told (spec.label_rules around name.now ordinal) }

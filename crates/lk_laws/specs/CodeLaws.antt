@@ -1,5 +1,5 @@
--- What walks say of the parts of what they lead to, and of what flows through functions that they lead to. Each law is the contract of a
--- public function.
+-- What walks say of the parts of what they lead to, and of what flows through functions that they lead to.
+-- Each law is the contract of a public function.
 use Rattle.std.specs.Prelude.{◌≡◌, ℕ, suc, List, Some, slice_get}
 use Rattle.lk_facts.specs.EdgeRules.{IsInside, IsBehind, AreEdges}
 use Rattle.lk_facts.specs.LabelRules.{AreLabels}
@@ -15,14 +15,19 @@ use Rattle.lk_types.specs.Building.{IsTable}
 use Rattle.lk_types.specs.declared.node.Sel.{Sel}
 use Rattle.lk_types.specs.declared.node.Sel.TheVariants.{Part}
 
--- Where a walk leads from one label to another, one leads from a field or element of the one to that of the other, in the same contexts.
+-- Where a walk leads from one label to another, one leads from a field or element of the one to that of the
+-- other, in the same contexts.
 abbrev pub WalksGoInside : Type 0
 WalksGoInside =
-    (program : Program) → IsTable program.types → IsLowered program → (labels : LabelTable) → AreLabels program labels → AreLabelsInRange labels → (es : List Edge) → AreEdges program labels.names es →
+    (program : Program) → IsTable program.types → IsLowered program → (labels : LabelTable) →
+    AreLabels program labels → AreLabelsInRange labels → (es : List Edge) →
+    AreEdges program labels.names es →
     (a b : ℕ) (c d : List ℕ) → Walk (HasEdge es) (is_global_at labels) a c b d →
-    (s : Sel) (x y : ℕ) → IsFieldAt program labels s a x → IsFieldAt program labels s b y → Walk (HasEdge es) (is_global_at labels) x c y d
+    (s : Sel) (x y : ℕ) → IsFieldAt program labels s a x → IsFieldAt program labels s b y →
+    Walk (HasEdge es) (is_global_at labels) x c y d
 
--- In a table of labels: what the result (k = 0) or the parameter k of the function of the one label points to is the other.
+-- In a table of labels: what the result (k = 0) or the parameter k of the function of the one
+-- label points to is the other.
 pub record IsBehindAt (program : Program) (labels : LabelTable) (k a b : ℕ) : Type 0 where
   pub function : LabelName
   pub behind : LabelName
@@ -41,13 +46,21 @@ pub record IsPartBehindAt (program : Program) (labels : LabelTable) (t k a b : �
   pub part_of : IsInside program void (Part t) part
 
 -- Where a walk leads from one function to another, results flow with it, and parameters against it.
-pub record HaveOneCode (program : Program) (labels : LabelTable) (es : List Edge) (o : ℕ) (c : List ℕ) (b : ℕ) (d : List ℕ) : Type 0 where
-  pub results : (x y : ℕ) → IsBehindAt program labels 0 o x → IsBehindAt program labels 0 b y → Walk (HasEdge es) (is_global_at labels) x c y d
-  pub result_parts : (n x y : ℕ) → IsPartBehindAt program labels n 0 o x → IsPartBehindAt program labels n 0 b y → Walk (HasEdge es) (is_global_at labels) x c y d
-  pub parameters : (k x y : ℕ) → IsBehindAt program labels (suc k) o x → IsBehindAt program labels (suc k) b y → Walk (HasEdge es) (is_global_at labels) y d x c
-  pub parameter_parts : (n k x y : ℕ) → IsPartBehindAt program labels n (suc k) o x → IsPartBehindAt program labels n (suc k) b y → Walk (HasEdge es) (is_global_at labels) y d x c
+pub record HaveOneCode (program : Program) (labels : LabelTable) (es : List Edge) (o : ℕ) (c : List ℕ) (b : ℕ)
+    (d : List ℕ) : Type 0 where
+  pub results : (x y : ℕ) → IsBehindAt program labels 0 o x → IsBehindAt program labels 0 b y →
+      Walk (HasEdge es) (is_global_at labels) x c y d
+  pub result_parts : (n x y : ℕ) → IsPartBehindAt program labels n 0 o x →
+      IsPartBehindAt program labels n 0 b y → Walk (HasEdge es) (is_global_at labels) x c y d
+  pub parameters : (k x y : ℕ) → IsBehindAt program labels (suc k) o x →
+      IsBehindAt program labels (suc k) b y → Walk (HasEdge es) (is_global_at labels) y d x c
+  pub parameter_parts : (n k x y : ℕ) → IsPartBehindAt program labels n (suc k) o x →
+      IsPartBehindAt program labels n (suc k) b y → Walk (HasEdge es) (is_global_at labels) y d x c
 
 abbrev pub FunctionsHaveOneCode : Type 0
 FunctionsHaveOneCode =
-    (program : Program) → IsTable program.types → IsLowered program → (labels : LabelTable) → AreLabels program labels → AreLabelsInRange labels → (es : List Edge) → AreEdges program labels.names es →
-    (o b : ℕ) (c d : List ℕ) → Walk (HasEdge es) (is_global_at labels) o c b d → HaveOneCode program labels es o c b d
+    (program : Program) → IsTable program.types → IsLowered program → (labels : LabelTable) →
+    AreLabels program labels → AreLabelsInRange labels → (es : List Edge) →
+    AreEdges program labels.names es →
+    (o b : ℕ) (c d : List ℕ) → Walk (HasEdge es) (is_global_at labels) o c b d →
+    HaveOneCode program labels es o c b d

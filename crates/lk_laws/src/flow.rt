@@ -13,7 +13,8 @@ pub fn edges_join_alike()
     ensures { EdgesJoinAlike }
 {}
 
-/// Each row of the edges gives its edges: what it joins is there. Nothing is joined only where neither side is a pointer.
+/// Each row of the edges gives its edges: what it joins is there. Nothing is joined only
+/// where neither side is a pointer.
 pub fn rows_give_edges()
     ensures { RowsGiveEdges }
 {}
@@ -28,20 +29,21 @@ pub fn functions_have_sites()
     ensures { FunctionsHaveSites }
 {}
 
-/// Contents: where a walk leads from one label to another, and one path of fields and elements leads from both to
-/// pointers, walks lead both ways between what these point to, each in its context. The same holds of each Part of what
-/// `void *` points to.
+/// Contents: where a walk leads from one label to another, and one path of fields and elements leads from
+/// both to pointers, walks lead both ways between what these point to, each in its context. The same holds of
+/// each Part of what `void *` points to.
 pub fn contents()
     ensures { Contents }
 {}
 
-/// Where a walk leads from one label to another, one leads from a field or element of the one to that of the other.
+/// Where a walk leads from one label to another, one leads from a field or element of
+/// the one to that of the other.
 pub fn walks_go_inside()
     ensures { WalksGoInside }
 {}
 
-/// Where a walk leads from one function to another, what flows through their results goes with it, and what flows through
-/// their parameters against it.
+/// Where a walk leads from one function to another, what flows through their results goes with it, and what
+/// flows through their parameters against it.
 pub fn functions_have_one_code()
     ensures { FunctionsHaveOneCode }
 {}

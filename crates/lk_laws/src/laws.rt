@@ -17,8 +17,8 @@ pub fn held_is_never_not_held()
     ensures { HeldIsNeverNotHeld }
 {}
 
-/// A lock set has just the locks that some table holds which the rules allow, and lacks just those that aren't held
-/// on some way.
+/// A lock set has just the locks that some table holds which the rules allow, and lacks just those
+/// that aren't held on some way.
 pub fn lock_sets_are_exact()
     ensures { LockSetsAreExact }
 {}
@@ -53,8 +53,8 @@ pub fn verdict_is_one()
     ensures { VerdictIsOne }
 {}
 
-/// More points after one another, more items, fewer locks and fewer linear places never turn a suspect location
-/// into a guarded one.
+/// More points after one another, more items, fewer locks and fewer linear places never turn a suspect
+/// location into a guarded one.
 pub fn suspect_stays_unguarded()
     ensures { SuspectStaysUnguarded }
 {}

@@ -1,5 +1,5 @@
-//! What the definitions of the analysis imply, of which its soundness makes use: laws of the rules for races, and of labels,
-//! edges and paths.
+//! What the definitions of the analysis imply, of which its soundness makes use: laws of the rules for races,
+//! and of labels, edges and paths.
 #![tactic(auto)]
 
 mod flow;

@@ -1,5 +1,5 @@
-//! Matched paths: their rules, and what they say of walks through contexts. Each function is a law, which its contract
-//! states.
+//! Matched paths: their rules, and what they say of walks through contexts. Each function is a
+//! law, which its contract states.
 ghost use Rattle.lk_laws.specs.PathLaws.{
   LevelIsClosed,
   LevelIsLeast,
@@ -12,8 +12,8 @@ ghost use Rattle.lk_laws.specs.PathLaws.{
   OverValues,
 };
 
-/// Level is closed: each label stands in it with itself, and Plain edges and matched calls lead on through labels that
-/// aren't global.
+/// Level is closed: each label stands in it with itself, and Plain edges and matched calls lead on
+/// through labels that aren't global.
 pub fn level_is_closed()
     ensures { LevelIsClosed }
 {}
@@ -23,8 +23,8 @@ pub fn level_is_least()
     ensures { LevelIsLeast }
 {}
 
-/// Rise and Fall are closed, the one for Leaves and the other for Enters between levels, and are within each table
-/// that is.
+/// Rise and Fall are closed, the one for Leaves and the other for Enters between levels, and
+/// are within each table that is.
 pub fn rise_and_fall_are_their_rules()
     ensures { RiseAndFallAreTheirRules }
 {}
@@ -49,8 +49,8 @@ pub fn up_and_down()
     ensures { UpAndDown }
 {}
 
-/// Over, for calls: where an origin has a walk to a label inside a site, of what the label may be outside the origin is
-/// one, or has a walk to one.
+/// Over, for calls: where an origin has a walk to a label inside a site, of what the label may be outside the
+/// origin is one, or has a walk to one.
 pub fn over_calls()
     ensures { OverCalls }
 {}

@@ -34,8 +34,10 @@ is_refused bytes token = is_word token.kind && is_unsupported (text_of bytes tok
 abbrev pub first_refused : List ℕ → List Token → Option Token
 first_refused bytes tokens = find (is_refused bytes) tokens
 
--- the source is these tokens, and no word of the code UnsupportedWord is among them; the names of files grow from the first to the last
-pub record AreTokens (names : List (List ℕ)) (own : ℕ) (bytes : List ℕ) (last : List (List ℕ)) (tokens : List Token) : Type 0 where
+-- the source is these tokens, and no word of the code UnsupportedWord is among them; the names of files
+-- grow from the first to the last
+pub record AreTokens (names : List (List ℕ)) (own : ℕ) (bytes : List ℕ) (last : List (List ℕ))
+    (tokens : List Token) : Type 0 where
   pub split : Splits names (start_of own) bytes tokens last
   pub supported : first_refused bytes tokens ≡ None
 
@@ -44,15 +46,19 @@ abbrev pub refusal : Code → Spot → List ℕ → Refusal
 refusal code spot name = record { code = code; spot = spot; name = name }
 
 -- why a source is refused: the split stops, or it gives tokens with a word of the code UnsupportedWord
-pub data IsRefused (names : List (List ℕ)) (own : ℕ) (bytes : List ℕ) (last : List (List ℕ)) : Refusal → Type 0 where
-  stopped : (code : Code) (spot : Spot) → Stops names (start_of own) bytes code spot last → IsRefused names own bytes last (refusal code spot [])
-  unsupported : (tokens : List Token) (token : Token) → Splits names (start_of own) bytes tokens last → first_refused bytes tokens ≡ Some token
-      → IsRefused names own bytes last (refusal c.UnsupportedWord token.spot (text_of bytes token))
+pub data IsRefused (names : List (List ℕ)) (own : ℕ) (bytes : List ℕ) (last : List (List ℕ)) : Refusal →
+    Type 0 where
+  stopped : (code : Code) (spot : Spot) → Stops names (start_of own) bytes code spot last →
+      IsRefused names own bytes last (refusal code spot [])
+  unsupported : (tokens : List Token) (token : Token) → Splits names (start_of own) bytes tokens last →
+      first_refused bytes tokens ≡ Some token →
+      IsRefused names own bytes last (refusal c.UnsupportedWord token.spot (text_of bytes token))
 
 -- a refusal with its cause, whose file is among the names; or want of memory
 abbrev pub IsFault : List (List ℕ) → ℕ → List ℕ → List (List ℕ) → Fault → Type 0
 IsFault names own bytes last e.NoMemory = Unit {0}
-IsFault names own bytes last (e.Refused told) = IsRefused names own bytes last told × (told.spot.file < length last)
+IsFault names own bytes last (e.Refused told) =
+    IsRefused names own bytes last told × (told.spot.file < length last)
 
 -- what was there still stands in front
 abbrev pub Extends : {A : Type 0} → List A → List A → Type 0

@@ -1,4 +1,5 @@
--- What stands in front of bytes: a blank, a comment, a line mark or a token, each the longest that can stand there (C99 6.4, 4).
+-- What stands in front of bytes: a blank, a comment, a line mark or a token, each the longest that
+-- can stand there (C99 6.4, 4).
 use Rattle.std.specs.Prelude.{ℕ, suc, ◌+◌, Bool, ◌&&◌, ◌||◌, ◌==◌, nat_eq, nat_lt, if◌then◌else◌, List, [], ◌∷◌, length, take, drop, codes, Option, Some, None}
 use Rattle.std.specs.List.{starts_with}
 use Rattle.std.specs.Str.{bytes_eq}
@@ -25,20 +26,26 @@ word_kind text = option_map_or k.Key (keyword_of text) k.Word
 
 -- `L` directly before a quote begins a wide character or text (C99 6.4.4.4, 6.4.5)
 abbrev pub is_wide : List ℕ → List ℕ → Bool
-is_wide word rest = bytes_eq word (codes "L") && (starts_with nat_eq rest (codes "'") || starts_with nat_eq rest (codes "\""))
+is_wide word rest =
+    bytes_eq word (codes "L") && (starts_with nat_eq rest (codes "'") || starts_with nat_eq rest (codes "\""))
 
 -- a word of at most 255 bytes that begins nothing wide
 unfoldable pub word_front : List ℕ → Front
 word_front bytes = let n = word_len bytes in
-    if nat_lt 255 n || is_wide (take n bytes) (drop n bytes) then f.Broken else f.Token n (word_kind (take n bytes))
+    if nat_lt 255 n || is_wide (take n bytes) (drop n bytes) then f.Broken
+    else f.Token n (word_kind (take n bytes))
 
 -- a preprocessing number that is an integer constant (C99 6.4.4.1, 6.4.8)
 unfoldable pub number_front : List ℕ → Front
-number_front bytes = let n = number_len 0 bytes in option_map_or (λ number. f.Token n (k.Number number.kind number.value)) (number_of (take n bytes)) f.Broken
+number_front bytes = let n = number_len 0 bytes in
+    option_map_or (λ number. f.Token n (k.Number number.kind number.value))
+    (number_of (take n bytes)) f.Broken
 
 -- a character, by what stands behind its quote (C99 6.4.4.4)
 unfoldable pub character_front : List ℕ → Front
-character_front bytes = option_map_or (λ first. f.Token (first.len + 2) (k.Char (as_signed first.value))) (character bytes) f.Broken
+character_front bytes =
+    option_map_or (λ first. f.Token (first.len + 2) (k.Char (as_signed first.value)))
+    (character bytes) f.Broken
 
 -- a text, by what stands behind its quote (C99 6.4.5)
 unfoldable pub text_front : List ℕ → Front
@@ -58,7 +65,10 @@ comment_front bytes = option_map_or (λ n. f.Gap (n + 2)) (comment_len 0 bytes) 
 
 -- the longest punctuator, which must be no digraph (C99 6.4.6)
 unfoldable pub punct_front : List ℕ → Front
-punct_front bytes = if is_digraph_in_front bytes then f.Broken else option_map_or (λ punct. f.Token (length (spelling punct)) (k.Punct punct)) (punct_in_front bytes) f.Nothing
+punct_front bytes =
+    if is_digraph_in_front bytes then f.Broken
+    else option_map_or (λ punct. f.Token (length (spelling punct)) (k.Punct punct))
+    (punct_in_front bytes) f.Nothing
 
 abbrev pub directive_front : ℕ → Option Directive → Front
 directive_front n None = f.Broken
@@ -71,7 +81,9 @@ hash_front bytes = let n = line_len bytes in directive_front (n + 1) (directive 
 
 -- a preprocessing number begins with a digit, or with a dot and a digit
 abbrev pub begins_number : List ℕ → Bool
-begins_number bytes = nat_lt 0 (digits_len b.Decimal bytes) || (starts_with nat_eq bytes (codes ".") && nat_lt 0 (digits_len b.Decimal (drop 1 bytes)))
+begins_number bytes =
+    nat_lt 0 (digits_len b.Decimal bytes)
+    || (starts_with nat_eq bytes (codes ".") && nat_lt 0 (digits_len b.Decimal (drop 1 bytes)))
 
 -- a token or a comment, by the bytes from its first on
 unfoldable pub piece : List ℕ → Front
@@ -86,7 +98,9 @@ piece bytes =
 
 -- what stands in front; `fresh` says that only blanks stand before it on its line
 abbrev pub cut_by : Bool → ℕ → List ℕ → Front
-cut_by fresh c bytes = if is_blank c then f.Gap 1 else if c == hash then (if fresh then hash_front (drop 1 bytes) else f.Nothing) else piece bytes
+cut_by fresh c bytes =
+    if is_blank c then f.Gap 1 else if c == hash
+    then (if fresh then hash_front (drop 1 bytes) else f.Nothing) else piece bytes
 
 unfoldable pub cut : Bool → List ℕ → Front
 cut fresh [] = f.Nothing

@@ -30,19 +30,23 @@ HasOneList = (names : List (List ℕ)) (place : Place) (bytes : List ℕ) (a b :
 
 -- where they split, the split doesn't stop
 abbrev pub NeverBoth : Type 0
-NeverBoth = (names : List (List ℕ)) (place : Place) (bytes : List ℕ) (tokens : List Token) (last : List (List ℕ)) (code : Code) (spot : Spot) (others : List (List ℕ))
-    → Splits names place bytes tokens last → Stops names place bytes code spot others → ⊥
+NeverBoth =
+    (names : List (List ℕ)) (place : Place) (bytes : List ℕ) (tokens : List Token) (last : List (List ℕ))
+    (code : Code) (spot : Spot) (others : List (List ℕ)) → Splits names place bytes tokens last →
+    Stops names place bytes code spot others → ⊥
 
 -- where the split stops, it stops at one place, with one code
 abbrev pub HasOneStop : Type 0
-HasOneStop = (names : List (List ℕ)) (place : Place) (bytes : List ℕ) (a b : Code) (s t : Spot) (x y : List (List ℕ))
-    → Stops names place bytes a s x → Stops names place bytes b t y → (a ≡ b) × (s ≡ t) × (x ≡ y)
+HasOneStop =
+    (names : List (List ℕ)) (place : Place) (bytes : List ℕ) (a b : Code) (s t : Spot) (x y : List (List ℕ)) →
+    Stops names place bytes a s x → Stops names place bytes b t y → (a ≡ b) × (s ≡ t) × (x ≡ y)
 
 -- a preprocessing number and its last byte (C99 6.4.8)
 pub data IsNumberText : List ℕ → ℕ → Type 0 where
   digit : (d : ℕ) → is_ascii_digit d ≡ true → IsNumberText (d ∷ []) d
   dot_digit : (d : ℕ) → is_ascii_digit d ≡ true → IsNumberText (dot ∷ d ∷ []) d
-  longer : {text : List ℕ} {before : ℕ} (c : ℕ) → IsNumberText text before → goes_on before c ≡ true → IsNumberText (text ++ c ∷ []) c
+  longer : {text : List ℕ} {before : ℕ} (c : ℕ) → IsNumberText text before → goes_on before c ≡ true →
+      IsNumberText (text ++ c ∷ []) c
 
 -- the first n bytes are a word, whose first is no digit, and no more of them are one
 pub record IsLongestWord (bytes : List ℕ) (n : ℕ) : Type 0 where
@@ -62,7 +66,8 @@ pub record IsLongestNumber (bytes : List ℕ) (n : ℕ) : Type 0 where
 pub record IsLongestPunct (bytes : List ℕ) (n : ℕ) (punct : Punct) : Type 0 where
   pub len : n ≡ length (spelling punct)
   pub front : starts_with nat_eq bytes (spelling punct) ≡ true
-  pub longest : (other : Punct) → starts_with nat_eq bytes (spelling other) ≡ true → length (spelling other) ≤ n
+  pub longest : (other : Punct) → starts_with nat_eq bytes (spelling other) ≡ true →
+      length (spelling other) ≤ n
   pub no_digraph : is_digraph_in_front bytes ≡ false
 
 abbrev pub IsLongest : List ℕ → ℕ → TokenKind → Type 0
@@ -76,11 +81,13 @@ IsLongest bytes n k.End = ⊤
 
 -- a word, a number or a punctuator in front is the longest that can stand there
 abbrev pub AreLongest : Type 0
-AreLongest = (fresh : Bool) (bytes : List ℕ) (n : ℕ) (kind : TokenKind) → cut fresh bytes ≡ f.Token n kind → IsLongest bytes n kind
+AreLongest = (fresh : Bool) (bytes : List ℕ) (n : ℕ) (kind : TokenKind) → cut fresh bytes ≡ f.Token n kind →
+    IsLongest bytes n kind
 
 -- bytes split into tokens, or the split stops
 abbrev pub IsSplitOrStops : List (List ℕ) → Place → List ℕ → Type 0
-IsSplitOrStops names place bytes = ((tokens : List Token) × (last : List (List ℕ)) × Splits names place bytes tokens last)
+IsSplitOrStops names place bytes =
+    ((tokens : List Token) × (last : List (List ℕ)) × Splits names place bytes tokens last)
     ⊎ ((code : Code) × (spot : Spot) × (last : List (List ℕ)) × Stops names place bytes code spot last)
 
 abbrev pub AlwaysOne : Type 0
@@ -97,10 +104,12 @@ IsAnswer names own bytes last (refused told) = IsRefused names own bytes last to
 
 -- each source has one answer: so it has tokens exactly where it isn't refused
 abbrev pub HasOneAnswer : Type 0
-HasOneAnswer = (names : List (List ℕ)) (own : ℕ) (bytes : List ℕ) → (answer : Answer) × (last : List (List ℕ)) × IsAnswer names own bytes last answer
+HasOneAnswer = (names : List (List ℕ)) (own : ℕ) (bytes : List ℕ) →
+    (answer : Answer) × (last : List (List ℕ)) × IsAnswer names own bytes last answer
     × ((other : Answer) (behind : List (List ℕ)) → IsAnswer names own bytes behind other → (other ≡ answer) × (behind ≡ last))
 
--- what begins a blank, a comment, a line with `#`, or a token; `fresh` says that only blanks stand before it on its line (C99 6.4, 6.4.9, 6.10)
+-- what begins a blank, a comment, a line with `#`, or a token; `fresh` says that only blanks stand before it
+-- on its line (C99 6.4, 6.4.9, 6.10)
 pub data Begins (fresh : Bool) (bytes : List ℕ) : Type 0 where
   blank : 0 < blanks_len bytes → Begins fresh bytes
   comment : starts_with nat_eq bytes (codes "/*") ≡ true → Begins fresh bytes
@@ -118,16 +127,21 @@ NothingBegins = (fresh : Bool) (bytes : List ℕ) → (cut fresh bytes ≡ f.Not
 
 -- the spelling of each keyword is read as that keyword
 abbrev pub KeywordsAreRead : Type 0
-KeywordsAreRead = (fresh : Bool) (keyword : Keyword) → cut fresh (words.spelling keyword) ≡ f.Token (length (words.spelling keyword)) (k.Key keyword)
+KeywordsAreRead = (fresh : Bool) (keyword : Keyword) →
+    cut fresh (words.spelling keyword) ≡ f.Token (length (words.spelling keyword)) (k.Key keyword)
 
 -- the spelling of each punctuator is read as that punctuator
 abbrev pub PunctuatorsAreRead : Type 0
-PunctuatorsAreRead = (fresh : Bool) (punct : Punct) → cut fresh (spelling punct) ≡ f.Token (length (spelling punct)) (k.Punct punct)
+PunctuatorsAreRead = (fresh : Bool) (punct : Punct) →
+    cut fresh (spelling punct) ≡ f.Token (length (spelling punct)) (k.Punct punct)
 
--- a preprocessing number in front is refused exactly where it is no integer constant, and else read as that constant
+-- a preprocessing number in front is refused exactly where it is no integer constant,
+-- and else read as that constant
 pub record IsReadAsConstant (fresh : Bool) (bytes : List ℕ) (n : ℕ) : Type 0 where
   pub refused : (cut fresh bytes ≡ f.Broken) ↔ (number_of (take n bytes) ≡ None)
-  pub read : (kind : Kind) (value : ℕ) → (cut fresh bytes ≡ f.Token n (k.Number kind value)) ↔ (number_of (take n bytes) ≡ Some (with_kind value kind))
+  pub read : (kind : Kind) (value : ℕ) → (cut fresh bytes ≡ f.Token n (k.Number kind value))
+      ↔ (number_of (take n bytes) ≡ Some (with_kind value kind))
 
 abbrev pub NumbersAreConstants : Type 0
-NumbersAreConstants = (fresh : Bool) (bytes : List ℕ) (n : ℕ) → IsLongestNumber bytes n → IsReadAsConstant fresh bytes n
+NumbersAreConstants = (fresh : Bool) (bytes : List ℕ) (n : ℕ) → IsLongestNumber bytes n →
+    IsReadAsConstant fresh bytes n

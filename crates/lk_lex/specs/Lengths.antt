@@ -25,7 +25,8 @@ IsFrontWithin most (f.Gap n) = IsWithin most n
 IsFrontWithin most (f.Mark n mark) = IsWithin most n × (mark.line ≤ 2147483647)
 IsFrontWithin most (f.Token n kind) = IsWithin most n
 
--- a place's numbers fit, as long as a source has at most 1,048,576 bytes: a line mark sets at most 2,147,483,647, and each byte adds at most one
+-- a place's numbers fit, as long as a source has at most 1,048,576 bytes: a line mark sets at
+-- most 2,147,483,647, and each byte adds at most one
 pub record IsBounded (place : Place) : Type 0 where
   pub line : place.spot.line ≤ 2147483648 + place.at
   pub col : place.spot.col ≤ 1 + place.at
@@ -45,4 +46,5 @@ IsFaultOf right (e.Refused told) = told ≡ right
 -- want of memory, or the split stops there
 abbrev pub IsStop : List (List ℕ) → Place → List ℕ → List (List ℕ) → Fault → Type 0
 IsStop names place bytes last e.NoMemory = Unit {0}
-IsStop names place bytes last (e.Refused told) = (code : Code) × (spot : Spot) × (told ≡ refusal code spot []) × Stops names place bytes code spot last
+IsStop names place bytes last (e.Refused told) =
+    (code : Code) × (spot : Spot) × (told ≡ refusal code spot []) × Stops names place bytes code spot last

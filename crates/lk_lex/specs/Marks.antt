@@ -23,7 +23,8 @@ mark_of line name = record { line = line; name = name }
 -- digits of a number that is at most 2,147,483,647
 unfoldable pub line_number : List ℕ → Option ℕ
 line_number word =
-    if length word == 0 then None else if list_all is_ascii_digit word then (if nat_le (value_of b.Decimal word) 2147483647 then Some (value_of b.Decimal word) else None)
+    if length word == 0 then None else if list_all is_ascii_digit word
+    then (if nat_le (value_of b.Decimal word) 2147483647 then Some (value_of b.Decimal word) else None)
     else None
 
 abbrev pub with_name_of : ℕ → List ℕ → Option Mark
@@ -32,16 +33,19 @@ with_name_of line name = if nat_lt 255 (length name) then None else Some (mark_o
 -- the name and the flags, by what stands behind the opening quote: the name has at most 255 bytes
 unfoldable pub named_mark : ℕ → List ℕ → Option Mark
 named_mark line bytes =
-    option_and_then (λ n. if list_all is_flag_byte (drop n bytes) then with_name_of line (quoted_bytes q.FileName 0 bytes) else None) (quoted_len q.FileName 0 bytes)
+    option_and_then (λ n. if list_all is_flag_byte (drop n bytes) then with_name_of line
+    (quoted_bytes q.FileName 0 bytes) else None) (quoted_len q.FileName 0 bytes)
 
 -- a mark of this line, by what stands behind its number
 unfoldable pub numbered_mark : ℕ → List ℕ → Option Mark
 numbered_mark line bytes =
-    if length bytes == 0 then Some (mark_of line None) else if starts_with nat_eq bytes (codes "\"") then named_mark line (drop 1 bytes) else None
+    if length bytes == 0 then Some (mark_of line None)
+    else if starts_with nat_eq bytes (codes "\"") then named_mark line (drop 1 bytes) else None
 
 -- a mark, by what stands from its number on
 unfoldable pub mark : List ℕ → Option Mark
-mark bytes = let n = word_len bytes in option_and_then (λ line. numbered_mark line (past_blanks (drop n bytes))) (line_number (take n bytes))
+mark bytes = let n = word_len bytes in
+    option_and_then (λ line. numbered_mark line (past_blanks (drop n bytes))) (line_number (take n bytes))
 
 -- what the line says, by what stands behind its `#`: `pragma`, or a mark with or without `line`
 unfoldable pub directive : List ℕ → Option Directive

@@ -18,7 +18,9 @@ use Rattle.lk_lex.specs.Bytes.{is_word_byte}
 
 -- whether a preprocessing number goes on with this byte, by the byte before it
 abbrev pub goes_on : ℕ → ℕ → Bool
-goes_on before b = is_word_byte b || (b == dot) || ((b == plus || (b == minus)) && (before == letter_e || (before == capital_E) || (before == letter_p) || (before == capital_P)))
+goes_on before b =
+    is_word_byte b || (b == dot)
+    || ((b == plus || (b == minus)) && (before == letter_e || (before == capital_E) || (before == letter_p) || (before == capital_P)))
 
 -- how many bytes a preprocessing number has from here on, by the byte before them
 unfoldable pub number_len : ℕ → List ℕ → ℕ
@@ -58,8 +60,10 @@ suffix_of bytes =
     else if is_one_of bytes (codes "u" ∷ codes "U" ∷ []) then with_suffix true l.Plain
     else if is_one_of bytes (codes "l" ∷ codes "L" ∷ []) then with_suffix false l.Long
     else if is_one_of bytes (codes "ll" ∷ codes "LL" ∷ []) then with_suffix false l.LongLong
-    else if is_one_of bytes (codes "ul" ∷ codes "uL" ∷ codes "Ul" ∷ codes "UL" ∷ codes "lu" ∷ codes "lU" ∷ codes "Lu" ∷ codes "LU" ∷ []) then with_suffix true l.Long
-    else if is_one_of bytes (codes "ull" ∷ codes "uLL" ∷ codes "Ull" ∷ codes "ULL" ∷ codes "llu" ∷ codes "llU" ∷ codes "LLu" ∷ codes "LLU" ∷ []) then with_suffix true l.LongLong
+    else if is_one_of bytes (codes "ul" ∷ codes "uL" ∷ codes "Ul" ∷ codes "UL" ∷ codes "lu" ∷ codes "lU" ∷
+    codes "Lu" ∷ codes "LU" ∷ []) then with_suffix true l.Long
+    else if is_one_of bytes (codes "ull" ∷ codes "uLL" ∷ codes "Ull" ∷ codes "ULL" ∷ codes "llu" ∷
+    codes "llU" ∷ codes "LLu" ∷ codes "LLU" ∷ []) then with_suffix true l.LongLong
     else None
 
 -- the greatest value of a kind (C99 5.2.4.2.1)
@@ -77,7 +81,8 @@ greatest k.ULong = 18446744073709551615
 greatest k.LLong = 9223372036854775807
 greatest k.ULLong = 18446744073709551615
 
--- the list of C99 6.4.4.1, 5: by whether a suffix says unsigned, by the suffix's length, and by whether the base is decimal
+-- the list of C99 6.4.4.1, 5: by whether a suffix says unsigned, by the suffix's length, and
+-- by whether the base is decimal
 abbrev pub kinds : Bool → Length → Bool → List Kind
 kinds false l.Plain true = k.Int ∷ k.Long ∷ k.LLong ∷ []
 kinds false l.Plain false = k.Int ∷ k.UInt ∷ k.Long ∷ k.ULong ∷ k.LLong ∷ k.ULLong ∷ []
@@ -96,7 +101,8 @@ is_decimal b.Hexadecimal = false
 
 -- the first kind of the list that holds the value
 unfoldable pub kind_of : Base → Suffix → ℕ → Option Kind
-kind_of base of value = find (λ kind. nat_le value (greatest kind)) (kinds of.unsigned of.length (is_decimal base))
+kind_of base of value =
+    find (λ kind. nat_le value (greatest kind)) (kinds of.unsigned of.length (is_decimal base))
 
 -- a number of this kind and value
 abbrev pub with_kind : ℕ → Kind → Number
@@ -121,4 +127,5 @@ is_octal text = starts_with nat_eq text (codes "0")
 
 -- the integer constant that the text is, where it is one
 unfoldable pub number_of : List ℕ → Option Number
-number_of text = if is_hexadecimal text then constant b.Hexadecimal (drop 2 text) else if is_octal text then constant b.Octal text else constant b.Decimal text
+number_of text = if is_hexadecimal text then constant b.Hexadecimal (drop 2 text) else if is_octal text
+    then constant b.Octal text else constant b.Decimal text

@@ -57,11 +57,15 @@ spelling p.Comma = codes ","
 abbrev pub punctuators : List Punct
 punctuators =
     p.Ellipsis ∷ p.ShiftLeftEqual ∷ p.ShiftRightEqual ∷
-    p.Arrow ∷ p.PlusPlus ∷ p.MinusMinus ∷ p.ShiftLeft ∷ p.ShiftRight ∷ p.LessEqual ∷ p.GreaterEqual ∷ p.EqualEqual ∷
-    p.BangEqual ∷ p.AndAnd ∷ p.BarBar ∷ p.StarEqual ∷ p.SlashEqual ∷ p.PercentEqual ∷ p.PlusEqual ∷ p.MinusEqual ∷
+    p.Arrow ∷ p.PlusPlus ∷ p.MinusMinus ∷ p.ShiftLeft ∷ p.ShiftRight ∷ p.LessEqual ∷
+    p.GreaterEqual ∷ p.EqualEqual ∷
+    p.BangEqual ∷ p.AndAnd ∷ p.BarBar ∷ p.StarEqual ∷ p.SlashEqual ∷ p.PercentEqual ∷
+    p.PlusEqual ∷ p.MinusEqual ∷
     p.AmpersandEqual ∷ p.CaretEqual ∷ p.BarEqual ∷
-    p.OpenBracket ∷ p.CloseBracket ∷ p.OpenParen ∷ p.CloseParen ∷ p.OpenBrace ∷ p.CloseBrace ∷ p.Dot ∷ p.Ampersand ∷
-    p.Star ∷ p.Plus ∷ p.Minus ∷ p.Tilde ∷ p.Bang ∷ p.Slash ∷ p.Percent ∷ p.Less ∷ p.Greater ∷ p.Caret ∷ p.Bar ∷
+    p.OpenBracket ∷ p.CloseBracket ∷ p.OpenParen ∷ p.CloseParen ∷ p.OpenBrace ∷ p.CloseBrace ∷
+    p.Dot ∷ p.Ampersand ∷
+    p.Star ∷ p.Plus ∷ p.Minus ∷ p.Tilde ∷ p.Bang ∷ p.Slash ∷ p.Percent ∷ p.Less ∷
+    p.Greater ∷ p.Caret ∷ p.Bar ∷
     p.Question ∷ p.Colon ∷ p.Semicolon ∷ p.Equal ∷ p.Comma ∷ []
 
 -- the longest that the bytes begin with

@@ -70,7 +70,8 @@ pub record IsEnded (bytes : ℕ) (tokens : List Token) : Type 0 where
   pub from : last.from ≡ bytes
   pub to : last.to ≡ bytes
 
--- what `tokens` answered for these bytes, with these names of files behind it: and so where its tokens stand, in which order, and what their bytes are
+-- what `tokens` answered for these bytes, with these names of files behind it: and so where its tokens stand,
+-- in which order, and what their bytes are
 pub record AreTokensOf (bytes : List ℕ) (files : List (List ℕ)) (tokens : List Token) : Type 0 where
   pub answered : (names : List (List ℕ)) × (own : ℕ) × AreTokens names own bytes files tokens
   pub inside : All (IsInside (length bytes)) tokens

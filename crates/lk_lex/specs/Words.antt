@@ -46,9 +46,13 @@ spelling k.Complex = codes "_Complex"
 spelling k.Imaginary = codes "_Imaginary"
 
 abbrev pub keywords : List Keyword
-keywords = k.Auto ∷ k.Break ∷ k.Case ∷ k.Char ∷ k.Const ∷ k.Continue ∷ k.Default ∷ k.Do ∷ k.Double ∷ k.Else ∷ k.Enum ∷
-    k.Extern ∷ k.Float ∷ k.For ∷ k.Goto ∷ k.If ∷ k.Inline ∷ k.Int ∷ k.Long ∷ k.Register ∷ k.Restrict ∷ k.Return ∷
-    k.Short ∷ k.Signed ∷ k.Sizeof ∷ k.Static ∷ k.Struct ∷ k.Switch ∷ k.Typedef ∷ k.Union ∷ k.Unsigned ∷ k.Void ∷
+keywords =
+    k.Auto ∷ k.Break ∷ k.Case ∷ k.Char ∷ k.Const ∷ k.Continue ∷ k.Default ∷ k.Do ∷
+    k.Double ∷ k.Else ∷ k.Enum ∷
+    k.Extern ∷ k.Float ∷ k.For ∷ k.Goto ∷ k.If ∷ k.Inline ∷ k.Int ∷ k.Long ∷ k.Register ∷
+    k.Restrict ∷ k.Return ∷
+    k.Short ∷ k.Signed ∷ k.Sizeof ∷ k.Static ∷ k.Struct ∷ k.Switch ∷ k.Typedef ∷ k.Union ∷
+    k.Unsigned ∷ k.Void ∷
     k.Volatile ∷ k.While ∷ k.Bool ∷ k.Complex ∷ k.Imaginary ∷ []
 
 -- the keyword that a word is, where it is one
@@ -57,9 +61,11 @@ keyword_of text = find (λ keyword. bytes_eq text (spelling keyword)) keywords
 
 -- keywords of C99 for types that are left out, words of C11, and words of compilers
 abbrev pub unsupported_words : List (List ℕ)
-unsupported_words = codes "float" ∷ codes "double" ∷ codes "union" ∷ codes "_Complex" ∷ codes "_Imaginary" ∷ codes "_Atomic" ∷
+unsupported_words =
+    codes "float" ∷ codes "double" ∷ codes "union" ∷ codes "_Complex" ∷ codes "_Imaginary" ∷ codes "_Atomic" ∷
     codes "_Generic" ∷ codes "_Alignas" ∷ codes "_Alignof" ∷ codes "_Noreturn" ∷ codes "_Static_assert" ∷
-    codes "_Thread_local" ∷ codes "__thread" ∷ codes "__int128" ∷ codes "asm" ∷ codes "__asm" ∷ codes "__asm__" ∷
+    codes "_Thread_local" ∷ codes "__thread" ∷ codes "__int128" ∷ codes "asm" ∷
+    codes "__asm" ∷ codes "__asm__" ∷
     codes "typeof" ∷ codes "__typeof__" ∷ codes "__attribute__" ∷ codes "__extension__" ∷ codes "__restrict" ∷
     codes "__inline" ∷ []
 

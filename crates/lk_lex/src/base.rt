@@ -52,7 +52,8 @@ impl Base {
 
     /// The value of digits with one more digit behind them, where a `u64` holds it.
     fn longer(self, value: u64, digit: u8) -> Option<u64>
-        ensures { SomeIff result (value * radix self + digit_value digit < 2 ^ 64) (value * radix self + digit_value digit) }
+        ensures { SomeIff result (value * radix self + digit_value digit < 2 ^ 64)
+            (value * radix self + digit_value digit) }
     {
         value
             .checked_mul(self.radix())?

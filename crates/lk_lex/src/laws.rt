@@ -10,12 +10,14 @@ pub fn one_split()
     ensures answer { HasOneAnswer }
 {}
 
-/// Each word, number and punctuator is the longest that can stand at its place, and a word begins with no digit.
+/// Each word, number and punctuator is the longest that can stand at its place, and
+/// a word begins with no digit.
 pub fn longest_tokens()
     ensures { AreLongest }
 {}
 
-/// Nothing stands in front exactly where no blank, comment, line with `#`, word, number, quote or punctuator begins.
+/// Nothing stands in front exactly where no blank, comment, line with `#`, word,
+/// number, quote or punctuator begins.
 pub fn beginnings()
     ensures { NothingBegins }
 {}

@@ -32,12 +32,14 @@ pub use token::{Token, TokenKind};
 
 /// The tokens of a source `b` of at most 1,048,576 bytes, the last of which is `End`.
 ///
-/// The source has the number `own` in `files`. The names of its line marks are put into `files`, which has fewer than
-/// 2,147,483,648 names, in the order of the text, in case of a fault too. A refusal has the code `Byte` or
-/// `Token` at the place where the split stops, or else the code `UnsupportedWord` at the first word that is refused.
+/// The source has the number `own` in `files`. The names of its line marks are put into `files`, which
+/// has fewer than 2,147,483,648 names, in the order of the text, in case of a fault too. A refusal has
+/// the code `Byte` or `Token` at the place where the split stops, or else the code `UnsupportedWord` at
+/// the first word that is refused.
 ///
-/// By the law `one_split` a source has one answer but for want of memory. So these tokens come exactly where the source
-/// splits into them and no refused word is among them, and a refusal exactly where its clause says.
+/// By the law `one_split` a source has one answer but for want of memory. So these tokens come
+/// exactly where the source splits into them and no refused word is among them, and a refusal
+/// exactly where its clause says.
 pub fn tokens(alloc: Global, b: &[u8], own: u32, files: &mut Files) -> Result<Vec<Token>, Fault>
     requires few { length b.now ≤ 1048576 }
     requires names { length files.old < 2147483648 }

@@ -229,7 +229,8 @@ fn item_in_front(quotation: Quotation, bytes: &[u8]) -> Option<Item>
     }
 }
 
-/// How many bytes there are up to the closing quote and with it, where these bytes are characters and a quote.
+/// How many bytes there are up to the closing quote and with it, where these
+/// bytes are characters and a quote.
 pub fn quoted_len(quotation: Quotation, bytes: &[u8]) -> Option<usize>
     ensures value { result ≡ quoted_len quotation 0 bytes.now }
     ensures within { IfSome result (λ len. len ≤ length bytes.now) }

@@ -18,8 +18,8 @@ pub fn text_of<'a>(b: &'a [u8], token: &Token) -> &'a [u8]
     &b[token.from as usize..token.to as usize]
 }
 
-/// Puts the bytes that a string literal of the source `b` stands for at the end of `out`: escapes as their values, and no
-/// zero behind them. So the literals of one string are put there one after another.
+/// Puts the bytes that a string literal of the source `b` stands for at the end of `out`: escapes as their
+/// values, and no zero behind them. So the literals of one string are put there one after another.
 ///
 /// Where no memory is found, what was in `out` still stands in front.
 #[tactic(auto, unfolding(crate::specs::Texts::text_value))]

@@ -17,7 +17,9 @@ abbrev pub number_at : List (List ℕ × ℕ) → List ℕ → Option ℕ
 number_at entries name = lookup (pointwise nat_eq name) entries
 
 abbrev pub IsNumberPut : (old new : List (List ℕ × ℕ)) → List ℕ → ℕ → Type 0
-IsNumberPut old new name number = (other : List ℕ) → number_at new other ≡ (if pointwise nat_eq name other then Some number else number_at old other)
+IsNumberPut old new name number =
+    (other : List ℕ) → number_at new other
+    ≡ (if pointwise nat_eq name other then Some number else number_at old other)
 
 -- a number came to a name, of which the least is kept
 pub record IsNoted (old new : List (List ℕ × ℕ)) (name : List ℕ) (number : ℕ) : Type 0 where
@@ -30,12 +32,14 @@ pub record IsNoted (old new : List (List ℕ × ℕ)) (name : List ℕ) (number 
 
 -- of each name the least number that it has
 pub record AreLeast (Is : List ℕ → ℕ → Type 0) (entries : List (List ℕ × ℕ)) : Type 0 where
-  pub found : (name : List ℕ) (n : ℕ) → number_at entries name ≡ Some n → Is name n × ((m : ℕ) → Is name m → n ≤ m)
+  pub found : (name : List ℕ) (n : ℕ) → number_at entries name ≡ Some n →
+      Is name n × ((m : ℕ) → Is name m → n ≤ m)
   pub none : (name : List ℕ) → number_at entries name ≡ None → (m : ℕ) → Is name m → ⊥
 
 -- the entity of a source uses its name
 abbrev pub UsesIn : Entity → ℕ → List ℕ → ℕ → Type 0
-UsesIn entity source name number = (name ≡ entity.name) × (number ≡ source) × ((use_ : Use) × (entity.first_use ≡ Some use_))
+UsesIn entity source name number =
+    (name ≡ entity.name) × (number ≡ source) × ((use_ : Use) × (entity.first_use ≡ Some use_))
 
 -- of each name the first source that uses it
 abbrev pub AreUsers : Units → List (List ℕ × ℕ) → Type 0
@@ -47,16 +51,23 @@ AreListed names entries = AreLeast (λ name number. Contains names name × (numb
 
 -- the library has the name, or the list does
 abbrev pub IsListedElsewhere : (externs : List (List ℕ × ℕ)) → Entity → Type 0
-IsListedElsewhere externs entity = (library_function entity.name ≡ None → ⊥) ⊎ ((entity.kind ≡ Function) × (number_at externs entity.name ≡ None → ⊥))
+IsListedElsewhere externs entity =
+    (library_function entity.name ≡ None → ⊥)
+    ⊎ ((entity.kind ≡ Function) × (number_at externs entity.name ≡ None → ⊥))
 
 -- no source defines the name, no earlier one uses it, and nothing else has it
-pub record IsAbsent (group : List Site) (users externs : List (List ℕ × ℕ)) (source : ℕ) (entity : Entity) : Type 0 where
+pub record IsAbsent (group : List Site) (users externs : List (List ℕ × ℕ)) (source : ℕ)
+    (entity : Entity) : Type 0 where
   pub undefined : Any (λ site. IsDefining site.defines) group → ⊥
   pub first : (n : ℕ) → number_at users entity.name ≡ Some n → n < source → ⊥
   pub elsewhere : IsListedElsewhere externs entity → ⊥
 
 abbrev pub use_clash : ℕ → Entity → Use → Clash
-use_clash source entity use_ = record { source = source; ordinal = use_.ordinal; spot = use_.spot; code = NotDefined; name = entity.name }
+use_clash source entity use_ =
+    record { source = source; ordinal = use_.ordinal; spot = use_.spot; code = NotDefined; name = entity.name }
 
-abbrev pub IsAbsentAt : (group : List Site) (users externs : List (List ℕ × ℕ)) (source : ℕ) → Entity → Clash → Type 0
-IsAbsentAt group users externs source entity clash = (use_ : Use) × (entity.first_use ≡ Some use_) × IsAbsent group users externs source entity × (clash ≡ use_clash source entity use_)
+abbrev pub IsAbsentAt : (group : List Site) (users externs : List (List ℕ × ℕ)) (source : ℕ) →
+    Entity → Clash → Type 0
+IsAbsentAt group users externs source entity clash =
+    (use_ : Use) × (entity.first_use ≡ Some use_) × IsAbsent group users externs source entity
+    × (clash ≡ use_clash source entity use_)

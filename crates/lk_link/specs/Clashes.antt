@@ -30,14 +30,16 @@ HasMain units = Any (λ unit. Any IsMain unit.entities) units
 -- one clash is told before another: by the place of the source, the number of the node, and that of the code
 abbrev pub IsToldBefore : Clash → Clash → Type 0
 IsToldBefore a b =
-    ComesBefore a.source a.ordinal b.source b.ordinal ⊎ ((a.source ≡ b.source) × (a.ordinal ≡ b.ordinal) × (number_of a.code < number_of b.code))
+    ComesBefore a.source a.ordinal b.source b.ordinal
+    ⊎ ((a.source ≡ b.source) × (a.ordinal ≡ b.ordinal) × (number_of a.code < number_of b.code))
 
 -- one of these clashes, and none of them is told before it
 pub record IsFirstOf (clashes : List Clash) (first : Clash) : Type 0 where
   pub among : Contains clashes first
   pub first_is : All (λ other. IsToldBefore other first → ⊥) clashes
 
--- 63 of a function of internal linkage: it is used and its source doesn't define it; it stands at its first use (C99 6.9, 3)
+-- 63 of a function of internal linkage: it is used and its source doesn't define it; it stands
+-- at its first use (C99 6.9, 3)
 pub record IsMissingHere (entity : Entity) (clash : Clash) : Type 0 where
   pub named : entity.name ≡ clash.name
   pub internal : entity.linkage ≡ linkage.Internal
@@ -50,17 +52,21 @@ pub record IsMissingHere (entity : Entity) (clash : Clash) : Type 0 where
   pub code : clash.code ≡ NotDefined
 
 abbrev pub IsInsideSource : ℕ → List Entity → Clash → Type 0
-IsInsideSource source entities clash = (clash.source ≡ source) × Any (λ entity. IsMissingHere entity clash) entities
+IsInsideSource source entities clash =
+    (clash.source ≡ source) × Any (λ entity. IsMissingHere entity clash) entities
 
 abbrev pub IsMissingInside : Units → Clash → Type 0
-IsMissingInside units clash = (unit : TypedUnit) × (slice_get units clash.source ≡ Some unit) × Any (λ entity. IsMissingHere entity clash) unit.entities
+IsMissingInside units clash =
+    (unit : TypedUnit) × (slice_get units clash.source ≡ Some unit)
+    × Any (λ entity. IsMissingHere entity clash) unit.entities
 
 -- a list of clashes has those that it had, and these
 abbrev pub HaveGained : (old new : List Clash) → (Clash → Type 0) → Type 0
 HaveGained old new Is = (clash : Clash) → Contains new clash ↔ (Contains old clash ⊎ Is clash)
 
 module _ (units : Units) where
-  -- 61: an earlier source defines the name too (C99 6.9, 5); it stands at the first definition of the later source
+  -- 61: an earlier source defines the name too (C99 6.9, 5); it stands at the first
+  -- definition of the later source
   pub record IsDefinedTwice (clash : Clash) : Type 0 where
     pub earlier : ℕ
     pub before : earlier < clash.source
@@ -82,28 +88,34 @@ module _ (units : Units) where
     pub later : Declaration
     pub here : Declares units clash.source clash.name later
     pub before : ComesBefore other_source other.ordinal clash.source later.ordinal
-    pub differ : AreDeclaredAlike units (declared_type other_source other) (declared_type clash.source later) → ⊥
+    pub differ : AreDeclaredAlike units (declared_type other_source other)
+        (declared_type clash.source later) → ⊥
     pub ordinal : clash.ordinal ≡ later.ordinal
     pub spot : clash.spot ≡ later.spot
     pub code : clash.code ≡ TypesDiffer
 
-  -- 62: the library has a function of the name, with another type (C99 7.1.3, 7.1.4). What differs so at file scope is told before sources are put together
+  -- 62: the library has a function of the name, with another type (C99 7.1.3, 7.1.4). What differs so at file
+  -- scope is told before sources are put together
   pub record DiffersFromLibrary (clash : Clash) : Type 0 where
     pub function : LibraryFunction
     pub there : library_function clash.name ≡ Some function
     pub later : Declaration
     pub here : Declares units clash.source clash.name later
-    pub differ : (type : Ty) → Means (types_in units clash.source) later.ty type → is_redeclarable type (type_of_function function) ≡ true → ⊥
+    pub differ : (type : Ty) → Means (types_in units clash.source) later.ty type →
+        is_redeclarable type (type_of_function function) ≡ true → ⊥
     pub ordinal : clash.ordinal ≡ later.ordinal
     pub spot : clash.spot ≡ later.spot
     pub code : clash.code ≡ TypesDiffer
 
   module _ (externs : List (List ℕ)) where
-    -- the library has a function of this name (C99 7, POSIX pthread.h), or the list of extern functions names it
+    -- the library has a function of this name (C99 7, POSIX pthread.h), or the list
+    -- of extern functions names it
     abbrev pub IsElsewhere : List ℕ → Entity → Type 0
-    IsElsewhere name entity = (library_function name ≡ None → ⊥) ⊎ ((entity.kind ≡ Function) × Contains externs name)
+    IsElsewhere name entity =
+        (library_function name ≡ None → ⊥) ⊎ ((entity.kind ≡ Function) × Contains externs name)
 
-    -- 63: a name of external linkage is used that no source defines, nor anything else; it stands at its first use, in the order of the sources
+    -- 63: a name of external linkage is used that no source defines, nor anything else; it stands at its
+    -- first use, in the order of the sources
     pub record IsMissing (clash : Clash) : Type 0 where
       pub number : ℕ
       pub entity : Entity

@@ -25,13 +25,16 @@ pub record IsOfSides (first second : SideTable) (pair : StructPair) : Type 0 whe
   pub second_is : slice_get second.becomes b ≡ Some pair.second
 
 -- what is asked of pairs was answered, and the further ones are of these tables
-abbrev pub IsAnsweredHere : SideTable → SideTable → (old new : List StructPair) → (List StructPair → Type 0) → Bool → Type 0
+abbrev pub IsAnsweredHere : SideTable → SideTable → (old new : List StructPair) →
+    (List StructPair → Type 0) → Bool → Type 0
 IsAnsweredHere first second old new Asked answer = IsAnswered (IsOfSides first second) old new Asked answer
 
 module _ (first second : SideTable) (pairs : List StructPair) where
   -- structs of the two tables are one in the program, or are one of these pairs there
   abbrev pub AreOnePair : ℕ → ℕ → Type 0
-  AreOnePair a b = (pair : StructPair) × (slice_get first.becomes a ≡ Some pair.first) × (slice_get second.becomes b ≡ Some pair.second) ×
+  AreOnePair a b =
+      (pair : StructPair) × (slice_get first.becomes a ≡ Some pair.first)
+      × (slice_get second.becomes b ≡ Some pair.second) ×
       ((pair.first ≡ pair.second) ⊎ IsAmong pairs pair)
 
   module _ (rule : SizeRule) where
@@ -51,7 +54,8 @@ module _ (first second : SideTable) (pairs : List StructPair) where
     AreMadeAs (Pointer a) form = (b : ℕ) × (form ≡ Pointer b) × AreOneHere a b
     AreMadeAs (Array a n) form = (b m : ℕ) × (form ≡ Array b m) × HaveSizes rule n m × AreOneHere a b
     AreMadeAs (Struct a) form = (b : ℕ) × (form ≡ Struct b) × AreOnePair a b
-    AreMadeAs (Function a ps dots) form = (b : ℕ) × (qs : List ℕ) × (form ≡ Function b qs dots) × AreOneHere a b × AreAllOneHere ps qs
+    AreMadeAs (Function a ps dots) form =
+        (b : ℕ) × (qs : List ℕ) × (form ≡ Function b qs dots) × AreOneHere a b × AreAllOneHere ps qs
     AreMadeAs (Opaque n) form = form ≡ Opaque n
 
   -- members have one name and one type

@@ -14,10 +14,13 @@ type_at site = record { source = site.entity.source; number = site.ty }
 
 -- one declaration stands before the other, and has another type
 abbrev pub DiffersAt : Units → Site → Site → Type 0
-DiffersAt units other site = ComesBefore other.entity.source other.ordinal site.entity.source site.ordinal × (AreDeclaredAlike units (type_at other) (type_at site) → ⊥)
+DiffersAt units other site =
+    ComesBefore other.entity.source other.ordinal site.entity.source site.ordinal
+    × (AreDeclaredAlike units (type_at other) (type_at site) → ⊥)
 
 abbrev pub IsDifferent : Units → List Site → Site → Type 0
 IsDifferent units group site = Any (λ other. DiffersAt units other site) group
 
 abbrev pub IsDifferentAt : Units → List ℕ → List Site → Site → Clash → Type 0
-IsDifferentAt units name group site clash = IsDifferent units group site × (clash ≡ clash_of site TypesDiffer name)
+IsDifferentAt units name group site clash =
+    IsDifferent units group site × (clash ≡ clash_of site TypesDiffer name)

@@ -7,4 +7,5 @@ use Rattle.lk_typed.specs.declared.unit.TypedUnit.{TypedUnit}
 use Rattle.lk_link.specs.Sources.{IsSource}
 
 abbrev pub TypedUnitsAreSources : Type 0
-TypedUnitsAreSources = (externs : List Name) (unit : Unit) (typed : TypedUnit) → IsTypedUnit externs unit typed → IsSource typed
+TypedUnitsAreSources = (externs : List Name) (unit : Unit) (typed : TypedUnit) →
+    IsTypedUnit externs unit typed → IsSource typed

@@ -16,4 +16,5 @@ plain_tree (plain.Opaque n) = Opaque n
 
 -- a function that has a result and parameters of these types
 abbrev pub function_tree : Table → ℕ → List ℕ → Bool → Ty
-function_tree table result params dots = Function (meaning table result) (types_of (map (meaning table) params)) dots
+function_tree table result params dots =
+    Function (meaning table result) (types_of (map (meaning table) params)) dots

@@ -30,15 +30,18 @@ IsOfSome Is xs y = IsOfBelow (IsOfAt Is xs) (length xs) y
 
 -- the entity with this number has external linkage
 abbrev pub IsExternalAt : (source number : ℕ) → Entity → EntityOf → Type 0
-IsExternalAt source number entity at = (at ≡ record { source = source; number = number }) × (entity.linkage ≡ linkage.External)
+IsExternalAt source number entity at =
+    (at ≡ record { source = source; number = number }) × (entity.linkage ≡ linkage.External)
 
 -- an entity of a source, of external linkage
 abbrev pub IsExternalOf : (source : ℕ) → List Entity → EntityOf → Type 0
-IsExternalOf source entities at = IsOfBelow (λ i at. (entity : Entity) × (slice_get entities i ≡ Some entity) × IsExternalAt source i entity at) (length entities) at
+IsExternalOf source entities at =
+    IsOfBelow (λ i at. (entity : Entity) × (slice_get entities i ≡ Some entity) × IsExternalAt source i entity at) (length entities) at
 
 -- a declaration of an entity
 abbrev pub site_of : EntityOf → Declaration → Site
-site_of at declaration = record { entity = at; ordinal = declaration.ordinal; spot = declaration.spot; ty = declaration.ty; defines = declaration.defines }
+site_of at declaration =
+    record { entity = at; ordinal = declaration.ordinal; spot = declaration.spot; ty = declaration.ty; defines = declaration.defines }
 
 abbrev pub IsSiteAt : EntityOf → Declaration → Site → Type 0
 IsSiteAt at declaration site = site ≡ site_of at declaration
@@ -72,7 +75,9 @@ abbrev pub group_at : List (List ℕ × List Site) → List ℕ → List Site
 group_at entries name = unwrap_or (lookup (pointwise nat_eq name) entries) []
 
 abbrev pub IsPushedAt : (old new : List (List ℕ × List Site)) → List ℕ → Site → Type 0
-IsPushedAt old new name site = (other : List ℕ) → group_at new other ≡ (if pointwise nat_eq name other then group_at old other ++ site ∷ [] else group_at old other)
+IsPushedAt old new name site =
+    (other : List ℕ) → group_at new other
+    ≡ (if pointwise nat_eq name other then group_at old other ++ site ∷ [] else group_at old other)
 
 -- one declaration stands for another of the same name: in the same source, of the same type, and not later
 pub record StandsFor (site other : Site) : Type 0 where
@@ -84,11 +89,13 @@ pub record StandsFor (site other : Site) : Type 0 where
 -- each declaration that is kept of a name is one of these, and each of these has one that stands for it
 pub record AreGroups (Is : List ℕ → Site → Type 0) (entries : List (List ℕ × List Site)) : Type 0 where
   pub among : (name : List ℕ) (site : Site) → Contains (group_at entries name) site → Is name site
-  pub all : (name : List ℕ) (site : Site) → Is name site → Any (λ kept. StandsFor kept site) (group_at entries name)
+  pub all : (name : List ℕ) (site : Site) → Is name site →
+      Any (λ kept. StandsFor kept site) (group_at entries name)
 
 -- a declaration was put to the groups: in that of its name one stands for it
 pub record IsAdded (old new : List (List ℕ × List Site)) (name : List ℕ) (site : Site) : Type 0 where
-  pub among : (other : List ℕ) (x : Site) → Contains (group_at new other) x → Contains (group_at old other) x ⊎ ((other ≡ name) × (x ≡ site))
+  pub among : (other : List ℕ) (x : Site) → Contains (group_at new other) x →
+      Contains (group_at old other) x ⊎ ((other ≡ name) × (x ≡ site))
   pub kept : (other : List ℕ) (x : Site) → Contains (group_at old other) x → Contains (group_at new other) x
   pub covered : Any (λ kept. StandsFor kept site) (group_at new name)
 
@@ -108,7 +115,8 @@ abbrev pub IsDefinedEarlier : Site → Site → Type 0
 IsDefinedEarlier other site = (other.entity.source < site.entity.source) × IsDefining other.defines
 
 abbrev pub IsDefinedBefore : Site → Site → Type 0
-IsDefinedBefore other site = (other.entity.source ≡ site.entity.source) × (other.ordinal < site.ordinal) × IsDefining other.defines
+IsDefinedBefore other site =
+    (other.entity.source ≡ site.entity.source) × (other.ordinal < site.ordinal) × IsDefining other.defines
 
 -- the first declaration of its source that defines the name, which an earlier source defines too
 pub record IsAgain (group : List Site) (site : Site) : Type 0 where
@@ -118,7 +126,8 @@ pub record IsAgain (group : List Site) (site : Site) : Type 0 where
 
 -- a clash at a declaration
 abbrev pub clash_of : Site → Code → List ℕ → Clash
-clash_of site code name = record { source = site.entity.source; ordinal = site.ordinal; spot = site.spot; code = code; name = name }
+clash_of site code name =
+    record { source = site.entity.source; ordinal = site.ordinal; spot = site.spot; code = code; name = name }
 
 abbrev pub IsAgainAt : List ℕ → List Site → Site → Clash → Type 0
 IsAgainAt name group site clash = IsAgain group site × (clash ≡ clash_of site DefinedTwice name)

@@ -1,4 +1,5 @@
--- The names of several sources: who declares them, who defines them, and where they are used (C99 6.2.2, 6.9).
+-- The names of several sources: who declares them, who defines them, and where
+-- they are used (C99 6.2.2, 6.9).
 use Rattle.std.specs.Prelude.{◌≡◌, ◌<◌, ◌⊎◌, ℕ, List, Some, slice_get, ⊤, All, length}
 use Rattle.std.specs.List.{Any}
 use Rattle.lk_link.specs.EntityKinds.{HasOwnKind}
@@ -18,11 +19,13 @@ Units = List TypedUnit
 
 -- the types of all members of structs are in the table
 abbrev pub HasKnownMembers : Table → Type 0
-HasKnownMembers types = (s : ℕ) → s < length types.members → All (λ member. IsKnown types member.ty) (members_of types s)
+HasKnownMembers types = (s : ℕ) → s < length types.members →
+    All (λ member. IsKnown types member.ty) (members_of types s)
 
 -- the types of all declarations are in the table
 abbrev pub HasKnownDeclarations : Table → List Entity → Type 0
-HasKnownDeclarations types entities = All (λ entity. All (λ declaration. IsKnown types declaration.ty) entity.declarations) entities
+HasKnownDeclarations types entities =
+    All (λ entity. All (λ declaration. IsKnown types declaration.ty) entity.declarations) entities
 
 -- the types of all entities are in the table
 abbrev pub HasKnownTypes : Table → List Entity → Type 0
@@ -30,10 +33,12 @@ HasKnownTypes types entities = All (λ entity. IsKnown types entity.ty) entities
 
 -- each name of external linkage is one entity's (C99 6.2.2, 2)
 abbrev pub HaveOwnNames : List Entity → Type 0
-HaveOwnNames entities = (e f : ℕ) (a b : Entity) → slice_get entities e ≡ Some a → slice_get entities f ≡ Some b →
-    a.linkage ≡ linkage.External → b.linkage ≡ linkage.External → a.name ≡ b.name → e ≡ f
+HaveOwnNames entities = (e f : ℕ) (a b : Entity) → slice_get entities e ≡ Some a →
+    slice_get entities f ≡ Some b → a.linkage ≡ linkage.External → b.linkage ≡ linkage.External →
+    a.name ≡ b.name → e ≡ f
 
--- what a checked source has: each struct has an entry for its tag, what members, declarations and entities name are types of its table, and entities are functions or objects as their types say
+-- what a checked source has: each struct has an entry for its tag, what members, declarations and entities
+-- name are types of its table, and entities are functions or objects as their types say
 pub record IsSource (unit : TypedUnit) : Type 0 where
   pub tags : length unit.structs ≡ length unit.types.members
   pub members : HasKnownMembers unit.types

@@ -1,4 +1,5 @@
--- When structs of several sources are one, and so their types (C99 6.2.7). Structs compare by their tags and members, struct by struct; what finds no difference is a list of pairs that its own comparisons keep.
+-- When structs of several sources are one, and so their types (C99 6.2.7). Structs compare by their tags and
+-- members, struct by struct; what finds no difference is a list of pairs that its own comparisons keep.
 use Rattle.std.specs.Prelude.{◌≡◌, ◌⊎◌, ℕ, Bool, true, false, List, [], Option, Some, slice_get, unwrap_or, length, All}
 use Rattle.std.specs.List.{AllZip}
 use Rattle.std.specs.Option.{option_map, option_and_then}
@@ -58,15 +59,18 @@ module _ (units : Units) where
     pub incomplete : is_empty (members_in s) ≡ true
     pub by : IsFirstComplete t name
 
-  -- what a struct is in the program: an incomplete one of a tag at file scope is the first complete one of that tag, where there is one; each other is itself
+  -- what a struct is in the program: an incomplete one of a tag at file scope is the first complete one of
+  -- that tag, where there is one; each other is itself
   pub data Becomes (s : StructOf) : StructOf → Type 0 where
     completed : {t : StructOf} → IsCompletedBy s t → Becomes s t
     itself : ((t : StructOf) → IsCompletedBy s t → ⊥) → Becomes s s
 
   -- of each struct of a source what it is in the program
   pub record IsRowOf (source : ℕ) (row : List StructOf) : Type 0 where
-    pub whole : (unit : TypedUnit) → slice_get units source ≡ Some unit → length row ≡ length unit.types.members
-    pub each : (a : ℕ) (r : StructOf) → slice_get row a ≡ Some r → IsStruct units r × Becomes (struct_in source a) r
+    pub whole : (unit : TypedUnit) → slice_get units source ≡ Some unit →
+        length row ≡ length unit.types.members
+    pub each : (a : ℕ) (r : StructOf) → slice_get row a ≡ Some r →
+        IsStruct units r × Becomes (struct_in source a) r
 
   -- the same of each source
   pub record AreResolved (rows : List (List StructOf)) : Type 0 where
@@ -88,13 +92,17 @@ module _ (units : Units) where
     pub second : IsStruct units pair.second
 
   module _ (pairs : List StructPair) where
-    -- structs of a type of one source and of a type of another are one: they become the same struct, or become a pair of these
+    -- structs of a type of one source and of a type of another are one: they become the same
+    -- struct, or become a pair of these
     abbrev pub AreOneBy : (s z a b : ℕ) → Type 0
-    AreOneBy s z a b = (pair : StructPair) × Becomes (struct_in s a) pair.first × Becomes (struct_in z b) pair.second × ((pair.first ≡ pair.second) ⊎ IsAmong pairs pair)
+    AreOneBy s z a b =
+        (pair : StructPair) × Becomes (struct_in s a) pair.first × Becomes (struct_in z b) pair.second
+        × ((pair.first ≡ pair.second) ⊎ IsAmong pairs pair)
 
     -- types of two sources are one, where these pairs of structs are
     abbrev pub AreOneTypes : SizeRule → TypeOf → TypeOf → Type 0
-    AreOneTypes rule t u = AreOne rule (AreOneBy t.source u.source) (types_in t.source) (types_in u.source) t.number u.number
+    AreOneTypes rule t u =
+        AreOne rule (AreOneBy t.source u.source) (types_in t.source) (types_in u.source) t.number u.number
 
     abbrev type_of : ℕ → StructMember → TypeOf
     type_of source member = record { source = source; number = member.ty }
@@ -103,17 +111,20 @@ module _ (units : Units) where
     abbrev pub AreOneMember : (s z : ℕ) → StructMember → StructMember → Type 0
     AreOneMember s z a b = (a.name ≡ b.name) × AreOneTypes Same (type_of s a) (type_of z b)
 
-    -- two structs of different sources with one tag, or both without one, whose members are the same by name, order and type
+    -- two structs of different sources with one tag, or both without one, whose members are the
+    -- same by name, order and type
     pub record HasNoDifference (pair : StructPair) : Type 0 where
       pub apart : pair.first.source ≡ pair.second.source → ⊥
       pub tags : tag_name pair.first ≡ tag_name pair.second
-      pub members : AllZip (AreOneMember pair.first.source pair.second.source) (members_in pair.first) (members_in pair.second)
+      pub members : AllZip (AreOneMember pair.first.source pair.second.source) (members_in pair.first)
+          (members_in pair.second)
 
   -- pairs that their own comparisons keep
   abbrev pub AreKept : List StructPair → Type 0
   AreKept pairs = All (HasNoDifference pairs) pairs
 
-  -- what was asked of pairs was answered with all that their comparisons need: they are kept, or no list that has them is
+  -- what was asked of pairs was answered with all that their comparisons need: they are
+  -- kept, or no list that has them is
   pub record IsSettled (old new : List StructPair) (answer : Bool) : Type 0 where
     pub longer : IsLonger old new
     pub kept : answer ≡ true → AreKept new
@@ -121,7 +132,8 @@ module _ (units : Units) where
 
   -- no comparison finds a difference between two structs. Of one source a struct is one with itself alone
   abbrev pub IsNoDifference : StructPair → Type 0
-  IsNoDifference pair = (pair.first ≡ pair.second) ⊎ ((pairs : List StructPair) × AreKept pairs × IsAmong pairs pair)
+  IsNoDifference pair =
+      (pair.first ≡ pair.second) ⊎ ((pairs : List StructPair) × AreKept pairs × IsAmong pairs pair)
 
   -- two types are one but for absent sizes of arrays: what two declarations of a name are asked
   abbrev pub AreDeclaredAlike : TypeOf → TypeOf → Type 0

@@ -13,9 +13,13 @@ struct_at entries name = lookup (pointwise nat_eq name) entries
 
 -- a struct was put at a tag, unless one was there
 abbrev pub IsPutAt : (old new : List (List ℕ × StructOf)) → List ℕ → StructOf → Type 0
-IsPutAt old new name s = (other : List ℕ) → struct_at new other ≡ option_or (struct_at old other) (if pointwise nat_eq name other then Some s else None)
+IsPutAt old new name s =
+    (other : List ℕ) → struct_at new other
+    ≡ option_or (struct_at old other) (if pointwise nat_eq name other then Some s else None)
 
 -- the table has of each tag the first struct that completes it, among the structs before this one
 pub record AreFirsts (units : Units) (entries : List (List ℕ × StructOf)) (source number : ℕ) : Type 0 where
-  pub found : (name : List ℕ) (t : StructOf) → struct_at entries name ≡ Some t → IsFirstComplete units t name × IsStruct units t
-  pub none : (name : List ℕ) → struct_at entries name ≡ None → (u : StructOf) → IsComplete units u name → ComesBefore u.source u.number source number → ⊥
+  pub found : (name : List ℕ) (t : StructOf) → struct_at entries name ≡ Some t →
+      IsFirstComplete units t name × IsStruct units t
+  pub none : (name : List ℕ) → struct_at entries name ≡ None → (u : StructOf) → IsComplete units u name →
+      ComesBefore u.source u.number source number → ⊥

@@ -81,7 +81,8 @@ fn is_absent(group: &[Site], users: &Leasts, externs: &Leasts, source: u32, enti
     }
 }
 
-/// Puts an entity's clash to the others, where its source is the first that uses its name, and nothing defines it.
+/// Puts an entity's clash to the others, where its source is the first that uses its
+/// name, and nothing defines it.
 fn push_absent(
     group: &[Site],
     users: &Leasts,
@@ -134,8 +135,8 @@ fn clashes_of(
     Ok(clashes)
 }
 
-/// The clashes of names of external linkage that are used and that no source defines, nor the library, nor the list
-/// of extern functions: 63 each, at the first use (C99 6.9, 5).
+/// The clashes of names of external linkage that are used and that no source defines, nor the library, nor
+/// the list of extern functions: 63 each, at the first use (C99 6.9, 5).
 pub fn not_defined(
     alloc: Global,
     units: &[TypedUnit],

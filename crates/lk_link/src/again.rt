@@ -29,7 +29,8 @@ fn is_before(other: &Site, site: &Site) -> bool
         && defines(other.defines)
 }
 
-/// Whether a declaration is the first in its source that defines its name, and an earlier source defines it too.
+/// Whether a declaration is the first in its source that defines its name, and an
+/// earlier source defines it too.
 fn is_again(group: &[Site], site: &Site) -> bool
     ensures { IsTrue result ↔ IsAgain group.now site.now }
 {

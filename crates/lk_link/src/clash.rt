@@ -34,8 +34,8 @@ impl Clash {
     }
 }
 
-/// Whether one clash is told before another: by the place of the source, then the number of the node, then that of the
-/// code.
+/// Whether one clash is told before another: by the place of the source, then the number of the
+/// node, then that of the code.
 fn is_told_before(a: &Clash, b: &Clash) -> bool
     ensures { IsTrue result ↔ IsToldBefore a.now b.now }
 {

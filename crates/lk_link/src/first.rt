@@ -125,9 +125,9 @@ fn first_of(clashes: &[Clash]) -> Result<Option<Clash>, NoMemory>
     }
 }
 
-/// The clash that is told of the sources of a program, where `externs` has the names of extern functions: of the codes
-/// 61 to 63 the first by the place of the source, then the number of the node, then that of the code. Nothing where
-/// none of them holds.
+/// The clash that is told of the sources of a program, where `externs` has the names of extern functions: of
+/// the codes 61 to 63 the first by the place of the source, then the number of the node, then that of the
+/// code. Nothing where none of them holds.
 pub fn first_clash(
     alloc: Global,
     units: &[TypedUnit],

@@ -253,7 +253,8 @@ fn is_signature(
     requires result_known { IsKnown types.now result_type }
     requires params_known { All (IsKnown types.now) params.now }
     ensures { (row : spec.LibraryFunction) → rows_of function ≡ Some row →
-        result ≡ is_redeclarable (function_tree types.now result_type params.now dots) (spec.type_of_function row) }
+        result ≡ is_redeclarable (function_tree types.now result_type params.now dots)
+        (spec.type_of_function row) }
 {
     if dots != has_dots(function) || !is_result(types, result_type, function) {
         return false;

@@ -9,7 +9,8 @@ use lk_base::{Code, NoMemory};
 use lk_typed::{Entity, EntityKind, Linkage, TypedUnit};
 use std::alloc::Global;
 
-/// The clash of an entity of a source, where it is a function of internal linkage that is used and not defined there.
+/// The clash of an entity of a source, where it is a function of internal linkage that
+/// is used and not defined there.
 fn missing_here(source: u32, entity: &Entity) -> Result<Option<Clash>, NoMemory>
     ensures { IfOk result (λ found. (clash : Clash) →
         (found ≡ Some clash) ↔ ((clash.source ≡ source) × IsMissingHere entity.now clash)) }
@@ -62,7 +63,8 @@ fn push_missing(source: u32, entities: &[Entity], clashes: &mut Vec<Clash>) -> R
     Ok(())
 }
 
-/// The clashes of functions of internal linkage that their source uses and doesn't define: 63 each (C99 6.9, 3).
+/// The clashes of functions of internal linkage that their source uses and doesn't
+/// define: 63 each (C99 6.9, 3).
 pub fn missing_inside(alloc: Global, units: &[TypedUnit]) -> Result<Vec<Clash>, NoMemory>
     requires { length units.now < 2 ^ 32 }
     ensures { IfOk result (λ clashes. (clash : Clash) →

@@ -48,8 +48,8 @@ fn side_of<'a>(units: &'a [TypedUnit], becomes: &'a [Seq<StructOf>], source: u32
     Side::new(types, becomes[source as usize].list())
 }
 
-/// Whether a comparison finds no difference between two structs. Pairs of structs on which that depends are put to the
-/// others.
+/// Whether a comparison finds no difference between two structs. Pairs of structs on which that
+/// depends are put to the others.
 fn compare_pair(
     units: &[TypedUnit],
     becomes: &[Seq<StructOf>],
@@ -98,10 +98,12 @@ fn settle(
     Ok(true)
 }
 
-/// Whether two structs are the same, or stand in different sources and a comparison finds no difference between them: by
-/// tag, and by the names, order and types of their members, struct by struct. Such structs are one in the program.
+/// Whether two structs are the same, or stand in different sources and a comparison finds no difference
+/// between them: by tag, and by the names, order and types of their members, struct by struct. Such
+/// structs are one in the program.
 ///
-/// `becomes` tells of each struct of each source what it is in the program, as `resolve` gives it; both are such.
+/// `becomes` tells of each struct of each source what it is in the program, as
+/// `resolve` gives it; both are such.
 pub fn have_no_difference(
     alloc: Global,
     units: &[TypedUnit],
@@ -122,8 +124,8 @@ pub fn have_no_difference(
     Ok(answer)
 }
 
-/// Whether two types of sources are one but for absent sizes of arrays, as two declarations of one name have to be
-/// (C99 6.2.7). Structs of different sources are compared by their tags and members, struct by struct.
+/// Whether two types of sources are one but for absent sizes of arrays, as two declarations of one name have
+/// to be (C99 6.2.7). Structs of different sources are compared by their tags and members, struct by struct.
 ///
 /// `becomes` tells of each struct of each source what it is in the program, as `resolve` gives it.
 pub fn are_declared_alike(

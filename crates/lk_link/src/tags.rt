@@ -160,8 +160,9 @@ impl Tags {
     }
 }
 
-/// Of each struct of each source what it is in the program: an incomplete one of a tag at file scope is the first that
-/// completes this tag at file scope, in the order of the sources, and each other is itself (C99 6.2.7).
+/// Of each struct of each source what it is in the program: an incomplete one of a tag at file
+/// scope is the first that completes this tag at file scope, in the order of the sources, and each
+/// other is itself (C99 6.2.7).
 pub fn resolve(alloc: Global, units: &[TypedUnit]) -> Result<Vec<Seq<StructOf>>, NoMemory>
     requires sources { AreSources units.now }
     requires few { length units.now < 2 ^ 32 }

@@ -1,4 +1,5 @@
--- The links of a program: each point's ways into functions, whose items rise to that of the point (C99 6.5.2.2, POSIX pthread_create).
+-- The links of a program: each point's ways into functions, whose items rise to that of the point
+-- (C99 6.5.2.2, POSIX pthread_create).
 use Rattle.std.specs.Prelude.{◌≡◌, ◌<◌, ◌||◌, ℕ, Bool, List, [], All, Contains, length, slice_index_or}
 use Rattle.lk_facts.specs.Basis.{Basis}
 use Rattle.lk_facts.specs.Items.{Rises}
@@ -28,7 +29,8 @@ module _ (basis : Basis) where
   -- the links by which items rise at the point: there is one for each way in which they do so, and none twice
   pub record AreLinksAt (p : ℕ) (links : List Link) : Type 0 where
     pub each : All (IsLink p) links
-    pub all : (f g : ℕ) (way : Way) (child above : Bool) → Rises basis p f way g child above → (link : Link) × Contains links link × IsBy f way g child above link
+    pub all : (f g : ℕ) (way : Way) (child above : Bool) → Rises basis p f way g child above →
+        (link : Link) × Contains links link × IsBy f way g child above link
     pub once : AreDifferent links
 
   -- for each point its links

@@ -13,7 +13,8 @@ use Rattle.lk_facts.specs.declared.way.Way.TheVariants.{AsValue}
 use Rattle.lk_links.specs.declared.link.Link.{Link}
 
 abbrev pub link_with : (point above below : ℕ) → Way → (starts : Bool) → Link
-link_with point above below way starts = record { point = point; above = above; below = below; way = way; starts = starts }
+link_with point above below way starts =
+    record { point = point; above = above; below = below; way = way; starts = starts }
 
 -- what goes into g by its number: it starts a thread there, or runs it
 abbrev pub entering : Bool → ℕ → Effect
@@ -22,7 +23,8 @@ entering false g = Runs g
 
 -- the link of a call through a pointer to g: none where g isn't used as a value
 abbrev pub value_link : Program → (point above below : ℕ) → Option Link
-value_link program point above below = option_map (λ i. link_with point above below (AsValue i) false) (value_site_of program below)
+value_link program point above below =
+    option_map (λ i. link_with point above below (AsValue i) false) (value_site_of program below)
 
 module _ (basis : Basis) where
   -- the function that the label names

@@ -20,7 +20,8 @@ IsOneIfOnly P found = MatchOption found ((x : ℕ) → IsOnly P x → ⊥) (IsOn
 abbrev pub IsSome : (ℕ → Type 0) → Option ℕ → Type 0
 IsSome P found = MatchOption found ((x : ℕ) → P x → ⊥) P
 
--- the labels outside that x inside may be by what crosses the site: through a value's own site all origins of these
+-- the labels outside that x inside may be by what crosses the site: through a value's
+-- own site all origins of these
 abbrev pub crossing_list : OriginTable → Way → ℕ → List ℕ
 crossing_list origins (Through i) x = cross_of origins i x
 crossing_list origins (AsValue i) x = flat_map (row_of origins.all) (cross_of origins i x)

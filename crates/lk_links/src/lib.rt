@@ -1,5 +1,5 @@
-//! What rises from functions to those that run or start them: the links of calls and creations, and what labels and locks
-//! inside a function are outside it.
+//! What rises from functions to those that run or start them: the links of calls and creations, and what
+//! labels and locks inside a function are outside it.
 #![tactic(auto)]
 
 mod link;

@@ -2,7 +2,8 @@
 
 use lk_facts::Way;
 
-/// A way from a point into a function: a call or creation, or one of the functions that a call through a pointer may run.
+/// A way from a point into a function: a call or creation, or one of the functions that a
+/// call through a pointer may run.
 #[derive(Clone, Copy)]
 pub struct Link {
     /// The point.

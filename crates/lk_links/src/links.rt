@@ -33,8 +33,9 @@ impl Model for Links {
 }
 
 impl Links {
-    /// The links of all points: one for a live call or creation of a function by its number, and for a live call through
-    /// a pointer one for each function that the operand may point to and that is used as a value.
+    /// The links of all points: one for a live call or creation of a function by its number,
+    /// and for a live call through a pointer one for each function that the operand may point
+    /// to and that is used as a value.
     pub fn new(alloc: Global, facts: &Facts<'_>) -> Result<Links, NoMemory>
         ensures { IfOk result (AreLinks (basis_of facts.now)) }
     {

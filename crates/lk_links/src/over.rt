@@ -1,5 +1,5 @@
-//! What a label inside a function is to whoever goes into it, and what a lock set holds for a lock. Labels are given by
-//! their numbers.
+//! What a label inside a function is to whoever goes into it, and what a lock set holds for a lock.
+//! Labels are given by their numbers.
 ghost use Rattle.std.specs.Prelude.{◌≡◌, ◌<◌, ◌++◌, ℕ, true, ◌↔◌, IsTrue, IfSome, IfOk, OnOk, All, length};
 ghost use Rattle.std.specs.List.{flat_map};
 ghost use Rattle.lk_facts.specs.Flow.{IsOnly, Over, IsHeldAs, RisesAs, Clash};
@@ -201,8 +201,8 @@ fn push_rows(rows: &BitRows, labels: &[u32], ids: &mut Vec<u32>) -> Result<(), N
     Ok(())
 }
 
-/// Puts all labels that x inside may be outside behind the numbers. One that it may be in several ways is put there as
-/// often.
+/// Puts all labels that x inside may be outside behind the numbers. One that it may be in
+/// several ways is put there as often.
 pub fn push_over(facts: &Facts<'_>, way: &Way, x: u32, ids: &mut Vec<u32>) -> Result<(), NoMemory>
     requires { x < length facts.now.labels.entries }
     ensures { OnOk result (ids.new.items ≡ ids.old.items ++ over_list facts.now.origins way.now x) }

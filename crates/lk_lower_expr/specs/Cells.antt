@@ -19,11 +19,13 @@ nodes_here table t = if nat_lt t (length table.types) then nodes_of table t else
 abbrev pub further : ℕ → ℕ → ℕ
 further number count = min (number + count) 4294967295
 
--- the member k of these, of which the first has the number, and each as many as its type has nodes; `of` where there is none
+-- the member k of these, of which the first has the number, and each as many as its type has
+-- nodes; `of` where there is none
 abbrev pub member_at : Table → PartOf → (number : ℕ) → List StructMember → (k : ℕ) → PartOf
 member_at table of number [] k = of
 member_at table of number (member ∷ others) zero = record { ty = member.ty; number = number }
-member_at table of number (member ∷ others) (suc k) = member_at table of (further number (nodes_here table member.ty)) others k
+member_at table of number (member ∷ others) (suc k) =
+    member_at table of (further number (nodes_here table member.ty)) others k
 
 -- the elements of an array, which are one part; the part itself where it is none
 abbrev pub element_of : PartOf → CType → PartOf
@@ -63,4 +65,5 @@ inside_all table of (step ∷ path) = inside_all table (inside table of step) pa
 
 -- the node to which the steps to a cell of an object of the type lead
 abbrev pub cell_node : Table → (ty : ℕ) → List CellStep → NodeId
-cell_node table ty path = record { base = Start ty; number = (inside_all table (record { ty = ty; number = 0 }) path).number }
+cell_node table ty path =
+    record { base = Start ty; number = (inside_all table (record { ty = ty; number = 0 }) path).number }

@@ -37,12 +37,15 @@ abbrev pub compound_count : (place computed : ℕ) → ℕ
 compound_count place computed = if nat_eq place computed then 3 else 5
 
 abbrev pub step_count : CType → (place computed : ℕ) → ℕ
-step_count form place computed = if nat_eq place computed then (if is_pointer form || nat_eq computed (kind_id IntKind) then 4 else 5) else 6
+step_count form place computed =
+    if nat_eq place computed
+    then (if is_pointer form || nat_eq computed (kind_id IntKind) then 4 else 5) else 6
 
 -- how many of these expressions are of type `char *`
 abbrev pub text_count : Table → List TypedExpr → ℕ
 text_count table [] = 0
-text_count table (e ∷ others) = if is_text (type_at table e.ty) then suc (text_count table others) else text_count table others
+text_count table (e ∷ others) = if is_text (type_at table e.ty) then suc (text_count table others)
+    else text_count table others
 
 -- ---- which step gives the value
 
@@ -54,7 +57,9 @@ compound_step place computed = if nat_eq place computed then 1 else 3
 
 -- the step that is written
 abbrev pub written_step : CType → (place computed : ℕ) → ℕ
-written_step form place computed = if nat_eq place computed then (if is_pointer form || nat_eq computed (kind_id IntKind) then 2 else 3) else 4
+written_step form place computed =
+    if nat_eq place computed
+    then (if is_pointer form || nat_eq computed (kind_id IntKind) then 2 else 3) else 4
 
 abbrev pub changed_step : Change → CType → (place computed : ℕ) → ℕ
 changed_step After form place computed = 0

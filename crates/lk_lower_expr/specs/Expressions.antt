@@ -24,7 +24,8 @@ module _ (names : Names) where
   of_library (LibraryCall-F.Join a) node = calls.on_one names node does.Join a
   of_library (LibraryCall-F.Detach a) node = calls.on_one names node does.Detach a
   of_library (LibraryCall-F.ExitThread a) node = calls.exit_thread_part names node a
-  of_library LibraryCall-F.SelfId node = parts.then_one names node [] does.SelfId (parts.value_of names node.type)
+  of_library LibraryCall-F.SelfId node =
+      parts.then_one names node [] does.SelfId (parts.value_of names node.type)
   of_library (LibraryCall-F.Equal a b) node = calls.equal_part names node a b
   of_library (LibraryCall-F.Init a) node = calls.on_one names node does.Init a
   of_library (LibraryCall-F.Destroy a) node = calls.on_one names node does.Destroy a

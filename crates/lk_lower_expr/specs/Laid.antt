@@ -11,7 +11,8 @@ named node step is = record { node = node; step = step; is = is }
 -- the steps of a node from the step `from` on, at the end of others
 abbrev pub laid_from : (node from : ℕ) → List Step → List NamedStep → List NamedStep
 laid_from node from [] others = others
-laid_from node from (is ∷ steps) others = laid_from node (suc from) steps (others ++ (named node from is ∷ []))
+laid_from node from (is ∷ steps) others =
+    laid_from node (suc from) steps (others ++ (named node from is ∷ []))
 
 -- the steps of a walk at the end of others, what stands last in it before the rest
 abbrev pub laid : Walk → List NamedStep → List NamedStep

@@ -1,4 +1,5 @@
--- The steps of calls: of functions of the program, of the library (C99 7, POSIX pthread.h), and of functions that the sources don't define.
+-- The steps of calls: of functions of the program, of the library (C99 7, POSIX pthread.h), and of functions
+-- that the sources don't define.
 use Rattle.std.specs.Prelude.{ℕ, Bool, true, false, List, [], ◌∷◌, length, Option, None, Some, nat_eq, if◌then◌else◌, suc}
 use Rattle.lk_facts.specs.declared.action.Action.{Action}
 use Rattle.lk_facts.specs.declared.action.Action.TheVariants as does
@@ -51,7 +52,8 @@ module _ (names : Names) where
   abbrev touches_nothing : Node → List Part → Action
   touches_nothing node args = does.Compute (values args) (names.type node.type) false
 
-  -- a function that `--externs` names: where a source of the program defines it that one is called, else it touches nothing
+  -- a function that `--externs` names: where a source of the program defines it that one is
+  -- called, else it touches nothing
   abbrev pub extern_action : Bool → Node → ℕ → List Part → Action
   extern_action true node entity args = does.Call (names.function entity) (values args)
   extern_action false node entity args = touches_nothing node args
@@ -70,13 +72,19 @@ module _ (names : Names) where
   -- `pthread_create`: the thread, and then the store of its id unless there is none
   abbrev pub create_part : Node → Part → ℕ → Part → Part
   create_part node id entity argument = parts.computes names node (id ∷ argument ∷ []) 2 (λ on.
-      record { does = does.Create (names.function entity) argument.value; gives = parts.value_of names node.type; next = at node.ordinal 1 ∷ on ∷ []; spot = node.spot } ∷
+      record {
+        does = does.Create (names.function entity) argument.value;
+        gives = parts.value_of names node.type;
+        next = at node.ordinal 1 ∷ on ∷ [];
+        spot = node.spot;
+      } ∷
       step (does.StoreId id.value) None id.node.spot on ∷ [])
 
   -- `pthread_cond_wait`: the mutex is released and then taken again
   abbrev pub wait_part : Node → Part → Part → Part
   wait_part node cond mutex = parts.computes names node (cond ∷ mutex ∷ []) 2 (λ on.
-      step (does.Release cond.value mutex.value) (parts.value_of names node.type) node.spot (at node.ordinal 1) ∷
+      step (does.Release cond.value mutex.value) (parts.value_of names node.type) node.spot
+      (at node.ordinal 1) ∷
       step (does.Retake mutex.value) None node.spot on ∷ [])
 
   abbrev pub count_of : Option Part → List Part
@@ -90,14 +98,16 @@ module _ (names : Names) where
   -- `malloc` and `calloc`: only the count is computed
   abbrev pub allocate_part : Node → ℕ → Option Part → Bool → Part
   allocate_part node t count zeroed =
-      does_one node (count_of count) (does.Allocate (names.type t) (value_of_count count) zeroed (names.heap node.ordinal))
+      does_one node (count_of count)
+      (does.Allocate (names.type t) (value_of_count count) zeroed (names.heap node.ordinal))
 
   -- a read of the text to which the operand points; it stands where the operand does
   abbrev pub scan : Part → Option ℕ → ℕ → Step
   scan a gives on = step (does.Scan a.value) gives a.node.spot on
 
   abbrev pub scan_part : Node → Part → Part
-  scan_part node a = parts.computes names node (a ∷ []) 1 (λ on. scan a (parts.value_of names node.type) on ∷ [])
+  scan_part node a =
+      parts.computes names node (a ∷ []) 1 (λ on. scan a (parts.value_of names node.type) on ∷ [])
 
   -- those operands of `printf` that are read as texts
   abbrev pub texts_of : List Part → List Part
@@ -116,15 +126,18 @@ module _ (names : Names) where
 
   -- `printf`: the format is read, and then each later argument of type `char *` (C99 7.19.6.1)
   abbrev pub print_part : Node → Part → List Part → Part
-  print_part node format args = parts.computes names node (format ∷ args) (suc (length (texts_of args))) (λ on.
-      scan format (parts.value_of names node.type) (on_to node 1 (texts_of args) on) ∷ scans node 1 (texts_of args) on)
+  print_part node format args =
+      parts.computes names node (format ∷ args) (suc (length (texts_of args))) (λ on.
+      scan format (parts.value_of names node.type) (on_to node 1 (texts_of args) on) ∷
+      scans node 1 (texts_of args) on)
 
   -- a call of the library that touches nothing
   abbrev pub compute_part : Node → List Part → Part
   compute_part node args = does_one node args (touches_nothing node args)
 
   abbrev pub equal_part : Node → Part → Part → Part
-  equal_part node a b = does_one node (a ∷ b ∷ []) (does.Compute (a.value ∷ b.value ∷ []) (names.type node.type) true)
+  equal_part node a b =
+      does_one node (a ∷ b ∷ []) (does.Compute (a.value ∷ b.value ∷ []) (names.type node.type) true)
 
   abbrev pub exit_thread_part : Node → Part → Part
   exit_thread_part node a = ends node (a ∷ []) does.ExitThread

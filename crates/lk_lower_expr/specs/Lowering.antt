@@ -1,4 +1,5 @@
--- The program that checked sources become: its functions, roots, slots and points. Each has its number from the node to which it belongs: in the order of the sources, of the nodes, and of the steps.
+-- The program that checked sources become: its functions, roots, slots and points. Each has its number from
+-- the node to which it belongs: in the order of the sources, of the nodes, and of the steps.
 use Rattle.std.specs.Prelude.{◌≡◌, ◌<◌, ◌≤◌, ◌+◌, ℕ, suc, nat_eq, Bool, true, false, List, [], ◌∷◌, Option, None, Some, length, slice_get, get_or, if◌then◌else◌}
 use Rattle.std.specs.List.{Contains, find}
 use Rattle.std.specs.Option.{is_some, option_map_or, option_and_then, option_or}
@@ -36,11 +37,13 @@ pub data ComesBefore : (s o k t p l : ℕ) → Type 0 where
   node : {s o k p l : ℕ} → o < p → ComesBefore s o k s p l
   step : {s o k l : ℕ} → k < l → ComesBefore s o k s o l
 
--- `number` counts from `first` on those (source, node, step) of which Has holds, in their order; they are `count`
+-- `number` counts from `first` on those (source, node, step) of which Has holds, in
+-- their order; they are `count`
 pub record Counts (Has : (s o k : ℕ) → Type 0) (first count : ℕ) (number : ℕ → ℕ → ℕ → ℕ) : Type 0 where
   pub least : (s o k : ℕ) → Has s o k → first ≤ number s o k
   pub below : (s o k : ℕ) → Has s o k → number s o k < first + count
-  pub rising : (s o k t p l : ℕ) → Has s o k → Has t p l → ComesBefore s o k t p l → number s o k < number t p l
+  pub rising : (s o k t p l : ℕ) → Has s o k → Has t p l → ComesBefore s o k t p l →
+      number s o k < number t p l
   pub onto : (n : ℕ) → n < count → (s : ℕ) × (o : ℕ) × (k : ℕ) × Has s o k × (number s o k ≡ first + n)
 
 -- the numbers that nodes of the sources have in the program
@@ -66,9 +69,12 @@ is_tentative Nothing = false
 is_tentative Tentative = true
 is_tentative WholeDefinition = false
 
--- of several declarations the one with a body or an initialiser counts, else the first tentative definition, else the first (C99 6.9, 5; 6.9.2, 2)
+-- of several declarations the one with a body or an initialiser counts, else the first tentative definition,
+-- else the first (C99 6.9, 5; 6.9.2, 2)
 abbrev pub counted_among : List Declaration → Option Declaration
-counted_among list = option_or (find (λ is. is_whole is.defines) list) (option_or (find (λ is. is_tentative is.defines) list) (slice_get list 0))
+counted_among list =
+    option_or (find (λ is. is_whole is.defines) list)
+    (option_or (find (λ is. is_tentative is.defines) list) (slice_get list 0))
 
 abbrev pub declaration_of : Entity → Option Declaration
 declaration_of entity = counted_among entity.declarations
@@ -96,19 +102,24 @@ module _ (whole : Whole) (numbers : Numbers) where
 
   -- the source that defines an entity of the program, and its entity there
   abbrev pub definition_of : (s e : ℕ) → Option (ℕ × ℕ)
-  definition_of s e = option_and_then (λ here. here.defined) (option_and_then (λ linked. entity_here linked e) (linked_at s))
+  definition_of s e =
+      option_and_then (λ here. here.defined) (option_and_then (λ linked. entity_here linked e) (linked_at s))
 
   abbrev pub root_of_entity : Option (ℕ × ℕ) → ℕ
   root_of_entity None = 0
-  root_of_entity (Some (s, e)) = option_map_or (λ declaration. numbers.root s declaration.ordinal) (option_and_then declaration_of (entity_at s e)) 0
+  root_of_entity (Some (s, e)) =
+      option_map_or (λ declaration. numbers.root s declaration.ordinal)
+      (option_and_then declaration_of (entity_at s e)) 0
 
   abbrev pub object_root : (s : ℕ) → List Local → Storage → ℕ
   object_root s locals (storage.Entity e) = root_of_entity (definition_of s e)
-  object_root s locals (storage.Local l) = option_map_or (λ local. numbers.root s local.ordinal) (slice_get locals l) 0
+  object_root s locals (storage.Local l) =
+      option_map_or (λ local. numbers.root s local.ordinal) (slice_get locals l) 0
 
   abbrev pub function_of : Option (ℕ × ℕ) → ℕ
   function_of None = 0
-  function_of (Some (s, e)) = numbers.function s (option_map_or (λ linked. place_in (is_body_of e) linked.unit.bodies) (linked_at s) 0)
+  function_of (Some (s, e)) =
+      numbers.function s (option_map_or (λ linked. place_in (is_body_of e) linked.unit.bodies) (linked_at s) 0)
 
   abbrev no_place : Spot
   no_place = record { file = 0; line = 0; col = 0 }
@@ -140,27 +151,34 @@ module _ (whole : Whole) (numbers : Numbers) where
 
   -- ---- points
 
-  -- the place of a cell of a local, by the steps to it: its root, and the node to which they lead with indices forgotten
+  -- the place of a cell of a local, by the steps to it: its root, and the node to which
+  -- they lead with indices forgotten
   abbrev pub place_in_body : (s : ℕ) → Linked → List Local → ℕ → List CellStep → Place
   place_in_body s linked locals l path =
-      option_map_or (λ local. record { root = numbers.root s local.ordinal; node = numbers.node (get_or linked.types local.ty 0) path }) (slice_get locals l)
+      option_map_or (λ local. record {
+        root = numbers.root s local.ordinal;
+        node = numbers.node (get_or linked.types local.ty 0) path;
+      }) (slice_get locals l)
       (record { root = 0; node = numbers.node 0 [] })
 
   abbrev declared_at : Option Declaration → ℕ → Node
   declared_at None t = record { ordinal = 0; spot = no_place; type = t }
   declared_at (Some is) t = record { ordinal = is.ordinal; spot = is.spot; type = t }
 
-  -- the function that the points of an initialiser of static storage stand in: none, which is written as the number of functions
+  -- the function that the points of an initialiser of static storage stand in: none, which is
+  -- written as the number of functions
   abbrev pub no_function : Program → ℕ
   no_function program = length program.functions
 
-  -- a step of a body, or of the initialiser of an object of static storage, with the function in which it stands
+  -- a step of a body, or of the initialiser of an object of static storage, with
+  -- the function in which it stands
   pub data StandsIn (program : Program) (s o k : ℕ) (is : Step) : (function : ℕ) → Type 0 where
-    of_body : (linked : Linked) (b : ℕ) (body : Body) → linked_at s ≡ Some linked → slice_get linked.unit.bodies b ≡ Some body →
-        IsStep o k is (body_walk (names_in s linked body.locals) (place_in_body s linked body.locals) body.ordinal body.spot body.block) →
-        StandsIn program s o k is (numbers.function s b)
-    of_static : (linked : Linked) (object : StaticObject) (entity : Entity) → linked_at s ≡ Some linked → Contains linked.unit.objects object →
-        slice_get linked.unit.entities object.entity ≡ Some entity →
+    of_body : (linked : Linked) (b : ℕ) (body : Body) → linked_at s ≡ Some linked →
+        slice_get linked.unit.bodies b ≡ Some body →
+        IsStep o k is (body_walk (names_in s linked body.locals) (place_in_body s linked body.locals)
+        body.ordinal body.spot body.block) → StandsIn program s o k is (numbers.function s b)
+    of_static : (linked : Linked) (object : StaticObject) (entity : Entity) → linked_at s ≡ Some linked →
+        Contains linked.unit.objects object → slice_get linked.unit.entities object.entity ≡ Some entity →
         IsStep o k is (static_walk (names_in s linked []) (record { ordinal = object.ordinal; spot = object.spot; type = entity.ty })
         (object_root s [] (storage.Entity object.entity)) object.parts) →
         StandsIn program s o k is (no_function program)
@@ -181,4 +199,5 @@ module _ (whole : Whole) (numbers : Numbers) where
   -- the points are the steps, in the order of the sources, of the nodes and of the steps
   pub record ArePoints (program : Program) : Type 0 where
     pub order : Counts (HasStep program) 0 (length program.points) numbers.point
-    pub each : (s o k : ℕ) (is : Step) (function : ℕ) → StandsIn program s o k is function → IsPointOf program (numbers.point s o k) is function
+    pub each : (s o k : ℕ) (is : Step) (function : ℕ) → StandsIn program s o k is function →
+        IsPointOf program (numbers.point s o k) is function

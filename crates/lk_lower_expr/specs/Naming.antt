@@ -50,7 +50,8 @@ part_type table t (Index i) = element_of (type_at table t) t
 
 -- a local of the body, and what stands for one past the last of them
 abbrev pub no_local : LocalNames
-no_local = record { ordinal = 0; spot = record { file = 0; line = 0; col = 0 }; ty = 0; is_slot = false; number = 0 }
+no_local =
+    record { ordinal = 0; spot = record { file = 0; line = 0; col = 0 }; ty = 0; is_slot = false; number = 0 }
 
 abbrev pub local_of : List LocalNames → ℕ → LocalNames
 local_of locals n = get_or locals n no_local

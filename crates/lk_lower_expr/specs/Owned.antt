@@ -1,4 +1,5 @@
--- The nodes of a body that have an object or a slot of their own: texts, allocations, and expressions whose value comes on several ways.
+-- The nodes of a body that have an object or a slot of their own: texts, allocations, and expressions whose
+-- value comes on several ways.
 use Rattle.std.specs.Prelude.{ℕ, Bool, true, false, List, [], ◌∷◌, ◌++◌, Option, None, Some}
 use Rattle.lk_lower_expr.specs.Names.{Node}
 use Rattle.lk_typed.specs.declared.expression.Callee.TheFolds.{fold-TypedExpr}
@@ -74,7 +75,8 @@ module _ (form : ℕ → CType) where
   of_library (LibraryCall-F.Unlock a) node = a
   of_library (LibraryCall-F.Signal a) node = a
   of_library (LibraryCall-F.Wait cond mutex) node = cond ++ mutex
-  of_library (LibraryCall-F.Allocate t count zeroed) node = allocation node t (is_one count) ∷ of_optional count
+  of_library (LibraryCall-F.Allocate t count zeroed) node =
+      allocation node t (is_one count) ∷ of_optional count
   of_library (LibraryCall-F.Free a) node = a
   of_library (LibraryCall-F.Exit status) node = of_optional status
   of_library (LibraryCall-F.Scan a) node = a

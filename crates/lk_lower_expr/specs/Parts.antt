@@ -1,4 +1,5 @@
--- How expressions are put together from the steps of their operands (C99 5.1.2.3, 6.5; operands go from the left to the right).
+-- How expressions are put together from the steps of their operands (C99 5.1.2.3, 6.5; operands go
+-- from the left to the right).
 use Rattle.std.specs.Prelude.{ℕ, ◌+◌, false, List, [], ◌∷◌, ◌++◌, Option, None, Some, nat_eq, if◌then◌else◌}
 use Rattle.lk_base.specs.declared.kind.Kind.TheVariants.{Int as IntKind}
 use Rattle.lk_base.specs.declared.spot.Spot.{Spot}
@@ -19,7 +20,8 @@ pub record Part : Type 0 where
   -- the point at which it begins, and the one that gives its value or the pointer to the place that it names
   pub first : ℕ
   pub value : ℕ
-  -- the steps of its own node, how many they are, and those of the nodes inside it; each by the point at which control goes on
+  -- the steps of its own node, how many they are, and those of the nodes inside it; each by the
+  -- point at which control goes on
   pub count : ℕ
   pub steps : ℕ → List Step
   pub inside : ℕ → Walk
@@ -31,7 +33,8 @@ goes a on = own a.node.ordinal (a.steps on) then a.inside on
 abbrev pub step : Action → Option ℕ → Spot → ℕ → Step
 step does gives spot on = record { does = does; gives = gives; next = on ∷ []; spot = spot }
 
--- operands one after the other: the point at which the first begins, and all their steps, where control goes on at `last`
+-- operands one after the other: the point at which the first begins, and all their steps,
+-- where control goes on at `last`
 abbrev pub first_of : List Part → ℕ → ℕ
 first_of [] last = last
 first_of (a ∷ others) last = a.first
@@ -40,8 +43,9 @@ abbrev pub in_turn : List Part → ℕ → Walk
 in_turn [] last = nothing
 in_turn (a ∷ others) last = goes a (first_of others last) then in_turn others last
 
--- a place or a value, by the steps that it has at a node where it is read or converted: its own, where it stands there. What a cast
--- converts stands at another node, and all its steps are inside the cast (C99 6.5.4)
+-- a place or a value, by the steps that it has at a node where it is read or converted: its
+-- own, where it stands there. What a cast converts stands at another node, and all its steps
+-- are inside the cast (C99 6.5.4)
 abbrev pub standing_at : ℕ → Part → Part
 standing_at node a = record {
   node = a.node;
@@ -55,7 +59,8 @@ standing_at node a = record {
 
 -- an expression whose value is that of another point
 abbrev pub with_value : ℕ → Part → Part
-with_value value a = record { node = a.node; slot = a.slot; first = a.first; value = value; count = a.count; steps = a.steps; inside = a.inside }
+with_value value a =
+    record { node = a.node; slot = a.slot; first = a.first; value = value; count = a.count; steps = a.steps; inside = a.inside }
 
 -- their values
 abbrev pub values : List Part → List ℕ

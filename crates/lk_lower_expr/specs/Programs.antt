@@ -1,4 +1,5 @@
--- The program that checked sources become, whole: besides its points its functions, roots, slots, places and what its storage begins with.
+-- The program that checked sources become, whole: besides its points its functions, roots, slots, places and
+-- what its storage begins with.
 use Rattle.std.specs.Prelude.{◌≡◌, ◌↔◌, ◌<◌, ◌⊎◌, ◌-◌, ◌++◌, ℕ, All, zero, suc, Bool, true, false, List, [], ◌∷◌, Option, None, Some, length, map, take, slice_get, get_or, ⊤}
 use Rattle.std.specs.List.{Contains}
 use Rattle.lk_base.specs.declared.cell.CellStep.{CellStep}
@@ -45,7 +46,8 @@ use Rattle.lk_types.specs.declared.c_type.CType.TheVariants.{Array, Pointer, Fun
 
 -- one place of a source stands before another: by its file, line and column
 abbrev pub IsSpotBefore : Spot → Spot → Type 0
-IsSpotBefore a b = (a.file < b.file) ⊎ ((a.file ≡ b.file) × ((a.line < b.line) ⊎ ((a.line ≡ b.line) × (a.col < b.col))))
+IsSpotBefore a b =
+    (a.file < b.file) ⊎ ((a.file ≡ b.file) × ((a.line < b.line) ⊎ ((a.line ≡ b.line) × (a.col < b.col))))
 
 -- an object of external linkage is a global, each other one of static storage is static
 abbrev pub kind_of : Linkage → RootKind
@@ -68,10 +70,12 @@ type_here linked t = get_or linked.types t 0
 
 -- the type t of the source s is a type of the program
 abbrev pub IsTypeHere : List Linked → (s t here : ℕ) → Type 0
-IsTypeHere sources s t here = (linked : Linked) × (slice_get sources s ≡ Some linked) × (slice_get linked.types t ≡ Some here)
+IsTypeHere sources s t here =
+    (linked : Linked) × (slice_get sources s ≡ Some linked) × (slice_get linked.types t ≡ Some here)
 
 -- the entity e of the source s is defined there, by this declaration
-pub record IsDefined (whole : Whole) (s e : ℕ) (linked : Linked) (entity : Entity) (here : WholeEntity) (by : Declaration) : Type 0 where
+pub record IsDefined (whole : Whole) (s e : ℕ) (linked : Linked) (entity : Entity) (here : WholeEntity)
+    (by : Declaration) : Type 0 where
   pub source : slice_get whole.sources s ≡ Some linked
   pub at : slice_get linked.unit.entities e ≡ Some entity
   pub number : ℕ
@@ -86,8 +90,11 @@ module _ (whole : Whole) (numbers : Numbers) where
   abbrev pub value_here : (s : ℕ) → StaticValue → InitialValue
   value_here s (value.Number n) = begins.Number n
   value_here s value.Null = begins.Null
-  value_here s (value.Function e) = begins.Function (lowering.function_of whole numbers (lowering.definition_of whole numbers s e))
-  value_here s (value.Address e path past) = begins.Address (lowering.root_of_entity whole numbers (lowering.definition_of whole numbers s e)) path past
+  value_here s (value.Function e) =
+      begins.Function (lowering.function_of whole numbers (lowering.definition_of whole numbers s e))
+  value_here s (value.Address e path past) =
+      begins.Address (lowering.root_of_entity whole numbers (lowering.definition_of whole numbers s e)) path
+      past
   value_here s (value.Text node path past) = begins.Address (numbers.root s node) path past
   value_here s value.Ready = begins.Ready
 
@@ -100,12 +107,14 @@ module _ (whole : Whole) (numbers : Numbers) where
 
   abbrev pub initials_of_objects : (s : ℕ) → List StaticObject → List Initial
   initials_of_objects s [] = []
-  initials_of_objects s (object ∷ others) = map (initial_here s object) object.parts ++ initials_of_objects s others
+  initials_of_objects s (object ∷ others) =
+      map (initial_here s object) object.parts ++ initials_of_objects s others
 
   -- those of all sources, the first of them the source s
   abbrev pub initials_from : (s : ℕ) → List Linked → List Initial
   initials_from s [] = []
-  initials_from s (linked ∷ others) = initials_of_objects s linked.unit.objects ++ initials_from (suc s) others
+  initials_from s (linked ∷ others) =
+      initials_of_objects s linked.unit.objects ++ initials_from (suc s) others
 
 module _ (whole : Whole) (numbers : Numbers) (program : Program) where
   abbrev pub function_around : (s : ℕ) → Option ℕ → Option ℕ
@@ -115,12 +124,16 @@ module _ (whole : Whole) (numbers : Numbers) (program : Program) where
   -- ---- roots: what is declared or allocated at a node
 
   abbrev pub root : RootKind → (ty : ℕ) → Spot → List ℕ → Option ℕ → Option ℕ → List ℕ → Root
-  root kind ty spot name function point bytes = record { kind = kind; ty = ty; spot = spot; name = name; function = function; point = point; bytes = bytes }
+  root kind ty spot name function point bytes =
+      record { kind = kind; ty = ty; spot = spot; name = name; function = function; point = point; bytes = bytes }
 
   -- the node owns something in a body, or in an initialiser of static storage
   pub data Owns (s : ℕ) (linked : Linked) (owned : Owned) : Option ℕ → Type 0 where
-    in_body : (b : ℕ) (body : Body) → IsBody whole.sources s b linked body → Contains (owned_by (type_at linked.unit.types) body.block) owned → Owns s linked owned (Some (numbers.function s b))
-    in_static : (object : StaticObject) → slice_get whole.sources s ≡ Some linked → Contains linked.unit.objects object →
+    in_body : (b : ℕ) (body : Body) → IsBody whole.sources s b linked body →
+        Contains (owned_by (type_at linked.unit.types) body.block) owned →
+        Owns s linked owned (Some (numbers.function s b))
+    in_static : (object : StaticObject) → slice_get whole.sources s ≡ Some linked →
+        Contains linked.unit.objects object →
         Contains (of_static_parts (type_at linked.unit.types) object.parts) owned → Owns s linked owned None
 
   -- one object of a type, or an array of them without a size
@@ -129,16 +142,21 @@ module _ (whole : Whole) (numbers : Numbers) (program : Program) where
     many : (u : ℕ) → IsForm program.types u (Array t 0) → IsAllocatedType t false u
 
   pub data IsRoot (s : ℕ) : (o : ℕ) → Root → Type 0 where
-    of_object : (e : ℕ) (linked : Linked) (entity : Entity) (here : WholeEntity) (by : Declaration) → IsDefined whole s e linked entity here by → entity.kind ≡ entity_kind.Object →
+    of_object : (e : ℕ) (linked : Linked) (entity : Entity) (here : WholeEntity) (by : Declaration) →
+        IsDefined whole s e linked entity here by → entity.kind ≡ entity_kind.Object →
         IsRoot s by.ordinal (root (kind_of entity.linkage) here.ty by.spot entity.name (function_around s entity.body) None [])
-    of_function : (b : ℕ) (linked : Linked) (body : Body) (entity : Entity) (here : WholeEntity) (by : Declaration) → IsBody whole.sources s b linked body → IsDefined whole s body.entity linked entity here by →
+    of_function : (b : ℕ) (linked : Linked) (body : Body) (entity : Entity) (here : WholeEntity)
+        (by : Declaration) → IsBody whole.sources s b linked body →
+        IsDefined whole s body.entity linked entity here by →
         IsRoot s by.ordinal (root kind.Function here.ty by.spot entity.name (Some (numbers.function s b)) None [])
-    of_local : (b l : ℕ) (linked : Linked) (body : Body) (is : Local) → IsBody whole.sources s b linked body → slice_get body.locals l ≡ Some is → is.is_slot ≡ false →
+    of_local : (b l : ℕ) (linked : Linked) (body : Body) (is : Local) → IsBody whole.sources s b linked body →
+        slice_get body.locals l ≡ Some is → is.is_slot ≡ false →
         IsRoot s is.ordinal (root kind.Local (type_here linked is.ty) is.spot is.name (Some (numbers.function s b)) None [])
-    of_text : (linked : Linked) (node : Node) (bytes : List ℕ) (function : Option ℕ) → Owns s linked (text node bytes) function →
+    of_text : (linked : Linked) (node : Node) (bytes : List ℕ) (function : Option ℕ) →
+        Owns s linked (text node bytes) function →
         IsRoot s node.ordinal (root kind.Text (type_here linked node.type) node.spot [] None None (bytes ++ (0 ∷ [])))
-    of_allocation : (linked : Linked) (node : Node) (t u : ℕ) (single : Bool) (function : Option ℕ) → Owns s linked (allocation node t single) function →
-        IsAllocatedType (type_here linked t) single u →
+    of_allocation : (linked : Linked) (node : Node) (t u : ℕ) (single : Bool) (function : Option ℕ) →
+        Owns s linked (allocation node t single) function → IsAllocatedType (type_here linked t) single u →
         IsRoot s node.ordinal (root (kind.Heap single) u node.spot [] function (Some (numbers.point s node.ordinal 0)) [])
 
   -- main's arguments stand before all other roots, where it has parameters (C99 5.1.2.2.1)
@@ -180,16 +198,19 @@ module _ (whole : Whole) (numbers : Numbers) (program : Program) where
     pub by : Declaration
     pub main : IsMain s b body by
     pub arguments_ : HaveArguments body.parameters by.spot
-    pub order : Counts HasRoot (arguments body.parameters) (length program.roots - arguments body.parameters) (λ s o k. numbers.root s o)
+    pub order : Counts HasRoot (arguments body.parameters) (length program.roots - arguments body.parameters)
+        (λ s o k. numbers.root s o)
     pub each : (s o : ℕ) (is : Root) → IsRoot s o is → root_at program (numbers.root s o) ≡ Some is
 
   -- ---- slots and functions
 
   -- a slot of a body with its type: a local, or the value of a node
   pub data IsSlot (s b : ℕ) : (o type : ℕ) → Type 0 where
-    of_declared : (l : ℕ) (linked : Linked) (body : Body) (is : Local) → IsBody whole.sources s b linked body → slice_get body.locals l ≡ Some is → is.is_slot ≡ true →
+    of_declared : (l : ℕ) (linked : Linked) (body : Body) (is : Local) →
+        IsBody whole.sources s b linked body → slice_get body.locals l ≡ Some is → is.is_slot ≡ true →
         IsSlot s b is.ordinal (type_here linked is.ty)
-    of_value : (linked : Linked) (body : Body) (node : Node) → IsBody whole.sources s b linked body → Contains (owned_by (type_at linked.unit.types) body.block) (hidden node) →
+    of_value : (linked : Linked) (body : Body) (node : Node) → IsBody whole.sources s b linked body →
+        Contains (owned_by (type_at linked.unit.types) body.block) (hidden node) →
         IsSlot s b node.ordinal (type_here linked node.type)
 
   abbrev pub HasSlot : (s b t o k : ℕ) → Type 0
@@ -212,38 +233,50 @@ module _ (whole : Whole) (numbers : Numbers) (program : Program) where
     pub root_ : is.root ≡ numbers.root s by.ordinal
     pub entry : is.entry ≡ numbers.point s body.ordinal 0
     pub exit : is.exit ≡ numbers.point s body.ordinal 2
-    pub parameters : is.parameters ≡ map (holder_of (numbers.function s b) s) (take body.parameters body.locals)
-    pub result : (params : List ℕ) × (dots : Bool) × IsForm program.types here.ty (FunctionType is.result params dots)
+    pub parameters : is.parameters
+        ≡ map (holder_of (numbers.function s b) s) (take body.parameters body.locals)
+    pub result : (params : List ℕ) × (dots : Bool)
+        × IsForm program.types here.ty (FunctionType is.result params dots)
     pub order : Counts (HasSlot s b) 0 (length is.slots) (λ t o k. numbers.slot t o)
     pub slots : (o type : ℕ) → IsSlot s b o type → slice_get is.slots (numbers.slot s o) ≡ Some type
 
   pub record AreFunctions : Type 0 where
-    pub order : Counts (HasFunction whole.sources) 0 (length program.functions) (λ s b k. numbers.function s b)
+    pub order : Counts (HasFunction whole.sources) 0 (length program.functions)
+        (λ s b k. numbers.function s b)
     pub each : (s b : ℕ) (linked : Linked) (body : Body) → IsBody whole.sources s b linked body →
-        (is : Function) × (slice_get program.functions (numbers.function s b) ≡ Some is) × IsFunction s b linked body is
+        (is : Function) × (slice_get program.functions (numbers.function s b) ≡ Some is)
+        × IsFunction s b linked body is
 
   -- ---- places and sites
 
-  -- one place stands before another: by the place of its root in the text, then by its root, then by its part, members in their order
+  -- one place stands before another: by the place of its root in the text, then by its root, then by its
+  -- part, members in their order
   pub record IsPlaceBefore (a b : Place) : Type 0 where
     pub ra : Root
     pub rb : Root
     pub of_a : root_at program a.root ≡ Some ra
     pub of_b : root_at program b.root ≡ Some rb
-    pub before : IsSpotBefore ra.spot rb.spot ⊎ ((ra.spot ≡ rb.spot) × ((a.root < b.root) ⊎ ((a.root ≡ b.root) × (a.node.number < b.node.number))))
+    pub before : IsSpotBefore ra.spot rb.spot
+        ⊎ ((ra.spot ≡ rb.spot) × ((a.root < b.root) ⊎ ((a.root ≡ b.root) × (a.node.number < b.node.number))))
 
-  -- the locations are the places of cells with values, and the lock places those of mutexes; both stand in their order
+  -- the locations are the places of cells with values, and the lock places those of
+  -- mutexes; both stand in their order
   pub record ArePlaces : Type 0 where
-    pub values : (place : Place) → ((n : ℕ) × IsLocation program n × (place_at program n ≡ Some place)) ↔ IsPlaceOfValue program place
-    pub mutexes : (place : Place) → ((n : ℕ) × IsLockPlace program n × (place_at program n ≡ Some place)) ↔ IsPlaceOfMutex program place
-    pub locations : (n m : ℕ) (a b : Place) → IsLocation program n → IsLocation program m → n < m → place_at program n ≡ Some a → place_at program m ≡ Some b → IsPlaceBefore a b
-    pub locks : (n m : ℕ) (a b : Place) → IsLockPlace program n → IsLockPlace program m → n < m → place_at program n ≡ Some a → place_at program m ≡ Some b → IsPlaceBefore a b
+    pub values : (place : Place) → ((n : ℕ) × IsLocation program n × (place_at program n ≡ Some place))
+        ↔ IsPlaceOfValue program place
+    pub mutexes : (place : Place) → ((n : ℕ) × IsLockPlace program n × (place_at program n ≡ Some place))
+        ↔ IsPlaceOfMutex program place
+    pub locations : (n m : ℕ) (a b : Place) → IsLocation program n → IsLocation program m → n < m →
+        place_at program n ≡ Some a → place_at program m ≡ Some b → IsPlaceBefore a b
+    pub locks : (n m : ℕ) (a b : Place) → IsLockPlace program n → IsLockPlace program m → n < m →
+        place_at program n ≡ Some a → place_at program m ≡ Some b → IsPlaceBefore a b
 
   -- the sites of points in their order, and then those of functions in theirs
   pub record AreSites : Type 0 where
     pub points : (p q i j : ℕ) → site_at program p ≡ Some i → site_at program q ≡ Some j → p < q → i < j
     pub then_functions : (p f i j : ℕ) → site_at program p ≡ Some i → value_site_of program f ≡ Some j → i < j
-    pub functions : (f g i j : ℕ) → value_site_of program f ≡ Some i → value_site_of program g ≡ Some j → f < g → i < j
+    pub functions : (f g i j : ℕ) → value_site_of program f ≡ Some i →
+        value_site_of program g ≡ Some j → f < g → i < j
 
   -- the program's types are those of the sources, and such as roots need besides
   pub record AreProgramTypes : Type 0 where
@@ -253,7 +286,8 @@ module _ (whole : Whole) (numbers : Numbers) (program : Program) where
 
   -- of each type of each source the number of the pointer to it is that of a pointer to it
   abbrev pub ArePointers : Type 0
-  ArePointers = (s t here : ℕ) → IsTypeHere whole.sources s t here → IsForm program.types (numbers.pointer here) (Pointer here)
+  ArePointers = (s t here : ℕ) → IsTypeHere whole.sources s t here →
+      IsForm program.types (numbers.pointer here) (Pointer here)
 
   -- the nodes of cells are those of the program's types
   abbrev pub AreNodes : Type 0
@@ -275,7 +309,8 @@ module _ (whole : Whole) (numbers : Numbers) (program : Program) where
 abbrev pub IsMadeOf : Whole → Program → Type 0
 IsMadeOf whole program = (numbers : Numbers) × IsMadeWith whole numbers program
 
--- more than so many locations and lock places, by the roots and types of a program that is made of the sources
+-- more than so many locations and lock places, by the roots and types of a
+-- program that is made of the sources
 pub record HasMorePlaces (whole : Whole) (most : ℕ) : Type 0 where
   pub numbers : Numbers
   pub program : Program

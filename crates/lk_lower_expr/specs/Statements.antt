@@ -32,7 +32,8 @@ use Rattle.lk_typed.specs.declared.statement.TypedStmtForm.{TypedStmtForm}
 abbrev pub to : ℕ → Goals → Goals
 to next go = record { next = next; breaks = go.breaks; continues = go.continues; exit = go.exit }
 
--- a statement: the point at which it begins, its steps, and where each `case` and `default` of the switch around it begins, the last of them first
+-- a statement: the point at which it begins, its steps, and where each `case` and `default` of the switch
+-- around it begins, the last of them first
 pub record Flow : Type 0 where
   pub first : Goals → ℕ
   pub all : Goals → Walk
@@ -67,7 +68,8 @@ abbrev pub begins_at : ℕ → List Labelled → ℕ → ℕ
 begins_at node [] other = other
 begins_at node (one ∷ others) other = if nat_eq one.node node then one.first else begins_at node others other
 
--- a step that goes on, and one that goes on at the first of two points where the value is neither zero nor null, else at the second
+-- a step that goes on, and one that goes on at the first of two points where the value is neither zero
+-- nor null, else at the second
 abbrev pub skip : Spot → ℕ → Step
 skip spot on = step does.Skip None spot on
 
@@ -96,7 +98,8 @@ switch_step spot value cases default labelled past = record {
   next = map (λ one. begins_at one.ordinal labelled past) cases ++ (default_of default labelled past ∷ []);
 }
 
--- inside a loop: behind its body control goes on at its end, and `continue` goes to its next turn (C99 6.8.5, 6.8.6.2)
+-- inside a loop: behind its body control goes on at its end, and `continue` goes to its
+-- next turn (C99 6.8.5, 6.8.6.2)
 abbrev pub inside_loop : (turn : ℕ) → Goals → Goals
 inside_loop turn go = record { next = turn; breaks = go.next; continues = turn; exit = go.exit }
 
@@ -107,7 +110,8 @@ otherwise (Some b) = b
 
 -- `case value: statement` and `default: statement` have no steps
 abbrev pub case_flow : (o : ℕ) → Flow → Flow
-case_flow o a = record { first = a.first; all = a.all; labelled = λ go. a.labelled go ++ (record { node = o; first = a.first go } ∷ []) }
+case_flow o a =
+    record { first = a.first; all = a.all; labelled = λ go. a.labelled go ++ (record { node = o; first = a.first go } ∷ []) }
 
 -- the steps of a `for` of its own: without a condition it goes on to its body alone
 abbrev pub for_steps : Spot → Option Part → (body past : ℕ) → List Step
@@ -135,7 +139,8 @@ module _ (names : Names) where
       let node = names.declared local in record {
         first = λ go. a.first;
         labelled = λ go. [];
-        all = λ go. own node.ordinal (step (does.SlotWrite slot a.value) None node.spot go.next ∷ []) then goes a (at node.ordinal 0);
+        all = λ go. own node.ordinal (step (does.SlotWrite slot a.value) None node.spot go.next ∷ [])
+            then goes a (at node.ordinal 0);
       }
 
   -- a slot, whose one part is the whole of it: an expression
@@ -163,7 +168,8 @@ module _ (names : Names) where
   if_flow o spot c a b = record {
     first = λ go. c.first;
     labelled = λ go. b.labelled go ++ a.labelled go;
-    all = λ go. own o (branch spot c.value (a.first go) (b.first go) ∷ []) then goes c (at o 0) then a.all go then b.all go;
+    all = λ go. own o (branch spot c.value (a.first go) (b.first go) ∷ []) then goes c (at o 0)
+        then a.all go then b.all go;
   }
 
   -- `switch (value) statement` (C99 6.8.4.2)
@@ -196,14 +202,16 @@ module _ (names : Names) where
         a.all (inside_loop c.first go) then goes c (at o 1);
   }
 
-  -- `for (first; condition; step) statement`: each turn begins at the Skip behind the first part, and `continue` goes to the step
+  -- `for (first; condition; step) statement`: each turn begins at the Skip behind the first part,
+  -- and `continue` goes to the step
   abbrev pub for_flow : (o : ℕ) → Spot → Flow → Option Part → Option Part → Flow → Flow
   for_flow o spot f c s a = record {
     first = λ go. f.first (to (at o 0) go);
     labelled = λ go. a.labelled (inside_loop (first_or s (at o 0)) go);
     all = λ go.
         own o (for_steps spot c (a.first (inside_loop (first_or s (at o 0)) go)) go.next) then
-        f.all (to (at o 0) go) then goes_of c (at o 1) then goes_of s (at o 0) then a.all (inside_loop (first_or s (at o 0)) go);
+        f.all (to (at o 0) go) then goes_of c (at o 1) then goes_of s (at o 0)
+        then a.all (inside_loop (first_or s (at o 0)) go);
   }
 
   -- `goto label;` leads to the Skip of the labelled statement (C99 6.8.6.1)
@@ -244,7 +252,9 @@ module _ (names : Names) (place : ℕ → List CellStep → Place) where
         first = λ go. names.at node.ordinal 0;
         labelled = λ go. [];
         all = λ go.
-            own node.ordinal (initialisers.numbered (names.at node.ordinal) node.spot 0 (deeds ++ initialisers.fills_deeds names node (place local) root (length deeds) absent) go.next) then
+            own node.ordinal (initialisers.numbered (names.at node.ordinal) node.spot 0
+            (deeds ++ initialisers.fills_deeds names node (place local) root (length deeds) absent)
+            go.next) then
             initialisers.values_walk names node root 0 named;
       }
 
@@ -278,10 +288,12 @@ module _ (names : Names) (place : ℕ → List CellStep → Place) where
   of_form (TypedStmtForm-F.Block items) o spot = in_turn items
   of_form (TypedStmtForm-F.Do e) o spot = expression_flow names e
   of_form (TypedStmtForm-F.If c a b) o spot = if_flow names o spot (part names c) a (otherwise b)
-  of_form (TypedStmtForm-F.Switch v cases default a) o spot = switch_flow names o spot (part names v) cases default a
+  of_form (TypedStmtForm-F.Switch v cases default a) o spot =
+      switch_flow names o spot (part names v) cases default a
   of_form (TypedStmtForm-F.While c a) o spot = while_flow names o spot (part names c) a
   of_form (TypedStmtForm-F.Until a c) o spot = until_flow names o spot a (part names c)
-  of_form (TypedStmtForm-F.For f c s a) o spot = for_flow names o spot (first_flow f) (part_of names c) (part_of names s) a
+  of_form (TypedStmtForm-F.For f c s a) o spot =
+      for_flow names o spot (first_flow f) (part_of names c) (part_of names s) a
   of_form (TypedStmtForm-F.Goto label) o spot = goto_flow names label
   of_form TypedStmtForm-F.Continue o spot = leads (λ go. go.continues)
   of_form TypedStmtForm-F.Break o spot = leads (λ go. go.breaks)
@@ -303,7 +315,8 @@ module _ (names : Names) (place : ℕ → List CellStep → Place) where
   -- ---- the definition of a function (C99 6.9.1): it begins with its entry, and ends with the Return of its body's end and with its exit, at which no thread ever stands
 
   abbrev pub body_goals : (o : ℕ) → Goals
-  body_goals o = record { next = names.at o 1; breaks = names.at o 1; continues = names.at o 1; exit = names.at o 2 }
+  body_goals o =
+      record { next = names.at o 1; breaks = names.at o 1; continues = names.at o 1; exit = names.at o 2 }
 
   abbrev pub body_walk : (o : ℕ) → Spot → TypedStmt → Walk
   body_walk o spot block =

@@ -1,4 +1,5 @@
--- The points of static initialisers (C99 6.7.8, 4): each pointer that one names has the steps of a local's entry. Control never comes to them.
+-- The points of static initialisers (C99 6.7.8, 4): each pointer that one names has the steps of a local's
+-- entry. Control never comes to them.
 use Rattle.std.specs.Prelude.{ℕ, suc, ◌+◌, false, List, [], ◌∷◌, ◌++◌, length, map, Option, None, Some}
 use Rattle.lk_base.specs.declared.cell.CellStep.{CellStep}
 use Rattle.lk_facts.specs.declared.action.Action.TheVariants as does
@@ -25,15 +26,20 @@ all_ended (a then b) = all_ended a then all_ended b
 module _ (names : Names) where
   abbrev pointer_deeds : Node → (root k : ℕ) → List CellStep → Option TypedExpr → List Deed
   pointer_deeds node root k path None = []
-  pointer_deeds node root k path (Some e) = initialisers.settled names node root k path (Some (part names e).first) (λ pointer. does.Write pointer (part names e).value false)
+  pointer_deeds node root k path (Some e) =
+      initialisers.settled names node root k path (Some (part names e).first)
+      (λ pointer. does.Write pointer (part names e).value false)
 
   abbrev count_of : Node → (root k : ℕ) → StaticPart → ℕ
   count_of node root k one = length (pointer_deeds node root k one.path one.pointer)
 
-  -- the pointers among the parts that an initialiser names, the steps of the first of them from the step `k` on
+  -- the pointers among the parts that an initialiser names, the steps of the first
+  -- of them from the step `k` on
   abbrev pub pointers_deeds : Node → (root k : ℕ) → List StaticPart → List Deed
   pointers_deeds node root k [] = []
-  pointers_deeds node root k (one ∷ others) = pointer_deeds node root k one.path one.pointer ++ pointers_deeds node root (k + count_of node root k one) others
+  pointers_deeds node root k (one ∷ others) =
+      pointer_deeds node root k one.path one.pointer ++
+      pointers_deeds node root (k + count_of node root k one) others
 
   abbrev value_walk : Node → (k : ℕ) → List CellStep → Option TypedExpr → Walk
   value_walk node k path None = nothing
@@ -41,9 +47,13 @@ module _ (names : Names) where
 
   abbrev pub values_walk : Node → (root k : ℕ) → List StaticPart → Walk
   values_walk node root k [] = nothing
-  values_walk node root k (one ∷ others) = values_walk node root (k + count_of node root k one) others then value_walk node k one.path one.pointer
+  values_walk node root k (one ∷ others) =
+      values_walk node root (k + count_of node root k one) others then value_walk node k one.path one.pointer
 
-  -- the points of the initialiser of an object of static storage, by the node of its declared name and its root
+  -- the points of the initialiser of an object of static storage, by the node of
+  -- its declared name and its root
   abbrev pub static_walk : Node → (root : ℕ) → List StaticPart → Walk
   static_walk node root parts =
-      all_ended (own node.ordinal (initialisers.numbered (names.at node.ordinal) node.spot 0 (pointers_deeds node root 0 parts) 0) then values_walk node root 0 parts)
+      all_ended (own node.ordinal
+      (initialisers.numbered (names.at node.ordinal) node.spot 0 (pointers_deeds node root 0 parts) 0)
+      then values_walk node root 0 parts)

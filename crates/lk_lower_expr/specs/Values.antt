@@ -42,11 +42,14 @@ abbrev pub operator_of : StepOperator → Op
 operator_of Increment = op.Add
 operator_of Decrement = op.Subtract
 
--- control goes on at the first of two points where the value of `a` is neither zero nor null, else at the second
+-- control goes on at the first of two points where the value of `a` is neither zero
+-- nor null, else at the second
 abbrev pub branch : Node → ℕ → (yes_ no_ : ℕ) → Step
-branch node a yes_ no_ = record { does = does.Branch a; gives = None; next = yes_ ∷ no_ ∷ []; spot = node.spot }
+branch node a yes_ no_ =
+    record { does = does.Branch a; gives = None; next = yes_ ∷ no_ ∷ []; spot = node.spot }
 
--- the two results of `&&` and `||`, each put into the hidden slot: the steps 2 to 6 of a node whose step k is `at k`
+-- the two results of `&&` and `||`, each put into the hidden slot: the steps 2 to 6 of
+-- a node whose step k is `at k`
 abbrev pub truths : (at : ℕ → ℕ) → (slot : ℕ) → Node → ℕ → List Step
 truths at slot node on =
     step (does.Value (pos 1) (kind_id IntKind)) (Some (kind_id IntKind)) node.spot (at 3) ∷
@@ -62,7 +65,8 @@ module _ (names : Names) where
   -- ---- places (C99 6.3.2.1, 6.5.1, 6.5.2, 6.5.3.2): the value is the pointer to the place
 
   abbrev pub object_part : Node → Storage → Part
-  object_part node storage = parts.then_one names node [] (does.Root (names.object storage)) (parts.pointer_to names node.type)
+  object_part node storage =
+      parts.then_one names node [] (does.Root (names.object storage)) (parts.pointer_to names node.type)
 
   abbrev pub name_of : Option ℕ → Node → Storage → Part
   name_of None node storage = object_part node storage
@@ -72,29 +76,37 @@ module _ (names : Names) where
   name_part node storage = name_of (slot_named names.slot storage) node storage
 
   abbrev pub text_part : Node → Part
-  text_part node = parts.then_one names node [] (does.Text (names.text node.ordinal)) (parts.pointer_to names node.type)
+  text_part node =
+      parts.then_one names node [] (does.Text (names.text node.ordinal)) (parts.pointer_to names node.type)
 
   -- `place.member` and `pointer->member`: both have the pointer to the struct
   abbrev pub member_part : Node → Part → ℕ → Part
-  member_part node a k = parts.then_one names node (a ∷ []) (does.Field a.value k) (parts.pointer_to names node.type)
+  member_part node a k =
+      parts.then_one names node (a ∷ []) (does.Field a.value k) (parts.pointer_to names node.type)
 
   -- `pointer[index]`: the pointer moves by the index
   abbrev pub index_part : Node → Part → Part → Part
-  index_part node a b = parts.then_one names node (a ∷ b ∷ []) (does.Index a.value b.value false) (parts.pointer_to names node.type)
+  index_part node a b =
+      parts.then_one names node (a ∷ b ∷ []) (does.Index a.value b.value false)
+      (parts.pointer_to names node.type)
 
   -- ---- values
 
   abbrev pub number_part : Node → ℤ → Part
-  number_part node number = parts.then_one names node [] (does.Value number (names.type node.type)) (parts.value_of names node.type)
+  number_part node number =
+      parts.then_one names node [] (does.Value number (names.type node.type)) (parts.value_of names node.type)
 
   abbrev pub function_part : Node → ℕ → Part
-  function_part node entity = parts.then_one names node [] (does.Func (names.function entity)) (parts.value_of names node.type)
+  function_part node entity =
+      parts.then_one names node [] (does.Func (names.function entity)) (parts.value_of names node.type)
 
   abbrev pub unary_part : Node → UnaryOp → Part → Part
-  unary_part node op a = parts.then_one names node (a ∷ []) (does.Unary op a.value) (parts.value_of names node.type)
+  unary_part node op a =
+      parts.then_one names node (a ∷ []) (does.Unary op a.value) (parts.value_of names node.type)
 
   abbrev pub binary_part : Node → Op → Part → Part → Part
-  binary_part node op a b = parts.then_one names node (a ∷ b ∷ []) (does.Binary op a.value b.value) (parts.value_of names node.type)
+  binary_part node op a b =
+      parts.then_one names node (a ∷ b ∷ []) (does.Binary op a.value b.value) (parts.value_of names node.type)
 
   -- `left, right`: the left value is dropped (C99 6.5.17)
   abbrev pub comma_part : Node → Part → Part → Part
@@ -123,11 +135,15 @@ module _ (names : Names) where
 
   abbrev pub and_part : Node → Part → Part → Part
   and_part node a b = decides node a b (λ on.
-      branch node a.value b.first (at node.ordinal 4) ∷ branch node b.value (at node.ordinal 2) (at node.ordinal 4) ∷ truths (at node.ordinal) (names.hidden node.ordinal) node on)
+      branch node a.value b.first (at node.ordinal 4) ∷
+      branch node b.value (at node.ordinal 2) (at node.ordinal 4) ∷
+      truths (at node.ordinal) (names.hidden node.ordinal) node on)
 
   abbrev pub or_part : Node → Part → Part → Part
   or_part node a b = decides node a b (λ on.
-      branch node a.value (at node.ordinal 2) b.first ∷ branch node b.value (at node.ordinal 2) (at node.ordinal 4) ∷ truths (at node.ordinal) (names.hidden node.ordinal) node on)
+      branch node a.value (at node.ordinal 2) b.first ∷
+      branch node b.value (at node.ordinal 2) (at node.ordinal 4) ∷
+      truths (at node.ordinal) (names.hidden node.ordinal) node on)
 
   -- `condition ? taken : other`, of type void and of another type
   abbrev pub void_choice : Node → Part → Part → Part → Part
@@ -188,9 +204,11 @@ module _ (names : Names) where
 
   abbrev pub assign_part : Node → Part → Part → Part
   assign_part node a b =
-      parts.with_value b.value (parts.computes names node (parts.place_of names a.slot a ++ (b ∷ [])) 1 (λ on. writing a b.value on ∷ []))
+      parts.with_value b.value
+      (parts.computes names node (parts.place_of names a.slot a ++ (b ∷ [])) 1 (λ on. writing a b.value on ∷ []))
 
-  -- `place op= value`, where the place has the type in which it is computed, and where it is converted to it and back
+  -- `place op= value`, where the place has the type in which it is computed, and where
+  -- it is converted to it and back
   abbrev pub compound_alike : Node → Op → Part → Part → ℕ → Part
   compound_alike node op a b t =
       let o = node.ordinal in record {
@@ -199,7 +217,9 @@ module _ (names : Names) where
         count = 3;
         first = first_of (parts.place_of names a.slot a) (at o 0);
         value = at o 1;
-        steps = λ on. reading a b.first ∷ computing node op (at o 0) b.value t (at o 2) ∷ writing a (at o 1) on ∷ [];
+        steps =
+            λ on. reading a b.first ∷ computing node op (at o 0) b.value t (at o 2) ∷
+            writing a (at o 1) on ∷ [];
         inside = λ on. in_turn (parts.place_of names a.slot a) (at o 0) then goes b (at o 1);
       }
 
@@ -212,13 +232,15 @@ module _ (names : Names) where
         first = first_of (parts.place_of names a.slot a) (at o 0);
         value = at o 3;
         steps = λ on.
-            reading a b.first ∷ converting node (at o 0) t (at o 2) ∷ computing node op (at o 1) b.value t (at o 3) ∷
+            reading a b.first ∷ converting node (at o 0) t (at o 2) ∷
+            computing node op (at o 1) b.value t (at o 3) ∷
             converting node (at o 2) a.node.type (at o 4) ∷ writing a (at o 3) on ∷ [];
         inside = λ on. in_turn (parts.place_of names a.slot a) (at o 0) then goes b (at o 1);
       }
 
   unfoldable pub compound_part : Node → Op → Part → Part → ℕ → Part
-  compound_part node op a b t = if nat_eq a.node.type t then compound_alike node op a b t else compound_converted node op a b t
+  compound_part node op a b t =
+      if nat_eq a.node.type t then compound_alike node op a b t else compound_converted node op a b t
 
   -- `++` and `--`: the value is that which was read, or that which is written
   abbrev pub changed : Change → (was is : ℕ) → ℕ
@@ -229,47 +251,60 @@ module _ (names : Names) where
   one_of node on = step (does.Value (pos 1) (kind_id IntKind)) (parts.int names) node.spot on
 
   abbrev changes : Node → Part → (value : ℕ) → (count : ℕ) → (ℕ → List Step) → Part
-  changes node a value count steps = parts.with_value value (parts.computes names node (parts.place_of names a.slot a) count steps)
+  changes node a value count steps =
+      parts.with_value value (parts.computes names node (parts.place_of names a.slot a) count steps)
 
   -- a place of pointers or of int
   abbrev pub step_plain : Node → Op → Change → Part → ℕ → Part
   step_plain node op change a t =
       let o = node.ordinal in changes node a (changed change (at o 0) (at o 2)) 4 (λ on.
-      reading a (at o 1) ∷ one_of node (at o 2) ∷ computing node op (at o 0) (at o 1) t (at o 3) ∷ writing a (at o 2) on ∷ [])
+      reading a (at o 1) ∷ one_of node (at o 2) ∷ computing node op (at o 0) (at o 1) t (at o 3) ∷
+      writing a (at o 2) on ∷ [])
 
   -- a place of integers that rank above int: the 1 is converted
   abbrev pub step_wide : Node → Op → Change → Part → ℕ → Part
   step_wide node op change a t =
       let o = node.ordinal in changes node a (changed change (at o 0) (at o 3)) 5 (λ on.
-      reading a (at o 1) ∷ one_of node (at o 2) ∷ converting node (at o 1) t (at o 3) ∷ computing node op (at o 0) (at o 2) t (at o 4) ∷ writing a (at o 3) on ∷ [])
+      reading a (at o 1) ∷ one_of node (at o 2) ∷ converting node (at o 1) t (at o 3) ∷
+      computing node op (at o 0) (at o 2) t (at o 4) ∷ writing a (at o 3) on ∷ [])
 
   -- a place of integers that rank below int: it is converted to int and back
   abbrev pub step_narrow : Node → Op → Change → Part → ℕ → Part
   step_narrow node op change a t =
       let o = node.ordinal in changes node a (changed change (at o 0) (at o 4)) 6 (λ on.
-      reading a (at o 1) ∷ one_of node (at o 2) ∷ converting node (at o 0) t (at o 3) ∷ computing node op (at o 2) (at o 1) t (at o 4) ∷
+      reading a (at o 1) ∷ one_of node (at o 2) ∷ converting node (at o 0) t (at o 3) ∷
+      computing node op (at o 2) (at o 1) t (at o 4) ∷
       converting node (at o 3) a.node.type (at o 5) ∷ writing a (at o 4) on ∷ [])
 
   unfoldable pub step_part : Node → StepOperator → Change → Part → ℕ → Part
   step_part node operator change a t =
       if nat_eq a.node.type t
-      then (if is_pointer (names.form t) || nat_eq t (kind_id IntKind) then step_plain node (operator_of operator) change a t else step_wide node (operator_of operator) change a t)
+      then (if is_pointer (names.form t)
+      || nat_eq t (kind_id IntKind) then step_plain node (operator_of operator) change a t
+      else step_wide node (operator_of operator) change a t)
       else step_narrow node (operator_of operator) change a t
 
   -- ---- conversions (C99 6.3): each is a step of the node that it converts, and that of a cast one of the cast's own
 
   -- the value that a place has
   abbrev pub load_part : Node → Part → Part
-  load_part node a = parts.followed names node (standing_at node.ordinal a) (parts.reads names a.slot a.value) (parts.value_of names node.type)
+  load_part node a =
+      parts.followed names node (standing_at node.ordinal a) (parts.reads names a.slot a.value)
+      (parts.value_of names node.type)
 
   -- the pointer to the first element of an array
   abbrev pub decay_part : Node → Part → Part
   decay_part node a =
-      parts.followed names node (parts.followed names node (standing_at node.ordinal a) (does.Value (pos 0) (kind_id IntKind)) (parts.int names))
-      (does.Index a.value (at node.ordinal (standing_at node.ordinal a).count) true) (parts.value_of names node.type)
+      parts.followed names node
+      (parts.followed names node (standing_at node.ordinal a) (does.Value (pos 0) (kind_id IntKind)) (parts.int names))
+      (does.Index a.value (at node.ordinal (standing_at node.ordinal a).count) true)
+      (parts.value_of names node.type)
 
   abbrev pub convert_part : Node → Part → Part
-  convert_part node a = parts.followed names node (standing_at node.ordinal a) (does.Convert a.value (names.type node.type)) (parts.value_of names node.type)
+  convert_part node a =
+      parts.followed names node (standing_at node.ordinal a) (does.Convert a.value (names.type node.type))
+      (parts.value_of names node.type)
 
   abbrev pub null_part : Node → Part
-  null_part node = parts.then_one names node [] (does.Null (names.type node.type)) (parts.value_of names node.type)
+  null_part node =
+      parts.then_one names node [] (does.Null (names.type node.type)) (parts.value_of names node.type)

@@ -12,6 +12,7 @@ pub data Walk : Type 0 where
 infixr 5 ◌then◌
 -- the step of that number of that node is there
 pub data IsStep (node step : ℕ) (is : Step) : Walk → Type 0 where
-  here : (before behind : List Step) → length before ≡ step → IsStep node step is (own node (before ++ (is ∷ behind)))
+  here : (before behind : List Step) → length before ≡ step →
+      IsStep node step is (own node (before ++ (is ∷ behind)))
   left : (a b : Walk) → IsStep node step is a → IsStep node step is (a then b)
   right : (a b : Walk) → IsStep node step is b → IsStep node step is (a then b)

@@ -11,7 +11,8 @@ use lk_base::NoMemory;
 use lk_typed::{Callee, LibraryCall, TypedExpr, TypedForm};
 
 impl Lowering<'_> {
-    /// Where an expression begins that reads a place at once: with the place, but for a slot, which has no steps of its own.
+    /// Where an expression begins that reads a place at once: with the place, but for a slot,
+    /// which has no steps of its own.
     #[cycle(begins)]
     #[tactic(auto, unfolding(crate::specs::Expressions::part))]
     fn place_first(&self, place: &TypedExpr, node: u32) -> Result<u32, NoMemory>

@@ -24,7 +24,8 @@ fn nodes(types: &TypeTable, t: TypeId) -> u32
     }
 }
 
-/// The member of a struct among these, of which the first has a number; the struct itself where it has no such member.
+/// The member of a struct among these, of which the first has a number; the struct itself
+/// where it has no such member.
 fn member(types: &TypeTable, of: PartOf, first: u32, members: &[StructMember], k: u32) -> PartOf
     ensures { result ≡ spec.member_at types.now of first members.now k }
 {

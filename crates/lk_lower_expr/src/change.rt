@@ -116,7 +116,8 @@ impl Lowering<'_> {
         self.with_written(steps, place, self.names.at(node, 1), on)
     }
 
-    /// The steps of `place op= value`, where the place is converted to the type in which it is computed and back.
+    /// The steps of `place op= value`, where the place is converted to the type in
+    /// which it is computed and back.
     #[tactic(auto, using(crate::proofs::Nodes::stands_at))]
     fn converted_steps(
         &self,
@@ -221,7 +222,8 @@ impl Lowering<'_> {
         self.with_written(steps, place, self.names.at(node, 3), on)
     }
 
-    /// The steps of `++` and `--` of a place of integers that rank below int: it is converted to int and back.
+    /// The steps of `++` and `--` of a place of integers that rank below int: it
+    /// is converted to int and back.
     #[tactic(auto, using(crate::proofs::Nodes::stands_at))]
     fn narrow_steps(
         &self,

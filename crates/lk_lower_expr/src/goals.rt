@@ -2,7 +2,8 @@
 ghost use Rattle.std.specs.Prelude.{◌≡◌};
 ghost use Rattle.lk_lower_expr.specs.Statements as rules;
 
-/// The points at which control goes on behind a statement, at `break`, at `continue`, and at the exit of the function.
+/// The points at which control goes on behind a statement, at `break`, at `continue`, and
+/// at the exit of the function.
 #[derive(Clone, Copy)]
 pub struct Goals {
     pub next: u32,

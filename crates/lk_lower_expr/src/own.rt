@@ -12,8 +12,8 @@ use lk_base::NoMemory;
 use lk_typed::{TypedExpr, TypedForm};
 
 impl Lowering<'_> {
-    /// The steps of the node of an expression, in their order, where control goes on at a point behind it. A slot has
-    /// none until it is read or written.
+    /// The steps of the node of an expression, in their order, where control goes on at a point behind it. A
+    /// slot has none until it is read or written.
     ///
     /// `Err` comes for want of memory.
     #[cycle(owns)]
@@ -57,8 +57,8 @@ impl Lowering<'_> {
         }
     }
 
-    /// The steps that a place or a value has at a node: those of its own where it stands there, and none where that is the
-    /// node of a cast (C99 6.5.4).
+    /// The steps that a place or a value has at a node: those of its own where it stands there, and none
+    /// where that is the node of a cast (C99 6.5.4).
     #[cycle(owns)]
     #[tactic(auto, using(crate::proofs::Nodes::stands_at))]
     fn steps_at(&self, node: u32, inner: &TypedExpr, on: u32) -> Result<Vec<Step>, NoMemory>

@@ -278,8 +278,8 @@ impl Lowering<'_> {
         }
     }
 
-    /// How many steps a place or a value has at a node: those of its own where it stands there, and none where that is
-    /// the node of a cast (C99 6.5.4).
+    /// How many steps a place or a value has at a node: those of its own where it stands there, and none
+    /// where that is the node of a cast (C99 6.5.4).
     #[cycle(counts)]
     #[tactic(auto, using(crate::proofs::Nodes::stands_at))]
     fn count_at(&self, node: u32, inner: &TypedExpr) -> Result<u32, NoMemory>
@@ -295,7 +295,8 @@ impl Lowering<'_> {
     /// The step behind those that a place or a value has at its node, where its value is read or converted.
     pub(crate) fn behind(&self, node: u32, inner: &TypedExpr, more: u32) -> Result<u32, NoMemory>
         ensures { IfOk result (λ point.
-            point ≡ at_of self.now.names.now node ((standing_at node (part_by self.now inner.now)).count + more)) }
+            point ≡ at_of self.now.names.now node
+            ((standing_at node (part_by self.now inner.now)).count + more)) }
     {
         let count = self.count_at(node, inner)?;
         let step = with_more(count, more)?;

@@ -15,8 +15,8 @@ use lk_base::NoMemory;
 use lk_typed::{Callee, LibraryCall, TypedExpr, TypedForm};
 
 impl Lowering<'_> {
-    /// Adds the steps of an expression, where control goes on at a point behind it: each with its name, and those inside
-    /// a node before its own.
+    /// Adds the steps of an expression, where control goes on at a point behind it: each with its name, and
+    /// those inside a node before its own.
     ///
     /// `Err` comes for want of memory.
     #[cycle(lays)]
@@ -140,8 +140,8 @@ impl Lowering<'_> {
         self.push_place(place, self.names.at(node, 0), out)
     }
 
-    /// Adds the steps inside a place or a value that is read or converted at a node, behind those that it has there. All
-    /// steps of what a cast converts are inside the cast (C99 6.5.4).
+    /// Adds the steps inside a place or a value that is read or converted at a node, behind those that it has
+    /// there. All steps of what a cast converts are inside the cast (C99 6.5.4).
     #[cycle(lays)]
     #[tactic(auto, using(crate::proofs::Nodes::stands_at))]
     fn push_followed(

@@ -15,14 +15,17 @@ use Rattle.lk_types.specs.Table.{Table}
 abbrev pub IsPlaceIn : Table → Place → Type 0
 IsPlaceIn table place = IsNode table place.node
 
--- each program with these types and roots, of which these are the places and so many of them locations, has the places that it should
+-- each program with these types and roots, of which these are the places and so many of them locations,
+-- has the places that it should
 abbrev pub ArePlacesOf : Table → List Root → List Place → ℕ → Type 0
 ArePlacesOf types roots places locations =
-    (whole : Whole) (numbers : Numbers) (program : Program) → program.types ≡ types → program.roots ≡ roots → program.places ≡ places → program.locations ≡ locations → ArePlaces whole numbers program
+    (whole : Whole) (numbers : Numbers) (program : Program) → program.types ≡ types → program.roots ≡ roots →
+    program.places ≡ places → program.locations ≡ locations → ArePlaces whole numbers program
 
 -- each program with these types and roots should have more than so many places
 pub record HasMorePlacesOf (types : Table) (roots : List Root) (most : ℕ) : Type 0 where
   pub places : List Place
-  pub each : (program : Program) → program.types ≡ types → program.roots ≡ roots → All (λ place. IsPlaceOfValue program place ⊎ IsPlaceOfMutex program place) places
+  pub each : (program : Program) → program.types ≡ types → program.roots ≡ roots →
+      All (λ place. IsPlaceOfValue program place ⊎ IsPlaceOfMutex program place) places
   pub different : AreDifferent places
   pub many : most < length places

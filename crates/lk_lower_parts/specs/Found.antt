@@ -47,17 +47,25 @@ Adds old new more = all_found new ≡ all_found old ++ more
 -- what a form of expression has, a call of the library and what is called
 module _ (form : ℕ → CType) where
   unfoldable pub owned_form : TypedForm → Node → List Owned
-  owned_form = fold-TypedForm (List Owned) (Node → List Owned) (Node → List Owned) (List Owned) (of_callee form) (of_form form) (of_library form) (of_expr form)
+  owned_form =
+      fold-TypedForm (List Owned) (Node → List Owned) (Node →
+      List Owned) (List Owned) (of_callee form) (of_form form) (of_library form) (of_expr form)
 
   unfoldable pub library_owned : LibraryCall → Node → List Owned
-  library_owned = fold-LibraryCall (List Owned) (Node → List Owned) (Node → List Owned) (List Owned) (of_callee form) (of_form form) (of_library form) (of_expr form)
+  library_owned =
+      fold-LibraryCall (List Owned) (Node → List Owned) (Node →
+      List Owned) (List Owned) (of_callee form) (of_form form) (of_library form) (of_expr form)
 
   unfoldable pub callee_owned : Callee → List Owned
-  callee_owned = fold-Callee (List Owned) (Node → List Owned) (Node → List Owned) (List Owned) (of_callee form) (of_form form) (of_library form) (of_expr form)
+  callee_owned =
+      fold-Callee (List Owned) (Node → List Owned) (Node →
+      List Owned) (List Owned) (of_callee form) (of_form form) (of_library form) (of_expr form)
 
   -- what a form of statement has, and an item of a block
   unfoldable pub form_owned : TypedStmtForm → List Owned
-  form_owned = fold-TypedStmtForm (List Owned) (List Owned) (List Owned) (in_item form) (in_form form) (in_stmt form)
+  form_owned =
+      fold-TypedStmtForm (List Owned) (List Owned) (List Owned) (in_item form) (in_form form) (in_stmt form)
 
   unfoldable pub item_owned : TypedItem → List Owned
-  item_owned = fold-TypedItem (List Owned) (List Owned) (List Owned) (in_item form) (in_form form) (in_stmt form)
+  item_owned =
+      fold-TypedItem (List Owned) (List Owned) (List Owned) (in_item form) (in_form form) (in_stmt form)

@@ -11,12 +11,14 @@ abbrev pub bodies_of : List Linked → ℕ
 bodies_of [] = 0
 bodies_of (linked ∷ others) = length linked.unit.bodies + bodies_of others
 
--- of each source the number of its first body, where that of the first of them is `n`; and the number behind them
+-- of each source the number of its first body, where that of the first of them is
+-- `n`; and the number behind them
 abbrev pub firsts : (n : ℕ) → List Linked → List ℕ
 firsts n [] = n ∷ []
 firsts n (linked ∷ others) = n ∷ firsts (n + length linked.unit.bodies) others
 
--- of each entity of a source the number of the function whose body it has; `none`, which is the number behind those of the source, where it has none
+-- of each entity of a source the number of the function whose body it has; `none`, which is the number behind
+-- those of the source, where it has none
 abbrev pub AreOfEntities : (first none : ℕ) → List Body → List ℕ → Type 0
 AreOfEntities first none bodies row = (e : ℕ) → get_or row e none ≡ first + place_in (is_body_of e) bodies
 
@@ -29,6 +31,7 @@ pub record AreFunctionNumbers (sources : List Linked) (found : FunctionNumbers) 
   pub count : found.count ≡ bodies_of sources
   pub sources_ : length found.of_entities ≡ length sources
   pub of_entities : (s : ℕ) (linked : Linked) → slice_get sources s ≡ Some linked →
-      AreOfEntities (get_or found.first s 0) (get_or found.first (suc s) 0) linked.unit.bodies (get_or found.of_entities s [])
+      AreOfEntities (get_or found.first s 0) (get_or found.first (suc s) 0) linked.unit.bodies
+      (get_or found.of_entities s [])
   -- they count the bodies, in the order of the sources and of the text
   pub order : Counts (HasFunction sources) 0 found.count (number_of found)

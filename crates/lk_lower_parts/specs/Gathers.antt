@@ -54,18 +54,21 @@ IsNodeBefore a b = (a.source < b.source) ⊎ ((a.source ≡ b.source) × (a.ordi
 
 -- each of these nodes stands before the next
 abbrev pub Rise : List NodeAt → Type 0
-Rise nodes = (n : ℕ) (a b : NodeAt) → slice_get nodes n ≡ Some a → slice_get nodes (suc n) ≡ Some b → IsNodeBefore a b
+Rise nodes = (n : ℕ) (a b : NodeAt) → slice_get nodes n ≡ Some a →
+    slice_get nodes (suc n) ≡ Some b → IsNodeBefore a b
 
 -- they have their numbers from `first` on
 abbrev pub HaveNumbers : List (List ℕ) → (first : ℕ) → List NodeAt → Type 0
-HaveNumbers by_node first nodes = (n : ℕ) (a : NodeAt) → slice_get nodes n ≡ Some a → at_node by_node a.source a.ordinal ≡ first + n
+HaveNumbers by_node first nodes = (n : ℕ) (a : NodeAt) → slice_get nodes n ≡ Some a →
+    at_node by_node a.source a.ordinal ≡ first + n
 
 pub record AreInOrder (by_node : List (List ℕ)) (first : ℕ) (nodes : List NodeAt) : Type 0 where
   pub rise : Rise nodes
   pub numbered : HaveNumbers by_node first nodes
 
 abbrev pub AreAllInOrder : List (List ℕ) → List (List NodeAt) → Type 0
-AreAllInOrder by_node rows = (k : ℕ) (nodes : List NodeAt) → slice_get rows k ≡ Some nodes → AreInOrder by_node 0 nodes
+AreAllInOrder by_node rows = (k : ℕ) (nodes : List NodeAt) → slice_get rows k ≡ Some nodes →
+    AreInOrder by_node 0 nodes
 
 -- there are more types than the number of that of any of these roots
 abbrev pub HaveKnownTypes : ℕ → List Root → Type 0
@@ -74,11 +77,13 @@ HaveKnownTypes count roots = (k : ℕ) (root : Root) → slice_get roots k ≡ S
 -- ---- main's arguments
 
 abbrev pub argument : RootKind → (ty : ℕ) → Spot → Root
-argument kind ty spot = record { kind = kind; ty = ty; spot = spot; name = []; function = None; point = None; bytes = [] }
+argument kind ty spot =
+    record { kind = kind; ty = ty; spot = spot; name = []; function = None; point = None; bytes = [] }
 
 abbrev pub argument_roots : Spot → Option ArgumentTypes → List Root
 argument_roots spot None = []
-argument_roots spot (Some types) = argument kind.Argv types.strings spot ∷ (argument kind.Args types.chars spot ∷ [])
+argument_roots spot (Some types) =
+    argument kind.Argv types.strings spot ∷ (argument kind.Args types.chars spot ∷ [])
 
 -- the types of the objects of main's arguments are there where it has parameters
 abbrev pub AreTheirTypes : (has_parameters : Bool) → Table → Option ArgumentTypes → Type 0
@@ -110,11 +115,13 @@ pub record IsFinished (gathering : Gathering) (arguments types : ℕ) (found : N
 
 module _ (whole : Whole) (functions : FunctionNumbers) (points : List (List ℕ)) where
   abbrev pub source_in : (s : ℕ) → Linked → Source
-  source_in s linked = record { whole = whole; linked = linked; source = s; first = get_or functions.first s 0; points = get_or points s [] }
+  source_in s linked =
+      record { whole = whole; linked = linked; source = s; first = get_or functions.first s 0; points = get_or points s [] }
 
   -- it is the source of this place
   abbrev pub IsSourceOf : (s : ℕ) → SourceAt → Type 0
-  IsSourceOf s at = (linked : Linked) × (slice_get whole.sources s ≡ Some linked) × (seen at ≡ source_in s linked)
+  IsSourceOf s at =
+      (linked : Linked) × (slice_get whole.sources s ≡ Some linked) × (seen at ≡ source_in s linked)
 
   -- what the source s has is put behind what the sources before it have
   pub record AddsSource (s : ℕ) (table : Table) (old new : Gathering) : Type 0 where
@@ -123,7 +130,8 @@ module _ (whole : Whole) (functions : FunctionNumbers) (points : List (List ℕ)
     pub found : List NodeRoot
     pub roots : new.roots.items ≡ old.roots.items ++ map root_of found
     pub nodes : new.nodes.items ≡ old.nodes.items ++ map (node_of s) found
-    pub are_roots : (forms : List CType) → AreLater table forms → AreAmong (all_roots (source_in s linked) forms) found
+    pub are_roots : (forms : List CType) → AreLater table forms →
+        AreAmong (all_roots (source_in s linked) forms) found
     pub lists : List (List NodeSlot)
     pub slots : new.slots.items ≡ old.slots.items ++ map types_of lists
     pub slot_nodes_ : new.slot_nodes.items ≡ old.slot_nodes.items ++ map (slot_nodes s) lists
@@ -135,20 +143,28 @@ module _ (whole : Whole) (functions : FunctionNumbers) (points : List (List ℕ)
     pub more : List Root
     pub roots : now.roots.items ≡ arguments ++ more
     pub as_many : length more ≡ length now.nodes.items
-    pub each : (forms : List CType) → AreLater table forms → (t : ℕ) (linked : Linked) → t < s → slice_get whole.sources t ≡ Some linked → (x : NodeRoot) → Contains (all_roots (source_in t linked) forms) x →
+    pub each : (forms : List CType) → AreLater table forms → (t : ℕ) (linked : Linked) → t < s →
+        slice_get whole.sources t ≡ Some linked → (x : NodeRoot) →
+        Contains (all_roots (source_in t linked) forms) x →
         (n : ℕ) × (slice_get now.nodes.items n ≡ Some (node_of t x)) × (slice_get more n ≡ Some x.root)
-    pub only : (forms : List CType) → AreLater table forms → (n : ℕ) (a : NodeAt) (root : Root) → slice_get now.nodes.items n ≡ Some a → slice_get more n ≡ Some root →
-        (linked : Linked) × (slice_get whole.sources a.source ≡ Some linked) × Contains (all_roots (source_in a.source linked) forms) (record { ordinal = a.ordinal; root = root })
+    pub only : (forms : List CType) → AreLater table forms → (n : ℕ) (a : NodeAt) (root : Root) →
+        slice_get now.nodes.items n ≡ Some a → slice_get more n ≡ Some root →
+        (linked : Linked) × (slice_get whole.sources a.source ≡ Some linked)
+        × Contains (all_roots (source_in a.source linked) forms) (record { ordinal = a.ordinal; root = root })
     pub as_many_slots : length now.slots.items ≡ length now.slot_nodes.items
     pub slots : (t b : ℕ) (linked : Linked) (body : Body) → t < s → IsBody whole.sources t b linked body →
-        (list : List NodeSlot) × (slice_get now.slots.items (get_or functions.first t 0 + b) ≡ Some (types_of list)) × (slice_get now.slot_nodes.items (get_or functions.first t 0 + b) ≡ Some (slot_nodes t list)) ×
+        (list : List NodeSlot) × (slice_get now.slots.items (get_or functions.first t 0 + b)
+        ≡ Some (types_of list)) × (slice_get now.slot_nodes.items (get_or functions.first t 0 + b)
+        ≡ Some (slot_nodes t list)) ×
         AreAmong (slots_in (source_in t linked) body) list
 
   -- the numbers of the program are those that are found
-  pub record AreNumbersOf (table : Table) (found : Numbered) (numbers : Numbers) (program : Program) : Type 0 where
+  pub record AreNumbersOf (table : Table) (found : Numbered) (numbers : Numbers)
+      (program : Program) : Type 0 where
     pub root : (s o : ℕ) → numbers.root s o ≡ at_node found.by_node.items s o
     pub slot : (s o : ℕ) → numbers.slot s o ≡ at_node found.by_node.items s o
-    pub function : (s b : ℕ) → s < length whole.sources → numbers.function s b ≡ get_or functions.first s 0 + b
+    pub function : (s b : ℕ) → s < length whole.sources →
+        numbers.function s b ≡ get_or functions.first s 0 + b
     pub point : (s o : ℕ) → numbers.point s o 0 ≡ at_node points s o
     pub roots : program.roots ≡ found.roots.items
     pub types : AreLater table program.types.types
@@ -156,22 +172,30 @@ module _ (whole : Whole) (functions : FunctionNumbers) (points : List (List ℕ)
 -- ---- what they are in a program
 
 -- the slots of a body, by their types
-pub record AreSlotsOf (whole : Whole) (numbers : Numbers) (program : Program) (s b : ℕ) (types : List ℕ) : Type 0 where
+pub record AreSlotsOf (whole : Whole) (numbers : Numbers) (program : Program) (s b : ℕ)
+    (types : List ℕ) : Type 0 where
   pub order : Counts (HasSlot whole numbers program s b) 0 (length types) (λ t o k. numbers.slot t o)
-  pub each : (o type : ℕ) → IsSlot whole numbers program s b o type → slice_get types (numbers.slot s o) ≡ Some type
+  pub each : (o type : ℕ) → IsSlot whole numbers program s b o type →
+      slice_get types (numbers.slot s o) ≡ Some type
 
 -- the roots and slots of the program, behind so many roots of main's arguments
-pub record AreRootsAndSlots (whole : Whole) (numbers : Numbers) (program : Program) (arguments : ℕ) (slots : List (List ℕ)) : Type 0 where
-  pub order : Counts (HasRoot whole numbers program) arguments (length program.roots - arguments) (λ s o k. numbers.root s o)
-  pub each : (s o : ℕ) (is : Root) → IsRoot whole numbers program s o is → root_at program (numbers.root s o) ≡ Some is
+pub record AreRootsAndSlots (whole : Whole) (numbers : Numbers) (program : Program) (arguments : ℕ)
+    (slots : List (List ℕ)) : Type 0 where
+  pub order : Counts (HasRoot whole numbers program) arguments (length program.roots - arguments)
+      (λ s o k. numbers.root s o)
+  pub each : (s o : ℕ) (is : Root) → IsRoot whole numbers program s o is →
+      root_at program (numbers.root s o) ≡ Some is
   pub slots_ : (s b : ℕ) (linked : Linked) (body : Body) → IsBody whole.sources s b linked body →
-      (types : List ℕ) × (slice_get slots (numbers.function s b) ≡ Some types) × AreSlotsOf whole numbers program s b types
+      (types : List ℕ) × (slice_get slots (numbers.function s b) ≡ Some types)
+      × AreSlotsOf whole numbers program s b types
 
 -- in each program with these numbers they are its roots and slots
-pub record AreNumbered (whole : Whole) (functions : FunctionNumbers) (main : Main) (points : List (List ℕ)) (table : Table) (found : Numbered) : Type 0 where
+pub record AreNumbered (whole : Whole) (functions : FunctionNumbers) (main : Main) (points : List (List ℕ))
+    (table : Table) (found : Numbered) : Type 0 where
   pub types : Option ArgumentTypes
   pub are_types : AreTheirTypes main.has_parameters table types
   pub more : List Root
   pub arguments : found.roots.items ≡ argument_roots main.spot types ++ more
-  pub are : (numbers : Numbers) (program : Program) → AreNumbersOf whole functions points table found numbers program →
+  pub are : (numbers : Numbers) (program : Program) →
+      AreNumbersOf whole functions points table found numbers program →
       AreRootsAndSlots whole numbers program (count_arguments main.has_parameters) found.slots.items

@@ -22,7 +22,9 @@ at_node lists s o = get_or (get_or lists s []) o 0
 
 -- the root of an entity that the source defines; 0 where it has none
 abbrev pub root_in : Given → (s e : ℕ) → ℕ
-root_in given s e = option_map_or (λ declaration. at_node given.by_node.now s declaration.ordinal) (option_and_then declaration_of (entity_in given.whole.now s e)) 0
+root_in given s e =
+    option_map_or (λ declaration. at_node given.by_node.now s declaration.ordinal)
+    (option_and_then declaration_of (entity_in given.whole.now s e)) 0
 
 -- the same by its definition
 abbrev pub root_by : Given → Option (ℕ × ℕ) → ℕ
@@ -67,7 +69,8 @@ pub record HasTables (given : Given) (s : ℕ) (names : SourceNames) : Type 0 wh
 pub record AreGiven (given : Given) (numbers : Numbers) : Type 0 where
   pub root : (s o : ℕ) → numbers.root s o ≡ at_node given.by_node.now s o
   pub slot : (s o : ℕ) → numbers.slot s o ≡ at_node given.by_node.now s o
-  pub function : (s b : ℕ) → s < length given.whole.now.sources → numbers.function s b ≡ get_or given.functions.now.first s 0 + b
+  pub function : (s b : ℕ) → s < length given.whole.now.sources →
+      numbers.function s b ≡ get_or given.functions.now.first s 0 + b
   -- no source stands there, and none of its functions
   pub no_function : (s b : ℕ) → length given.whole.now.sources ≤ s → numbers.function s b ≡ 0
   pub functions : AreFunctionNumbers given.whole.now.sources given.functions.now
@@ -78,20 +81,26 @@ module _ (given : Given) where
   abbrev pub value_by : Linked → (by_node : List ℕ) → StaticValue → InitialValue
   value_by linked by_node (value.Number n) = begins.Number n
   value_by linked by_node value.Null = begins.Null
-  value_by linked by_node (value.Function e) = begins.Function (function_by given (defined_by given.whole.now linked e))
-  value_by linked by_node (value.Address e path past) = begins.Address (root_by given (defined_by given.whole.now linked e)) path past
+  value_by linked by_node (value.Function e) =
+      begins.Function (function_by given (defined_by given.whole.now linked e))
+  value_by linked by_node (value.Address e path past) =
+      begins.Address (root_by given (defined_by given.whole.now linked e)) path past
   value_by linked by_node (value.Text node path past) = begins.Address (get_or by_node node 0) path past
   value_by linked by_node value.Ready = begins.Ready
 
   abbrev pub initial_by : Linked → (by_node : List ℕ) → (root : ℕ) → StaticPart → Initial
-  initial_by linked by_node root part = record { root = root; path = part.path; value = value_by linked by_node part.value }
+  initial_by linked by_node root part =
+      record { root = root; path = part.path; value = value_by linked by_node part.value }
 
   abbrev pub object_by : Linked → (by_node : List ℕ) → StaticObject → List Initial
-  object_by linked by_node object = map (initial_by linked by_node (root_by given (defined_by given.whole.now linked object.entity))) object.parts
+  object_by linked by_node object =
+      map (initial_by linked by_node (root_by given (defined_by given.whole.now linked object.entity)))
+      object.parts
 
   abbrev pub objects_by : Linked → (by_node : List ℕ) → List StaticObject → List Initial
   objects_by linked by_node [] = []
-  objects_by linked by_node (object ∷ others) = object_by linked by_node object ++ objects_by linked by_node others
+  objects_by linked by_node (object ∷ others) =
+      object_by linked by_node object ++ objects_by linked by_node others
 
   -- those of the source `s`
   abbrev pub source_by : (s : ℕ) → Linked → List Initial
@@ -104,8 +113,11 @@ module _ (given : Given) where
 
 -- those of a source are put behind others
 abbrev pub AddsSource : Given → (s : ℕ) → List Initial → List Initial → Type 0
-AddsSource given s old new = (linked : Linked) × (slice_get given.whole.now.sources s ≡ Some linked) × (new ≡ old ++ source_by given s linked)
+AddsSource given s old new =
+    (linked : Linked) × (slice_get given.whole.now.sources s ≡ Some linked)
+    × (new ≡ old ++ source_by given s linked)
 
 -- by the numbers that are given they are what its storage begins with
 abbrev pub AreInitials : Given → List Initial → Type 0
-AreInitials given initials = (numbers : Numbers) → AreGiven given numbers → initials ≡ initials_from given.whole.now numbers 0 given.whole.now.sources
+AreInitials given initials = (numbers : Numbers) → AreGiven given numbers →
+    initials ≡ initials_from given.whole.now numbers 0 given.whole.now.sources

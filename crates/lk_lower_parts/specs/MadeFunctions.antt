@@ -28,7 +28,8 @@ holder_in function by_node local = holder_with local.is_slot function (get_or by
 
 -- a function of the type has results of this one
 abbrev pub GivesType : Table → (t result : ℕ) → Type 0
-GivesType table t result = (params : List ℕ) × (dots : Bool) × (slice_get table.types t ≡ Some (FunctionType result params dots))
+GivesType table t result =
+    (params : List ℕ) × (dots : Bool) × (slice_get table.types t ≡ Some (FunctionType result params dots))
 
 -- it is the program's entity of an entity that the source `s` defines
 pub record IsOwn (whole : Whole) (linked : Linked) (s e : ℕ) (here : WholeEntity) : Type 0 where
@@ -37,8 +38,10 @@ pub record IsOwn (whole : Whole) (linked : Linked) (s e : ℕ) (here : WholeEnti
   pub is : slice_get whole.entities number ≡ Some here
   pub there : here.defined ≡ Some (s, e)
 
--- it is the function of the body, with this number; `points` and `by_node` have the numbers of the source's nodes
-pub record IsMade (whole : Whole) (s : ℕ) (linked : Linked) (body : Body) (function : ℕ) (points by_node slots : List ℕ) (is : Function) : Type 0 where
+-- it is the function of the body, with this number; `points` and `by_node` have the
+-- numbers of the source's nodes
+pub record IsMade (whole : Whole) (s : ℕ) (linked : Linked) (body : Body) (function : ℕ)
+    (points by_node slots : List ℕ) (is : Function) : Type 0 where
   pub entity : Entity
   pub here : WholeEntity
   pub by : Declaration
@@ -56,11 +59,15 @@ pub record IsMade (whole : Whole) (s : ℕ) (linked : Linked) (body : Body) (fun
 module _ (whole : Whole) (s : ℕ) (linked : Linked) (points by_node : List ℕ) (slots : List (List ℕ)) where
   -- it stands among functions under its number
   abbrev pub StandsMade : (body : Body) → (function : ℕ) → List Function → Type 0
-  StandsMade body function functions = (is : Function) × (slice_get functions function ≡ Some is) × (types : List ℕ) × (slice_get slots function ≡ Some types) × IsMade whole s linked body function points by_node types is
+  StandsMade body function functions =
+      (is : Function) × (slice_get functions function ≡ Some is) × (types : List ℕ)
+      × (slice_get slots function ≡ Some types) × IsMade whole s linked body function points by_node types is
 
   -- it is put behind others
   abbrev pub AddsMade : (body : Body) → (function : ℕ) → (old new : List Function) → Type 0
-  AddsMade body function old new = (is : Function) × (new ≡ old ++ (is ∷ [])) × (types : List ℕ) × (slice_get slots function ≡ Some types) × IsMade whole s linked body function points by_node types is
+  AddsMade body function old new =
+      (is : Function) × (new ≡ old ++ (is ∷ [])) × (types : List ℕ) × (slice_get slots function ≡ Some types)
+      × IsMade whole s linked body function points by_node types is
 
 module _ (given : Given) (slots : List (List ℕ)) where
   -- each function of the program has its number, and types of slots
@@ -77,14 +84,17 @@ module _ (given : Given) (slots : List (List ℕ)) where
     pub as_many : length new ≡ length old + length linked.unit.bodies
     pub kept : (n : ℕ) (is : Function) → slice_get old n ≡ Some is → slice_get new n ≡ Some is
     pub each : (b : ℕ) (body : Body) → slice_get linked.unit.bodies b ≡ Some body →
-        StandsMade given.whole.now s linked (get_or given.points.now s []) (get_or given.by_node.now s []) slots body (length old + b) new
+        StandsMade given.whole.now s linked (get_or given.points.now s [])
+        (get_or given.by_node.now s []) slots body (length old + b) new
 
   -- the function of a body of the source `s`, by the tables
   abbrev pub StandsGiven : (s b : ℕ) → Linked → Body → List Function → Type 0
   StandsGiven s b linked body functions =
-      StandsMade given.whole.now s linked (get_or given.points.now s []) (get_or given.by_node.now s []) slots body (get_or given.functions.now.first s 0 + b) functions
+      StandsMade given.whole.now s linked (get_or given.points.now s []) (get_or given.by_node.now s []) slots
+      body (get_or given.functions.now.first s 0 + b) functions
 
   -- they are the functions of all bodies
   pub record AreMade (functions : List Function) : Type 0 where
     pub count : length functions ≡ given.functions.now.count
-    pub each : (s b : ℕ) (linked : Linked) (body : Body) → IsBody given.whole.now.sources s b linked body → StandsGiven s b linked body functions
+    pub each : (s b : ℕ) (linked : Linked) (body : Body) → IsBody given.whole.now.sources s b linked body →
+        StandsGiven s b linked body functions

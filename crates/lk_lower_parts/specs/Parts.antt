@@ -13,7 +13,8 @@ use Rattle.lk_types.specs.declared.c_type.CType.TheVariants.{Void, Int, ThreadId
 
 -- in each program with these points and types they are the Parts of void
 abbrev pub AreVoidPartsOf : Table → List Point → List ℕ → Type 0
-AreVoidPartsOf table points parts = (program : Program) → program.points ≡ points → program.types ≡ record table { parts = parts } → AreVoidParts program
+AreVoidPartsOf table points parts = (program : Program) → program.points ≡ points →
+    program.types ≡ record table { parts = parts } → AreVoidParts program
 
 -- ---- Only the private calls of this crate speak of what follows.
 
@@ -30,7 +31,8 @@ pointee (Struct s) = None
 pointee (Function result params dots) = None
 pointee (Opaque n) = None
 
--- what a conversion of a pointer to `void *` or from it gives void, where it is said whether each of the two points to void
+-- what a conversion of a pointer to `void *` or from it gives void, where it is said whether
+-- each of the two points to void
 abbrev pub converted_by : (from_void to_void : Bool) → (from to : ℕ) → Option ℕ
 converted_by true true from to = None
 converted_by true false from to = Some to
@@ -56,7 +58,9 @@ module _ (table : Table) where
   module _ (points : List Point) where
     -- what the point gives void where it converts the value of the point a
     abbrev pub by_conversion : Point → (a : ℕ) → Option ℕ
-    by_conversion point a = option_and_then (λ from. option_and_then (converted from) (pointed point)) (option_and_then pointed (slice_get points a))
+    by_conversion point a =
+        option_and_then (λ from. option_and_then (converted from) (pointed point))
+        (option_and_then pointed (slice_get points a))
 
     -- the type that a point with this action gives void
     abbrev pub given_by : Point → Action → Option ℕ

@@ -17,12 +17,14 @@ pub record HasMore (old new : Table) : Type 0 where
 -- of each of these types the pointer to it
 pub record ArePointersTo (table : Table) (types row : List ℕ) : Type 0 where
   pub as_many : length row ≡ length types
-  pub each : (t : ℕ) → t < length types → slice_get table.types (get_or row t 0) ≡ Some (Pointer (get_or types t 0))
+  pub each : (t : ℕ) → t < length types →
+      slice_get table.types (get_or row t 0) ≡ Some (Pointer (get_or types t 0))
 
 -- the same of each type of each source
 pub record ArePointerRows (table : Table) (sources : List Linked) (rows : List (List ℕ)) : Type 0 where
   pub as_many : length rows ≡ length sources
-  pub each : (s : ℕ) (linked : Linked) → slice_get sources s ≡ Some linked → ArePointersTo table linked.types (get_or rows s [])
+  pub each : (s : ℕ) (linked : Linked) → slice_get sources s ≡ Some linked →
+      ArePointersTo table linked.types (get_or rows s [])
 
 -- the arrays of the pointers to main's arguments and of their chars (C99 5.1.2.2.1)
 pub record AreArgumentTypes (table : Table) (found : ArgumentTypes) : Type 0 where

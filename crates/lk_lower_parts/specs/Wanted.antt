@@ -32,7 +32,8 @@ use Rattle.lk_types.specs.declared.c_type.CType.TheVariants.{Void, Int, ThreadId
 
 -- none of these types stands twice
 abbrev pub AreDifferent : List CType → Type 0
-AreDifferent forms = (t u : ℕ) (form : CType) → slice_get forms t ≡ Some form → slice_get forms u ≡ Some form → t ≡ u
+AreDifferent forms = (t u : ℕ) (form : CType) → slice_get forms t ≡ Some form →
+    slice_get forms u ≡ Some form → t ≡ u
 
 -- the types of a table, and more behind them
 pub record AreLater (table : Table) (forms : List CType) : Type 0 where
@@ -59,7 +60,8 @@ array_in forms t = place_in (is_array_of t) forms
 
 -- ---- sources
 
--- a source of a program: its place, the number of the function of its first body, and of each of its nodes the number of the first point
+-- a source of a program: its place, the number of the function of its first body, and of each of its nodes
+-- the number of the first point
 pub record Source : Type 0 where
   pub whole : Whole
   pub linked : Linked
@@ -68,7 +70,8 @@ pub record Source : Type 0 where
   pub points : List ℕ
 
 abbrev pub seen : SourceAt → Source
-seen at = record { whole = at.whole.now; linked = at.linked.now; source = at.source; first = at.first; points = at.points.now }
+seen at =
+    record { whole = at.whole.now; linked = at.linked.now; source = at.source; first = at.first; points = at.points.now }
 
 module _ (at : Source) where
   abbrev pub type_in : ℕ → ℕ
@@ -93,7 +96,8 @@ module _ (at : Source) where
   function_at b = at.first + b
 
   abbrev pub plain_root : RootKind → (ty : ℕ) → Spot → List ℕ → Option ℕ → Root
-  plain_root kind ty spot name function = record { kind = kind; ty = ty; spot = spot; name = name; function = function; point = None; bytes = [] }
+  plain_root kind ty spot name function =
+      record { kind = kind; ty = ty; spot = spot; name = name; function = function; point = None; bytes = [] }
 
   -- ---- objects of static storage
 
@@ -102,7 +106,8 @@ module _ (at : Source) where
   function_around (Some b) = Some (function_at b)
 
   abbrev pub object_root : Entity → WholeEntity → Declaration → NodeRoot
-  object_root entity here by = record { ordinal = by.ordinal; root = plain_root (kind_of entity.linkage) here.ty by.spot entity.name (function_around entity.body) }
+  object_root entity here by =
+      record { ordinal = by.ordinal; root = plain_root (kind_of entity.linkage) here.ty by.spot entity.name (function_around entity.body) }
 
   abbrev pub object_if : EntityKind → NodeRoot → List NodeRoot
   object_if entity_kind.Object root = root ∷ []
@@ -124,18 +129,22 @@ module _ (at : Source) where
   -- ---- functions and locals
 
   abbrev pub function_root : (function : ℕ) → Entity → WholeEntity → Declaration → NodeRoot
-  function_root function entity here by = record { ordinal = by.ordinal; root = plain_root kind.Function here.ty by.spot entity.name (Some function) }
+  function_root function entity here by =
+      record { ordinal = by.ordinal; root = plain_root kind.Function here.ty by.spot entity.name (Some function) }
 
   abbrev pub function_by : (function : ℕ) → Option WholeEntity → Option Entity → List NodeRoot
   function_by function None entity = []
   function_by function (Some here) None = []
-  function_by function (Some here) (Some entity) = option_to_list (option_map (function_root function entity here) (declaration_of entity))
+  function_by function (Some here) (Some entity) =
+      option_to_list (option_map (function_root function entity here) (declaration_of entity))
 
   abbrev pub function_of : (function : ℕ) → Body → List NodeRoot
-  function_of function body = function_by function (entity_here body.entity) (slice_get at.linked.unit.entities body.entity)
+  function_of function body =
+      function_by function (entity_here body.entity) (slice_get at.linked.unit.entities body.entity)
 
   abbrev pub local_root : (function : ℕ) → Local → NodeRoot
-  local_root function local = record { ordinal = local.ordinal; root = plain_root kind.Local (type_in local.ty) local.spot local.name (Some function) }
+  local_root function local =
+      record { ordinal = local.ordinal; root = plain_root kind.Local (type_in local.ty) local.spot local.name (Some function) }
 
   abbrev pub local_by : (is_slot : Bool) → (function : ℕ) → Local → List NodeRoot
   local_by true function local = []
@@ -156,11 +165,36 @@ module _ (at : Source) where
   -- ---- what nodes have of their own
 
   abbrev pub text_root : Node → List ℕ → NodeRoot
-  text_root node bytes = record { ordinal = node.ordinal; root = record { kind = kind.Text; ty = type_in node.type; spot = node.spot; name = []; function = None; point = None; bytes = bytes ++ (0 ∷ []) } }
+  text_root node bytes =
+      record {
+        ordinal = node.ordinal;
+        root =
+            record {
+              kind = kind.Text;
+              ty = type_in node.type;
+              spot = node.spot;
+              name = [];
+              function = None;
+              point = None;
+              bytes = bytes ++ (0 ∷ []);
+            };
+      }
 
   abbrev pub heap_root : Node → (ty : ℕ) → (one : Bool) → Option ℕ → NodeRoot
   heap_root node ty one function =
-      record { ordinal = node.ordinal; root = record { kind = kind.Heap one; ty = ty; spot = node.spot; name = []; function = function; point = Some (get_or at.points node.ordinal 0); bytes = [] } }
+      record {
+        ordinal = node.ordinal;
+        root =
+            record {
+              kind = kind.Heap one;
+              ty = ty;
+              spot = node.spot;
+              name = [];
+              function = function;
+              point = Some (get_or at.points node.ordinal 0);
+              bytes = [];
+            };
+      }
 
   abbrev pub slot_of : Owned → List NodeSlot
   slot_of (text node bytes) = []
@@ -197,7 +231,9 @@ module _ (at : Source) where
     -- ---- bodies, and the source
 
     abbrev pub roots_in : (function : ℕ) → Body → List NodeRoot
-    roots_in function body = function_of function body ++ (locals_of function body.locals ++ roots_of (Some function) (owned_by form_at body.block))
+    roots_in function body =
+        function_of function body ++
+        (locals_of function body.locals ++ roots_of (Some function) (owned_by form_at body.block))
 
     -- those of bodies, the first of which is the body `b`
     abbrev pub roots_in_all : (b : ℕ) → List Body → List NodeRoot
@@ -206,7 +242,8 @@ module _ (at : Source) where
 
     abbrev pub all_roots : List NodeRoot
     all_roots =
-        objects_from 0 at.linked.unit.entities ++ (roots_of None (owned_by_statics at.linked.unit.objects) ++ roots_in_all 0 at.linked.unit.bodies)
+        objects_from 0 at.linked.unit.entities ++
+        (roots_of None (owned_by_statics at.linked.unit.objects) ++ roots_in_all 0 at.linked.unit.bodies)
 
 -- the same, in some order
 pub record AreAmong {A : Type 0} (wanted found : List A) : Type 0 where
@@ -216,7 +253,8 @@ pub record AreAmong {A : Type 0} (wanted found : List A) : Type 0 where
 -- of each of these bodies its slots
 pub record AreSlots (at : Source) (bodies : List Body) (rows : List (List NodeSlot)) : Type 0 where
   pub as_many : length rows ≡ length bodies
-  pub each : (b : ℕ) (body : Body) → slice_get bodies b ≡ Some body → AreAmong (slots_in at body) (get_or rows b [])
+  pub each : (b : ℕ) (body : Body) → slice_get bodies b ≡ Some body →
+      AreAmong (slots_in at body) (get_or rows b [])
 
 -- what the source has at its nodes, where the table is this one or a later one
 pub record AreParts (at : Source) (table : Table) (parts : SourceParts) : Type 0 where

@@ -1,4 +1,5 @@
--- What lowering asks of a program: that it has what its sources name. Each program that is put together of checked sources has it.
+-- What lowering asks of a program: that it has what its sources name. Each program that is put
+-- together of checked sources has it.
 use Rattle.std.specs.Prelude.{◌≡◌, ◌<◌, ℕ, Some, length, slice_get}
 use Rattle.lk_lower_expr.specs.Lowering.{declaration_of}
 use Rattle.lk_lower_parts.specs.Sources.{defined_of}
@@ -34,7 +35,8 @@ pub record IsEntityOf (whole : Whole) (s : ℕ) (linked : Linked) (e : ℕ) : Ty
 
 -- each body of a source is that of one of its entities
 abbrev pub HaveEntities : Linked → Type 0
-HaveEntities linked = (b : ℕ) (body : Body) → slice_get linked.unit.bodies b ≡ Some body → body.entity < length linked.unit.entities
+HaveEntities linked = (b : ℕ) (body : Body) → slice_get linked.unit.bodies b ≡ Some body →
+    body.entity < length linked.unit.entities
 
 -- ---- main
 
@@ -56,5 +58,6 @@ pub record HasMain (whole : Whole) : Type 0 where
 
 pub record IsWhole (whole : Whole) : Type 0 where
   -- each body is that of an entity which its source defines
-  pub bodies : (s b : ℕ) (linked : Linked) (body : Body) → slice_get whole.sources s ≡ Some linked → slice_get linked.unit.bodies b ≡ Some body → IsEntityOf whole s linked body.entity
+  pub bodies : (s b : ℕ) (linked : Linked) (body : Body) → slice_get whole.sources s ≡ Some linked →
+      slice_get linked.unit.bodies b ≡ Some body → IsEntityOf whole s linked body.entity
   pub main : HasMain whole

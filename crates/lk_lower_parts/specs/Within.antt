@@ -51,7 +51,8 @@ module _ (table : Table) where
 
   -- the step leads to a part, below which lie fewer steps
   abbrev pub HasLower : NodeId → Sel → Type 0
-  HasLower m sel = (to : Node) × (step table (node_of table m) sel ≡ Some to) × (steps_of table to.type < steps_below m)
+  HasLower m sel =
+      (to : Node) × (step table (node_of table m) sel ≡ Some to) × (steps_of table to.type < steps_below m)
 
   -- each of so many members is such a part
   abbrev pub HaveLower : NodeId → ℕ → Type 0
@@ -61,7 +62,8 @@ module _ (table : Table) where
   pub data Reaches (n : NodeId) : NodeId → Type 0 where
     itself : Reaches n n
     by_element : (m l : NodeId) → Steps table m Element l → Reaches n l → Reaches n m
-    by_field : (m l : NodeId) (k : ℕ) → is_function (form_of table m) ≡ false → Steps table m (Field k) l → Reaches n l → Reaches n m
+    by_field : (m l : NodeId) (k : ℕ) → is_function (form_of table m) ≡ false → Steps table m (Field k) l →
+        Reaches n l → Reaches n m
 
   -- the place is that of the part, or of one in it
   abbrev pub IsInPart : PartOf → Place → Type 0
@@ -69,11 +71,14 @@ module _ (table : Table) where
 
   -- the place is that of the part to which the step leads, or of one in it
   abbrev pub IsInInner : PartOf → Sel → Place → Type 0
-  IsInInner part sel place = (place.root ≡ part.root) × ((l : NodeId) × Steps table part.node sel l × Reaches place.node l)
+  IsInInner part sel place =
+      (place.root ≡ part.root) × ((l : NodeId) × Steps table part.node sel l × Reaches place.node l)
 
   -- the place is that of one of so many members, or of a part in one
   abbrev pub IsInMembers : PartOf → ℕ → Place → Type 0
-  IsInMembers part count place = (place.root ≡ part.root) × ((k : ℕ) × (l : NodeId) × (k < count) × Steps table part.node (Field k) l × Reaches place.node l)
+  IsInMembers part count place =
+      (place.root ≡ part.root)
+      × ((k : ℕ) × (l : NodeId) × (k < count) × Steps table part.node (Field k) l × Reaches place.node l)
 
   -- the place is a part of the object of a root with cells
   pub record IsInObject (roots : List Root) (place : Place) : Type 0 where
@@ -90,12 +95,16 @@ module _ (table : Table) where
   abbrev pub IsInRoots : List Root → List (ℕ × ℕ × ℕ × ℕ) → Place → Type 0
   IsInRoots roots order place = HasRoot order place.root × IsInObject roots place
 
-  -- to these places such ones were added of which the form passes a test: all of them, unless they became too many
-  pub record Adds (test : CType → Bool) (IsOne : Place → Type 0) (all : ℕ) (old new : List Place) : Type 0 where
+  -- to these places such ones were added of which the form passes a test: all of
+  -- them, unless they became too many
+  pub record Adds (test : CType → Bool) (IsOne : Place → Type 0) (all : ℕ)
+      (old new : List Place) : Type 0 where
     pub longer : length old ≤ length new
     pub kept : (place : Place) → Contains old place → Contains new place
-    pub only : (place : Place) → Contains new place → Contains old place ⊎ (IsOne place × (test (form_of table place.node) ≡ true))
-    pub each : all ≤ 65536 → (place : Place) → IsOne place → test (form_of table place.node) ≡ true → Contains new place
+    pub only : (place : Place) → Contains new place →
+        Contains old place ⊎ (IsOne place × (test (form_of table place.node) ≡ true))
+    pub each : all ≤ 65536 → (place : Place) → IsOne place → test (form_of table place.node) ≡ true →
+        Contains new place
 
   -- to these cells those of such places were added
   pub record AddsCells (IsOne : Place → Type 0) (old new : Cells) : Type 0 where
@@ -104,10 +113,14 @@ module _ (table : Table) where
 
   -- these are the cells of such places: all of them, unless they became too many
   pub record AreCells (IsOne : Place → Type 0) (cells : Cells) : Type 0 where
-    pub only_values : (place : Place) → Contains cells.values.items place → IsOne place × (is_value (form_of table place.node) ≡ true)
-    pub only_locks : (place : Place) → Contains cells.locks.items place → IsOne place × (is_mutex (form_of table place.node) ≡ true)
-    pub each_value : count_of_cells cells ≤ 65536 → (place : Place) → IsOne place → is_value (form_of table place.node) ≡ true → Contains cells.values.items place
-    pub each_lock : count_of_cells cells ≤ 65536 → (place : Place) → IsOne place → is_mutex (form_of table place.node) ≡ true → Contains cells.locks.items place
+    pub only_values : (place : Place) → Contains cells.values.items place →
+        IsOne place × (is_value (form_of table place.node) ≡ true)
+    pub only_locks : (place : Place) → Contains cells.locks.items place →
+        IsOne place × (is_mutex (form_of table place.node) ≡ true)
+    pub each_value : count_of_cells cells ≤ 65536 → (place : Place) → IsOne place →
+        is_value (form_of table place.node) ≡ true → Contains cells.values.items place
+    pub each_lock : count_of_cells cells ≤ 65536 → (place : Place) → IsOne place →
+        is_mutex (form_of table place.node) ≡ true → Contains cells.locks.items place
 
 -- cells of each kind stand in the order of the text
 pub record AreInOrder (roots : List Root) (cells : Cells) : Type 0 where

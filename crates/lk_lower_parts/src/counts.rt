@@ -11,20 +11,22 @@ use lk_base::{NoMemory, Seq};
 use lk_typed::{Declaration, Defines, Entity, Linked, Whole};
 use std::alloc::Global;
 
-/// The numbers of the functions of the sources: those of the bodies, in the order of the sources and of the text.
+/// The numbers of the functions of the sources: those of the bodies, in the order of
+/// the sources and of the text.
 #[derive(Drop)]
 pub struct FunctionNumbers {
-    /// Of each source the number of the function of its first body, and behind them how many functions there are.
+    /// Of each source the number of the function of its first body, and behind them
+    /// how many functions there are.
     pub first: Seq<u32>,
-    /// Of each entity of each source the number of the function whose body it has; the number behind those of its
-    /// source where it has none.
+    /// Of each entity of each source the number of the function whose body it has; the number behind those of
+    /// its source where it has none.
     pub of_entities: Seq<Seq<u32>>,
     /// How many functions there are.
     pub count: u32,
 }
 
-/// How many things there are. No list of a source is so long that it has no such number, since each thing in it has its
-/// own text.
+/// How many things there are. No list of a source is so long that it has no such number, since each
+/// thing in it has its own text.
 pub(crate) fn count_of(len: usize) -> Result<u32, NoMemory>
     ensures { IfOk result (λ count. count ≡ len) }
 {
@@ -49,8 +51,8 @@ fn give(row: &mut Vec<u32>, entity: u32, function: u32)
     row[entity as usize] = function;
 }
 
-/// The functions of the entities of a source, where that of its first body has a number. Of several bodies of an entity
-/// the first counts, which is given last.
+/// The functions of the entities of a source, where that of its first body has a number. Of several bodies of
+/// an entity the first counts, which is given last.
 fn of_source(alloc: Global, linked: &Linked, first: u32) -> Result<Seq<u32>, NoMemory>
     requires { HaveEntities linked.now }
     ensures { IfOk result (AreOfEntities first (first + length linked.now.unit.bodies)
@@ -134,8 +136,8 @@ fn tentative_among(list: &[Declaration]) -> Option<&Declaration>
     None
 }
 
-/// Of several declarations of an entity the one with a body or an initialiser counts, else the first tentative definition,
-/// else the first (C99 6.9, 5; 6.9.2, 2).
+/// Of several declarations of an entity the one with a body or an initialiser counts, else the first
+/// tentative definition, else the first (C99 6.9, 5; 6.9.2, 2).
 pub fn declaration_of(entity: &Entity) -> Option<&Declaration>
     ensures { option_copied result ≡ lowering.declaration_of entity.now }
 {

@@ -162,8 +162,8 @@ fn types_of(alloc: Global, slots: &[Seq<TypeId>], function: u32) -> Result<Seq<T
 }
 
 impl Given<'_> {
-    /// Adds the functions of a source, of which the slots are among those of all functions, behind those of the sources
-    /// before it.
+    /// Adds the functions of a source, of which the slots are among those of all functions, behind
+    /// those of the sources before it.
     fn push_functions(
         &self,
         source: u32,

@@ -34,8 +34,8 @@ fn count_arguments(main: Main) -> usize
     if main.has_parameters { 2 } else { 0 }
 }
 
-/// Adds the roots and slots of a source: those of its functions behind those of the functions before them. Types that
-/// roots need are put to `types`.
+/// Adds the roots and slots of a source: those of its functions behind those of the functions before them.
+/// Types that roots need are put to `types`.
 fn gather_source(
     alloc: Global,
     whole: &Whole,
@@ -56,9 +56,9 @@ fn gather_source(
     gathering.number(alloc, source, parts)
 }
 
-/// The roots and slots of the program: those of main's arguments first, then those of the sources, in their order and
-/// that of their nodes. `points` has of each node of each source its first point. Types that roots need are put to
-/// `types`.
+/// The roots and slots of the program: those of main's arguments first, then those of the sources, in their
+/// order and that of their nodes. `points` has of each node of each source its first point. Types that
+/// roots need are put to `types`.
 pub fn number_roots_and_slots(
     alloc: Global,
     whole: &Whole,

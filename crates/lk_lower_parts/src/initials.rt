@@ -107,8 +107,8 @@ impl Given<'_> {
         Ok(())
     }
 
-    /// What the program's objects of static storage begin with, where that is named: in the order of the sources and of
-    /// the text.
+    /// What the program's objects of static storage begin with, where that is named: in the order of
+    /// the sources and of the text.
     pub fn initials(&self) -> Result<Seq<Initial>, NoMemory>
         ensures { IfOk result (AreInitials self.now) }
     {

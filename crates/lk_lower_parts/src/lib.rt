@@ -1,4 +1,5 @@
-//! What a program has besides its points: functions, roots, slots, places, sites, and what its storage begins with.
+//! What a program has besides its points: functions, roots, slots, places, sites, and
+//! what its storage begins with.
 #![tactic(auto)]
 
 mod counts;

@@ -116,7 +116,8 @@ impl<'a> Given<'a> {
         number_or(self.functions.first.list(), source as usize + 1, 0)
     }
 
-    /// The function of an entity that a source defines; the number behind those of the source where it has none.
+    /// The function of an entity that a source defines; the number behind those of
+    /// the source where it has none.
     fn function_in(&self, source: u32, e: u32) -> u32
         ensures { result ≡ function_in self.now source e }
     {

@@ -15,7 +15,8 @@ use std::alloc::Global;
 pub struct Numbered {
     /// The roots, in the order of their numbers.
     pub roots: Vec<Root>,
-    /// Of each node of each source the number of its root, or that of its slot in its function; 0 of each other node.
+    /// Of each node of each source the number of its root, or that of its slot in its
+    /// function; 0 of each other node.
     pub by_node: Vec<Seq<u32>>,
     /// Of each function the types of its slots.
     pub slots: Vec<Seq<TypeId>>,
@@ -35,7 +36,8 @@ pub struct Gathering {
     pub roots: Vec<Root>,
     /// The nodes of those that are none of main's arguments, in the same order.
     pub nodes: Vec<NodeAt>,
-    /// Of each node of each source the number of its root, or that of its slot in its function; 0 of each other node.
+    /// Of each node of each source the number of its root, or that of its slot in its
+    /// function; 0 of each other node.
     pub by_node: Vec<Seq<u32>>,
     /// Of each function the types of its slots, and their nodes.
     pub slots: Vec<Seq<TypeId>>,
@@ -167,7 +169,8 @@ fn number_slots(
 }
 
 impl Gathering {
-    /// No roots of sources: but for those of main's arguments, where it has parameters, with the place of its name.
+    /// No roots of sources: but for those of main's arguments, where it has
+    /// parameters, with the place of its name.
     pub(crate) fn new(
         alloc: Global,
         arguments: Option<ArgumentTypes>,

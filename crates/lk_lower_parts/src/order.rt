@@ -81,8 +81,9 @@ fn have_types(count: u32, roots: &[Root]) -> bool
 }
 
 impl Gathering {
-    /// The roots and slots with their numbers. No node of a typed tree has two of them, and they were numbered in the
-    /// order of the nodes, so each has its number; and each type of a root was put to the table.
+    /// The roots and slots with their numbers. No node of a typed tree has two of them, and
+    /// they were numbered in the order of the nodes, so each has its number; and each type of
+    /// a root was put to the table.
     pub(crate) fn finished(self, arguments: usize, types: u32) -> Result<Numbered, NoMemory>
         ensures { IfOk result (IsFinished self arguments types) }
     {

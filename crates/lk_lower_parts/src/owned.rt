@@ -1,5 +1,5 @@
-//! The nodes of a body that have an object or a slot of their own: texts, allocations, and expressions whose value comes
-//! on several ways.
+//! The nodes of a body that have an object or a slot of their own: texts, allocations, and expressions whose
+//! value comes on several ways.
 
 ghost use Rattle.std.specs.Prelude.{◌≡◌, ◌++◌, ◌∷◌, [], map, OnOk};
 ghost use Rattle.std.specs.Option.{option_map};

@@ -64,8 +64,8 @@ fn by_conversion(types: &TypeTable, points: &[Point], point: &Point, a: u32) -> 
     converted(types, from, to)
 }
 
-/// The type that a point gives `void` as a Part: that of which it allocates an object, or whose pointer it converts to or
-/// from `void *`.
+/// The type that a point gives `void` as a Part: that of which it allocates an object, or whose pointer it
+/// converts to or from `void *`.
 fn given(types: &TypeTable, points: &[Point], point: &Point) -> Option<TypeId>
     ensures { result ≡ given_of types.now points.now point.now }
 {
@@ -112,8 +112,8 @@ fn given(types: &TypeTable, points: &[Point], point: &Point) -> Option<TypeId>
     }
 }
 
-/// Adds a type, as the one with the least number that differs from it in the sizes of arrays alone, where that isn't
-/// there yet. Each type that a point gives is in the table.
+/// Adds a type, as the one with the least number that differs from it in the sizes of arrays alone, where
+/// that isn't there yet. Each type that a point gives is in the table.
 fn push_part(
     types: &TypeTable,
     t: TypeId,
@@ -137,8 +137,8 @@ fn push_part(
     Ok(())
 }
 
-/// The Parts of `void`: each type that a point gives it, types that differ in the sizes of arrays alone as the one with
-/// the least number, in the order of the first point of each.
+/// The Parts of `void`: each type that a point gives it, types that differ in the sizes of arrays alone as
+/// the one with the least number, in the order of the first point of each.
 pub fn void_parts(
     alloc: Global,
     types: &TypeTable,

@@ -273,8 +273,9 @@ pub struct AllPlaces {
     pub locations: u32,
 }
 
-/// The locations of the program, which are the places of cells with values, and the lock places, which are those of
-/// mutexes: each by the place of its root in the text, then by its root, then by its part, members in their order.
+/// The locations of the program, which are the places of cells with values, and the lock places, which
+/// are those of mutexes: each by the place of its root in the text, then by its root, then by its
+/// part, members in their order.
 ///
 /// `TooManyPlaces` comes exactly where there are more than 65,536 of both together, unless memory ends first.
 pub fn all_places(alloc: Global, types: &TypeTable, roots: &[Root]) -> Result<AllPlaces, LowerFault>

@@ -67,8 +67,8 @@ fn used(alloc: Global, points: &[Point], functions: usize) -> Result<Vec<bool>, 
     Ok(used)
 }
 
-/// Gives the functions that are used as values their sites, in their order, from `first` on. Answers the number behind
-/// them.
+/// Gives the functions that are used as values their sites, in their order, from `first` on.
+/// Answers the number behind them.
 fn give_functions(functions: &mut Vec<Function>, used: &[bool], first: u32) -> Result<u32, NoMemory>
     requires { length used.now ≡ length functions.old.items }
     ensures functions { OnOk result (functions.new.items ≡ valued first used.now functions.old.items) }
@@ -82,8 +82,8 @@ fn give_functions(functions: &mut Vec<Function>, used: &[bool], first: u32) -> R
     Ok(next)
 }
 
-/// Gives each live call and creation its site, in the order of points, and behind them each function that is used as a
-/// value, in their order. Answers how many sites there are.
+/// Gives each live call and creation its site, in the order of points, and behind them each function that is
+/// used as a value, in their order. Answers how many sites there are.
 pub fn give_sites(
     alloc: Global,
     points: &mut Vec<Point>,

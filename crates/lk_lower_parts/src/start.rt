@@ -37,8 +37,8 @@ fn body_of(linked: &Linked, entity: u32) -> Result<(u32, &Body), NoMemory>
     Err(NoMemory)
 }
 
-/// The place of the name of `main` in its definition. A source defines it, since a program without it isn't put
-/// together.
+/// The place of the name of `main` in its definition. A source defines it, since a program
+/// without it isn't put together.
 pub fn main_spot(whole: &Whole) -> Option<Spot>
     ensures { result ≡ spot_of_main whole.now }
 {

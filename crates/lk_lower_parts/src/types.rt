@@ -8,8 +8,8 @@ use lk_typed::Whole;
 use lk_types::{CType, TypeId, TypeTable};
 use std::alloc::Global;
 
-/// Puts a form to a table. Each one that is put is of parts that the table has, and no larger than a type of a table may
-/// be, and no program has as many types as there are numbers.
+/// Puts a form to a table. Each one that is put is of parts that the table has, and no larger than a type of
+/// a table may be, and no program has as many types as there are numbers.
 #[tactic(auto, using(crate::proofs::Pointers::put_more))]
 fn put(table: &mut TypeTable, form: CType) -> Result<TypeId, NoMemory>
     ensures put { IfOk result (λ t. slice_get table.new.types t ≡ Some form) }

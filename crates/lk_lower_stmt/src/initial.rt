@@ -59,8 +59,8 @@ fn push_whole(
 }
 
 impl<C: Cells> BodyLowering<'_, C> {
-    /// Adds the steps of an object's initialiser: those of the parts that it names, and then those of the cells that it
-    /// doesn't name.
+    /// Adds the steps of an object's initialiser: those of the parts that it names, and then those of
+    /// the cells that it doesn't name.
     fn push_object(
         &self,
         object: u32,

@@ -26,8 +26,8 @@ struct StmtNode {
 }
 
 impl<C: Cells> BodyLowering<'_, C> {
-    /// Adds the steps of a statement, what stands last in it first, and each `case` and `default` in it that belongs to
-    /// the `switch` around it. Answers the point at which it begins.
+    /// Adds the steps of a statement, what stands last in it first, and each `case` and `default` in it that
+    /// belongs to the `switch` around it. Answers the point at which it begins.
     ///
     /// `Err` comes for want of memory.
     #[cycle(lowers)]
@@ -157,8 +157,8 @@ impl<C: Cells> BodyLowering<'_, C> {
         }
     }
 
-    /// Adds the steps of an `if` whose second statement begins at a point; without one that is behind the `if` (C99
-    /// 6.8.4.1).
+    /// Adds the steps of an `if` whose second statement begins at a point; without one that is
+    /// behind the `if` (C99 6.8.4.1).
     #[cycle(lowers)]
     fn push_then(
         &self,
@@ -186,8 +186,8 @@ impl<C: Cells> BodyLowering<'_, C> {
         self.source.first_of(c)
     }
 
-    /// Adds the steps of `switch`: control goes to each case in the order of the text, and last to the default or past
-    /// the statement (C99 6.8.4.2).
+    /// Adds the steps of `switch`: control goes to each case in the order of the text, and last to the
+    /// default or past the statement (C99 6.8.4.2).
     #[cycle(lowers)]
     fn push_switch(
         &self,
@@ -276,7 +276,8 @@ impl<C: Cells> BodyLowering<'_, C> {
         Ok(turn)
     }
 
-    /// Adds the steps of `for`: each turn begins behind the first part, and `continue` goes to the third (C99 6.8.5.3).
+    /// Adds the steps of `for`: each turn begins behind the first part, and `continue`
+    /// goes to the third (C99 6.8.5.3).
     #[cycle(lowers)]
     fn push_for(
         &self,

@@ -82,7 +82,8 @@ fn element_path(alloc: Global, path: &[CellStep], index: u32) -> Result<Vec<Cell
     Ok(steps)
 }
 
-/// Adds the steps that write a byte of the text at a node into an element of an array. Answers the one that writes.
+/// Adds the steps that write a byte of the text at a node into an element of an array.
+/// Answers the one that writes.
 fn push_byte(
     source: &Lowering<'_>,
     local: &LocalNames,
@@ -130,8 +131,8 @@ fn next_byte(index: u32) -> Result<u32, NoMemory>
     Ok(index + 1)
 }
 
-/// Adds the steps of the bytes of a text, which go to the elements of an array of type `ty`, and those of their values,
-/// which are steps of the text.
+/// Adds the steps of the bytes of a text, which go to the elements of an array of type `ty`, and those of
+/// their values, which are steps of the text.
 pub(crate) fn push_text(
     source: &Lowering<'_>,
     local: &LocalNames,

@@ -41,7 +41,8 @@ pub(crate) fn push_given(
     }
 }
 
-/// The steps of a loop of its own: each turn begins at its condition, and goes on to its body or past the loop.
+/// The steps of a loop of its own: each turn begins at its condition, and goes on
+/// to its body or past the loop.
 pub(crate) fn turn_steps(
     source: &Lowering<'_>,
     spot: Spot,

@@ -82,8 +82,8 @@ fn points(source: &Lowering<'_>, does: Action, ty: TypeId) -> Deed
     }
 }
 
-/// Adds the step from the pointer that the step `k` gives to a member of the struct of type `ty` that it points to.
-/// Answers the step that gives the pointer to the member.
+/// Adds the step from the pointer that the step `k` gives to a member of the struct of type `ty` that it
+/// points to. Answers the step that gives the pointer to the member.
 fn push_member(
     source: &Lowering<'_>,
     local: &LocalNames,
@@ -105,8 +105,8 @@ fn push_member(
     Ok(next)
 }
 
-/// Adds the steps from the pointer that the step `k` gives to an element of the array of type `ty` that it points to.
-/// Answers the step that gives the pointer to the element.
+/// Adds the steps from the pointer that the step `k` gives to an element of the array of type `ty` that it
+/// points to. Answers the step that gives the pointer to the element.
 fn push_element(
     source: &Lowering<'_>,
     local: &LocalNames,
@@ -142,8 +142,8 @@ fn push_element(
     Ok(next)
 }
 
-/// Adds the steps from the pointer that the step `k` gives to a part of what it points to, of type `ty`. Answers the
-/// step that gives the pointer to the part.
+/// Adds the steps from the pointer that the step `k` gives to a part of what it points to, of type `ty`.
+/// Answers the step that gives the pointer to the part.
 fn push_part(
     source: &Lowering<'_>,
     local: &LocalNames,
@@ -164,8 +164,8 @@ fn push_part(
     }
 }
 
-/// Adds the steps from the pointer that the step `k` gives along a path. Answers the step that gives the pointer to the
-/// part at its end.
+/// Adds the steps from the pointer that the step `k` gives along a path. Answers the step that gives the
+/// pointer to the part at its end.
 fn push_along(
     source: &Lowering<'_>,
     local: &LocalNames,

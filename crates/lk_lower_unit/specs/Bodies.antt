@@ -25,7 +25,8 @@ use Rattle.lk_types.specs.declared.node.NodeId.{NodeId}
 
 -- a local has the number of its declared name
 abbrev pub named_local : List ℕ → Local → LocalNames
-named_local by_node is = record { ordinal = is.ordinal; spot = is.spot; ty = is.ty; is_slot = is.is_slot; number = get_or by_node is.ordinal 0 }
+named_local by_node is =
+    record { ordinal = is.ordinal; spot = is.spot; ty = is.ty; is_slot = is.is_slot; number = get_or by_node is.ordinal 0 }
 
 abbrev pub with_locals : SourceNames → List Local → SourceNames
 with_locals source locals = record {
@@ -45,7 +46,13 @@ names_by_locals table source locals = names_of table (with_locals source locals)
 -- `node` gives the node to which the steps to a cell of an object of a type lead, with indices forgotten
 abbrev pub cell_place : (node : ℕ → List CellStep → NodeId) → SourceNames → ℕ → List CellStep → Place
 cell_place node source l path =
-    option_map_or (λ (local : LocalNames). record { root = local.number; node = node (get_or source.types local.ty 0) path }) (slice_get source.locals l) (record { root = 0; node = node 0 [] })
+    option_map_or (λ (local : LocalNames). record {
+      root = local.number;
+      node = node (get_or source.types local.ty 0) path;
+    }) (slice_get source.locals l) (record {
+      root = 0;
+      node = node 0 [];
+    })
 
 abbrev pub places_by_locals : (node : ℕ → List CellStep → NodeId) → SourceNames → PlacesBy
 places_by_locals node source locals = cell_place node (with_locals source locals)
@@ -75,12 +82,15 @@ module _ (names : NamesBy) (places : PlacesBy) where
   -- of bodies, the first of them the function `first`
   abbrev pub steps_of_bodies : (first : ℕ) → List Body → List StandingStep
   steps_of_bodies first [] = []
-  steps_of_bodies first (body ∷ others) = all_standing first (walk_of_body body) ++ steps_of_bodies (suc first) others
+  steps_of_bodies first (body ∷ others) =
+      all_standing first (walk_of_body body) ++ steps_of_bodies (suc first) others
 
 -- the initialisers of objects of static storage stand in no body
 module _ (names : NamesBy) where
   abbrev pub walk_of_static : StaticObject → Entity → Walk
-  walk_of_static object entity = static_walk (names []) (declared_node object entity) ((names []).object (storage.Entity object.entity)) object.parts
+  walk_of_static object entity =
+      static_walk (names []) (declared_node object entity)
+      ((names []).object (storage.Entity object.entity)) object.parts
 
   abbrev pub steps_of_static : (none : ℕ) → StaticObject → Option Entity → List StandingStep
   steps_of_static none object None = []
@@ -88,4 +98,5 @@ module _ (names : NamesBy) where
 
   abbrev pub steps_of_statics : (none : ℕ) → List Entity → List StaticObject → List StandingStep
   steps_of_statics none entities [] = []
-  steps_of_statics none entities (object ∷ others) = steps_of_static none object (slice_get entities object.entity) ++ steps_of_statics none entities others
+  steps_of_statics none entities (object ∷ others) =
+      steps_of_static none object (slice_get entities object.entity) ++ steps_of_statics none entities others

@@ -1,4 +1,5 @@
--- How the nodes of sources are numbered: in the order of the sources and of their nodes, each node with as many numbers as it counts.
+-- How the nodes of sources are numbered: in the order of the sources and of their nodes, each node with
+-- as many numbers as it counts.
 use Rattle.std.specs.Prelude.{◌≡◌, ◌<◌, ◌≤◌, ◌+◌, ℕ, List}
 use Rattle.std.specs.List.{sum, sum_by}
 use Rattle.lk_lower_expr.specs.Lowering.{Counts}

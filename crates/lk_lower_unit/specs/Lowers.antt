@@ -10,7 +10,8 @@ use Rattle.lk_types.specs.Nodes.{IsNode}
 
 -- the node of each place is one of the program's types
 abbrev pub ArePlaceNodes : Program → Type 0
-ArePlaceNodes program = (n : ℕ) (place : Place) → place_at program n ≡ Some place → IsNode program.types place.node
+ArePlaceNodes program = (n : ℕ) (place : Place) → place_at program n ≡ Some place →
+    IsNode program.types place.node
 
 -- what is tested of the program when it is made
 pub record IsTested (program : Program) : Type 0 where

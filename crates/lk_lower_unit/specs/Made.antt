@@ -29,23 +29,35 @@ HasParts old new = (parts : List ℕ) × (new ≡ record old { parts = parts })
 
 -- the same types, with the Parts of void that the points give
 abbrev pub HasVoidParts : Table → List Point → Table → Type 0
-HasVoidParts old points new = (parts : List ℕ) × (new ≡ record old { parts = parts }) × AreVoidPartsOf old points parts
+HasVoidParts old points new =
+    (parts : List ℕ) × (new ≡ record old { parts = parts }) × AreVoidPartsOf old points parts
 
--- live is what is reached, and sites are those of live calls and creations, and of functions that are used as values
+-- live is what is reached, and sites are those of live calls and creations, and of
+-- functions that are used as values
 pub record HaveLife (program : Program) : Type 0 where
   pub live : (p : ℕ) → (live_at program p ≡ true) ↔ IsReached program.points program.functions p
   pub sites : (i : ℕ) → i < program.sites → IsSiteOfOne program i
-  pub value_sites : (f : ℕ) → f < length program.functions → ((i : ℕ) × (value_site_of program f ≡ Some i)) ↔ IsUsedAsValue program f
+  pub value_sites : (f : ℕ) → f < length program.functions → ((i : ℕ) × (value_site_of program f ≡ Some i))
+      ↔ IsUsedAsValue program f
 
--- the points of each program with these are those of the sources, and so are its functions but for their numbers of slots
-pub record IsCode (given : Given) (table : Table) (slots : List (List ℕ)) (count : ℕ) (code : Code) : Type 0 where
+-- the points of each program with these are those of the sources, and so are its functions
+-- but for their numbers of slots
+pub record IsCode (given : Given) (table : Table) (slots : List (List ℕ)) (count : ℕ)
+    (code : Code) : Type 0 where
   pub many : length code.points.items ≡ count
-  pub points_ : (program : Program) → program.points ≡ code.points.items → given.functions.now.count ≡ length program.functions → (s o k : ℕ) (is : Step) (function : ℕ) →
-      StandsIn given.whole.now (numbers_of given table) program s o k is function → IsPointOf given.whole.now (numbers_of given table) program ((numbers_of given table).point s o k) is function
+  pub points_ : (program : Program) → program.points ≡ code.points.items →
+      given.functions.now.count ≡ length program.functions → (s o k : ℕ) (is : Step) (function : ℕ) →
+      StandsIn given.whole.now (numbers_of given table) program s o k is function →
+      IsPointOf given.whole.now (numbers_of given table) program
+      ((numbers_of given table).point s o k) is function
   pub many_functions : length code.functions.items ≡ given.functions.now.count
-  pub functions_ : (s b : ℕ) (linked : Linked) (body : Body) → IsBody given.whole.now.sources s b linked body → StandsGiven given slots s b linked body code.functions.items
-  pub sites_ : (whole : Whole) (numbers : Numbers) (program : Program) → program.points ≡ code.points.items → program.functions ≡ code.functions.items → AreSites whole numbers program
-  pub life : (program : Program) → program.points ≡ code.points.items → program.functions ≡ code.functions.items → program.sites ≡ code.sites → HaveLife program
+  pub functions_ : (s b : ℕ) (linked : Linked) (body : Body) →
+      IsBody given.whole.now.sources s b linked body →
+      StandsGiven given slots s b linked body code.functions.items
+  pub sites_ : (whole : Whole) (numbers : Numbers) (program : Program) → program.points ≡ code.points.items →
+      program.functions ≡ code.functions.items → AreSites whole numbers program
+  pub life : (program : Program) → program.points ≡ code.points.items →
+      program.functions ≡ code.functions.items → program.sites ≡ code.sites → HaveLife program
 
 pub record IsRest (given : Given) (roots : List Root) (types : Table) (rest : Rest) : Type 0 where
   pub roots_ : rest.roots.items ≡ roots
@@ -60,7 +72,8 @@ pub record HasMorePartedPlaces (types : Table) (roots : List Root) : Type 0 wher
   pub more : HasMorePlacesOf table roots 65536
 
 -- the program of these parts
-pub record IsProgramOf (given : Given) (types : Table) (main : Main) (count : ℕ) (slots : List (List ℕ)) (roots : List Root) (program : Program) : Type 0 where
+pub record IsProgramOf (given : Given) (types : Table) (main : Main) (count : ℕ) (slots : List (List ℕ))
+    (roots : List Root) (program : Program) : Type 0 where
   pub code : Code
   pub is_code : IsCode given types slots count code
   pub rest : Rest

@@ -61,7 +61,8 @@ module _ (whole : Whole) (functions : FunctionNumbers) (points by_node : List (L
   }
 
 abbrev pub numbers_of : Given → Table → Numbers
-numbers_of given table = numbers_by given.whole.now given.functions.now given.points.now given.by_node.now table
+numbers_of given table =
+    numbers_by given.whole.now given.functions.now given.points.now given.by_node.now table
 
 -- the tables hold the numbers of functions and of pointers
 pub record AreFound (given : Given) (table : Table) : Type 0 where
@@ -73,18 +74,21 @@ pub record AreFound (given : Given) (table : Table) : Type 0 where
 
 -- so many points have numbers, whatever else is in the program
 pub record AreCounted (given : Given) (table : Table) (count : ℕ) : Type 0 where
-  pub order : (program : Program) → Counts (HasStep given.whole.now (numbers_of given table) program) 0 count (numbers_of given table).point
+  pub order : (program : Program) →
+      Counts (HasStep given.whole.now (numbers_of given table) program) 0 count (numbers_of given table).point
   pub few : count ≤ 65536
 
 -- ---- points
 
 -- the point of a step. Whether it is live, and its site, isn't known yet
 abbrev pub point_of : Step → ℕ → Point
-point_of is function = record { action = is.does; value = is.gives; next = is.next; function = function; spot = is.spot; live = false; site = None }
+point_of is function =
+    record { action = is.does; value = is.gives; next = is.next; function = function; spot = is.spot; live = false; site = None }
 
 -- the points that stand at numbers stay there
 abbrev pub AreKept : List (Option Point) → List (Option Point) → Type 0
-AreKept old new = (n : ℕ) (point : Point) → slice_get old n ≡ Some (Some point) → slice_get new n ≡ Some (Some point)
+AreKept old new = (n : ℕ) (point : Point) → slice_get old n ≡ Some (Some point) →
+    slice_get new n ≡ Some (Some point)
 
 -- the step has one of so many numbers
 pub record HasNumber (names : SourceNames) (count : ℕ) (one : StandingStep) : Type 0 where
@@ -93,7 +97,9 @@ pub record HasNumber (names : SourceNames) (count : ℕ) (one : StandingStep) : 
 
 -- the point of the step stands at its number
 abbrev pub StandsAt : SourceNames → StandingStep → List (Option Point) → Type 0
-StandsAt names one points = slice_get points (at_of names one.step.node one.step.step) ≡ Some (Some (point_of one.step.is one.function))
+StandsAt names one points =
+    slice_get points (at_of names one.step.node one.step.step)
+    ≡ Some (Some (point_of one.step.is one.function))
 
 -- points are put beside others
 pub record ArePutBeside (old new : List (Option Point)) : Type 0 where
@@ -104,18 +110,23 @@ pub record PlacesOne (names : SourceNames) (one : StandingStep) (old new : List 
   pub beside : ArePutBeside old new
   pub there : StandsAt names one new
 
-pub record PlacesAll (names : SourceNames) (steps : List StandingStep) (old new : List (Option Point)) : Type 0 where
+pub record PlacesAll (names : SourceNames) (steps : List StandingStep)
+    (old new : List (Option Point)) : Type 0 where
   pub beside : ArePutBeside old new
   pub there : (one : StandingStep) → Contains steps one → StandsAt names one new
 
 -- in each program they are the steps of the source `s`, by its names
 abbrev pub AreStepsOf : Given → Table → (s : ℕ) → SourceNames → List StandingStep → Type 0
 AreStepsOf given table s names steps =
-    (linked : Linked) × (slice_get given.whole.now.sources s ≡ Some linked) × StandInPrograms linked.unit (cell_node table) (get_or given.functions.now.first s 0) given.functions.now.count names steps
+    (linked : Linked) × (slice_get given.whole.now.sources s ≡ Some linked)
+    × StandInPrograms linked.unit (cell_node table) (get_or given.functions.now.first s 0)
+    given.functions.now.count names steps
 
 -- the points of the source `s` stand at their numbers, in each program with so many functions
 abbrev pub ArePlaced : Given → Table → (s : ℕ) → List (Option Point) → Type 0
-ArePlaced given table s points = (program : Program) (o k : ℕ) (is : Step) (function : ℕ) → given.functions.now.count ≡ length program.functions → StandsIn given.whole.now (numbers_of given table) program s o k is function →
+ArePlaced given table s points = (program : Program) (o k : ℕ) (is : Step) (function : ℕ) →
+    given.functions.now.count ≡ length program.functions →
+    StandsIn given.whole.now (numbers_of given table) program s o k is function →
     slice_get points ((numbers_of given table).point s o k) ≡ Some (Some (point_of is function))
 
 pub record PlacesSource (given : Given) (table : Table) (s : ℕ) (old new : List (Option Point)) : Type 0 where
@@ -125,13 +136,24 @@ pub record PlacesSource (given : Given) (table : Table) (s : ℕ) (old new : Lis
 -- the same of all sources, where each number is that of a point
 pub record AreAllPlaced (given : Given) (table : Table) (count : ℕ) (points : List Point) : Type 0 where
   pub as_many : length points ≡ count
-  pub placed : (program : Program) (s o k : ℕ) (is : Step) (function : ℕ) → given.functions.now.count ≡ length program.functions → StandsIn given.whole.now (numbers_of given table) program s o k is function →
+  pub placed : (program : Program) (s o k : ℕ) (is : Step) (function : ℕ) →
+      given.functions.now.count ≡ length program.functions →
+      StandsIn given.whole.now (numbers_of given table) program s o k is function →
       slice_get points ((numbers_of given table).point s o k) ≡ Some (point_of is function)
 
 -- ---- what follows from one another
 
 abbrev pub with_life : Bool → Point → Point
-with_life live point = record { action = point.action; value = point.value; next = point.next; function = point.function; spot = point.spot; live = live; site = point.site }
+with_life live point =
+    record {
+      action = point.action;
+      value = point.value;
+      next = point.next;
+      function = point.function;
+      spot = point.spot;
+      live = live;
+      site = point.site;
+    }
 
 -- the same points, where it is said of the first of them which are live
 abbrev pub lived : List Bool → List Point → List Point

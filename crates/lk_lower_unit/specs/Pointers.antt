@@ -1,4 +1,5 @@
--- The steps of a pointer that an initialiser of static storage names. Only the private calls of this crate speak of them.
+-- The steps of a pointer that an initialiser of static storage names. Only the private calls
+-- of this crate speak of them.
 use Rattle.std.specs.Prelude.{ℕ, suc, false, List, [], Option, None, Some}
 use Rattle.lk_base.specs.declared.cell.CellStep.{CellStep}
 use Rattle.lk_facts.specs.declared.action.Action.TheVariants as does
@@ -15,7 +16,9 @@ use Rattle.lk_typed.specs.declared.expression.TypedExpr.{TypedExpr}
 module _ (names : Names) where
   abbrev pub pointer_deeds : Node → (root k : ℕ) → List CellStep → Option TypedExpr → List Deed
   pointer_deeds node root k path None = []
-  pointer_deeds node root k path (Some e) = settled names node root k path (Some (part names e).first) (λ pointer. does.Write pointer (part names e).value false)
+  pointer_deeds node root k path (Some e) =
+      settled names node root k path (Some (part names e).first)
+      (λ pointer. does.Write pointer (part names e).value false)
 
   abbrev pub pointer_walk : Node → (k : ℕ) → List CellStep → Option TypedExpr → Walk
   pointer_walk node k path None = nothing

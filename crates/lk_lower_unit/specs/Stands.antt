@@ -32,11 +32,15 @@ module _ (names : NamesBy) (places : PlacesBy) (unit : TypedUnit) (function : �
   -- a step of the source, and the function in which it stands: that of a body, or `none`
   pub data IsStepOf (o k : ℕ) (is : Step) : ℕ → Type 0 where
     of_body : (b : ℕ) (body : Body) → slice_get unit.bodies b ≡ Some body →
-        IsStep o k is (body_walk (names body.locals) (places body.locals) body.ordinal body.spot body.block) → IsStepOf o k is (function b)
-    of_static : (object : StaticObject) (entity : Entity) → Contains unit.objects object → slice_get unit.entities object.entity ≡ Some entity →
-        IsStep o k is (static_walk (names []) (declared_node object entity) ((names []).object (storage.Entity object.entity)) object.parts) → IsStepOf o k is none
+        IsStep o k is (body_walk (names body.locals) (places body.locals) body.ordinal body.spot body.block) →
+        IsStepOf o k is (function b)
+    of_static : (object : StaticObject) (entity : Entity) → Contains unit.objects object →
+        slice_get unit.entities object.entity ≡ Some entity →
+        IsStep o k is (static_walk (names []) (declared_node object entity)
+        ((names []).object (storage.Entity object.entity)) object.parts) → IsStepOf o k is none
 
   -- these are the steps of the source
   pub record AreSteps (steps : List StandingStep) : Type 0 where
-    pub each : (o k : ℕ) (is : Step) (f : ℕ) → IsStepOf o k is f → Contains steps (record { step = named o k is; function = f })
+    pub each : (o k : ℕ) (is : Step) (f : ℕ) → IsStepOf o k is f →
+        Contains steps (record { step = named o k is; function = f })
     pub only : (x : StandingStep) → Contains steps x → IsStepOf x.step.node x.step.step x.step.is x.function

@@ -30,7 +30,8 @@ fn behind(next: u32, count: u32, most: u32) -> Result<u32, CountFault>
     }
 }
 
-/// Puts the numbers of the nodes of one source at the end of others, from `first` on. Answers the number behind them.
+/// Puts the numbers of the nodes of one source at the end of others, from `first` on.
+/// Answers the number behind them.
 fn push_row(
     alloc: Global,
     counts: &[u32],
@@ -54,10 +55,11 @@ fn push_row(
     Ok(next)
 }
 
-/// Numbers all that nodes of sources have, in the order of the sources and of the nodes, from `first` on: `counts` says
-/// of each node of each source how many things that are.
+/// Numbers all that nodes of sources have, in the order of the sources and of the nodes, from `first` on:
+/// `counts` says of each node of each source how many things that are.
 ///
-/// `TooMany` comes exactly where one of them would have a number of `most` or above, unless memory ends first.
+/// `TooMany` comes exactly where one of them would have a number of `most` or
+/// above, unless memory ends first.
 pub fn bases_of(
     alloc: Global,
     counts: &[Seq<u32>],

@@ -48,8 +48,8 @@ fn no_names(alloc: Global) -> SourceNames
     }
 }
 
-/// How many steps each node of a source has: which steps there are doesn't depend on the numbers, so they are made
-/// without any.
+/// How many steps each node of a source has: which steps there are doesn't depend on the numbers,
+/// so they are made without any.
 fn unit_counts(alloc: Global, unit: &TypedUnit) -> Result<Seq<u32>, NoMemory>
     ensures { IfOk result (CountsUnit unit.now) }
 {

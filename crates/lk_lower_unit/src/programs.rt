@@ -92,8 +92,8 @@ fn give_life(alloc: Global, points: &mut Vec<Point>, functions: &[Function]) -> 
     Ok(())
 }
 
-/// Whether points keep what the analysis asks of them: types, the ways of control, and what static storage begins with. What
-/// is made of a program's typed trees keeps it.
+/// Whether points keep what the analysis asks of them: types, the ways of control, and what static storage
+/// begins with. What is made of a program's typed trees keeps it.
 fn are_tested(alloc: Global, points: &Points) -> Result<bool, NoMemory>
     ensures { IfOk result (λ are. are ≡ true → IsTested points.now) }
 {
@@ -164,7 +164,8 @@ fn rest_of(
     })
 }
 
-/// The points and functions of the program, with what follows from one another: which points are live, and the sites.
+/// The points and functions of the program, with what follows from one another: which
+/// points are live, and the sites.
 #[derive(Drop)]
 struct Code {
     points: Vec<Point>,
@@ -293,11 +294,11 @@ fn assemble(
     program_of(&given, main, bases.count, slots, roots, types)
 }
 
-/// The points of a program, with its functions, roots, places and types, and what its storage begins with. The program is
-/// put together of typed trees of sources.
+/// The points of a program, with its functions, roots, places and types, and what its storage begins with.
+/// The program is put together of typed trees of sources.
 ///
-/// `TooManyPoints` comes exactly where it would have more than 65,536 points, unless memory ends first; `TooManyPlaces`
-/// only where that isn't so and its locations and lock places together are more than 65,536.
+/// `TooManyPoints` comes exactly where it would have more than 65,536 points, unless memory ends first;
+/// `TooManyPlaces` only where that isn't so and its locations and lock places together are more than 65,536.
 pub fn lower(alloc: Global, whole: &Whole) -> Result<Points, LowerFault>
     requires { IsOfSources whole.now }
     ensures nodes { IfOk result ArePlaceNodes }

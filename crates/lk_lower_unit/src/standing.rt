@@ -6,7 +6,7 @@ use lk_lower_expr::NamedStep;
 #[derive(Drop)]
 pub struct StandingStep {
     pub step: NamedStep,
-    /// The number of the function. A step of an initialiser of static storage stands in none, which is written as a
-    /// number past those of all functions.
+    /// The number of the function. A step of an initialiser of static storage stands in none, which is
+    /// written as a number past those of all functions.
     pub function: u32,
 }

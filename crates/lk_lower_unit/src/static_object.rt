@@ -33,8 +33,8 @@ fn push_pointer(
     }
 }
 
-/// Adds the steps of the pointers among the parts that an initialiser names, one after the other, and those of their
-/// values.
+/// Adds the steps of the pointers among the parts that an initialiser names, one after the
+/// other, and those of their values.
 fn push_pointers(
     source: &Lowering<'_>,
     declared: &LocalNames,
@@ -71,8 +71,8 @@ fn push_ended(
     Ok(())
 }
 
-/// Adds the steps of the initialiser of an object of static storage, by its declared name and its root: those of the
-/// pointers that it names.
+/// Adds the steps of the initialiser of an object of static storage, by its declared name and its root: those
+/// of the pointers that it names.
 ///
 /// `Err` comes for want of memory.
 pub fn push_static(

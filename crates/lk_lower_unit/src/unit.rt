@@ -183,9 +183,9 @@ impl<N: Nodes> UnitLowering<'_, N> {
         Ok(())
     }
 
-    /// The steps of the source, each with the function in which it stands: in each program with these numbers they are
-    /// exactly those of the source. Of the numbers the locals are those of a body at hand, and what they are before is
-    /// of no account.
+    /// The steps of the source, each with the function in which it stands: in each program with these numbers
+    /// they are exactly those of the source. Of the numbers the locals are those of a body at hand, and what
+    /// they are before is of no account.
     ///
     /// `Err` comes for want of memory.
     pub fn steps(&self, names: &mut SourceNames) -> Result<Vec<StandingStep>, NoMemory>

@@ -1,4 +1,5 @@
--- Where the loop stands that finds Level: what is found so far is sound, and at the end is closed over its own summary edges.
+-- Where the loop stands that finds Level: what is found so far is sound, and at the end is
+-- closed over its own summary edges.
 use Rattle.std.specs.Prelude.{◌≡◌, ℕ, Bool, true, false, List}
 use Rattle.lk_facts.specs.declared.edge.Edge.{Edge}
 use Rattle.lk_facts.specs.PathRules.{Summary}
@@ -19,4 +20,5 @@ module _ (es : List Edge) (global : ℕ → Bool) where
   -- the ends of each summary edge stand together, and what stands with its end does with where it begins
   pub record AreClosed (r : Rows) : Type 0 where
     pub last : (a b : ℕ) → Summary (HasEdge es) global (λ x y. has r x y ≡ true) a b → has r a b ≡ true
-    pub more : (a b c : ℕ) → Summary (HasEdge es) global (λ x y. has r x y ≡ true) a b → global b ≡ false → has r b c ≡ true → has r a c ≡ true
+    pub more : (a b c : ℕ) → Summary (HasEdge es) global (λ x y. has r x y ≡ true) a b → global b ≡ false →
+        has r b c ≡ true → has r a c ≡ true

@@ -16,8 +16,8 @@ use lk_facts::{Edge, Labels};
 use lk_sets::{Arrow, BitRows};
 use std::alloc::Global;
 
-/// Which labels stand in Level: row a has each label to which a segment with balanced marks leads from the label a, also
-/// a itself (LOCKSMITH: flow with calls and returns matched).
+/// Which labels stand in Level: row a has each label to which a segment with balanced marks leads from the
+/// label a, also a itself (LOCKSMITH: flow with calls and returns matched).
 ///
 /// It rests on the summary edges over what is found so far, until these give nothing new.
 pub fn levels(alloc: Global, edges: &[Edge], labels: &Labels) -> Result<BitRows, NoMemory>
@@ -85,8 +85,8 @@ fn put_summary(summary: &SummaryEdge, rows: &mut BitRows) -> bool
     rows.put(summary.from.0, summary.to.0)
 }
 
-/// An arrow back for each summary edge to a label that isn't global, so that what is reached from its end is reached
-/// from where it begins.
+/// An arrow back for each summary edge to a label that isn't global, so that what is reached from its end is
+/// reached from where it begins.
 fn arrows(alloc: Global, found: &[SummaryEdge], labels: &Labels) -> Result<Vec<Arrow>, NoMemory>
     requires { All (IsSummaryWithin (length labels.now.entries)) found.now }
     ensures { IfOk result (λ arrows. (x : Arrow) →

@@ -7,8 +7,8 @@ use lk_sets::Arrow;
 use std::alloc::Global;
 use std::mem;
 
-/// The same arrows, where no cycle forbids it each behind those that lead to where it begins. Rows are then passed on
-/// along a whole path in one round.
+/// The same arrows, where no cycle forbids it each behind those that lead to where it begins. Rows are then
+/// passed on along a whole path in one round.
 pub fn in_order(alloc: Global, size: u32, arrows: Vec<Arrow>) -> Result<Vec<Arrow>, NoMemory>
     ensures { IfOk result (λ ordered. (x : Arrow) → Contains ordered.items x ↔ Contains arrows.items x) }
 {
@@ -28,8 +28,8 @@ enum Step {
     Finish(u32),
 }
 
-/// For each number below the size the place at which such a walk over all of them has finished with it. The arrows stand
-/// in the order of where they end.
+/// For each number below the size the place at which such a walk over all of them has finished with it. The
+/// arrows stand in the order of where they end.
 fn places(alloc: Global, size: u32, arrows: &[Arrow]) -> Result<Vec<u32>, NoMemory> {
     let mut places = vec![in alloc; 0; size as usize]?;
     let mut seen = vec![in alloc; false; size as usize]?;

@@ -16,7 +16,8 @@ use lk_facts::{Edge, Label, Labels, Mark};
 use lk_sets::BitRows;
 use std::alloc::Global;
 
-/// A summary edge: a Plain edge, or a call and return at one site with the level between them inside (LOCKSMITH).
+/// A summary edge: a Plain edge, or a call and return at one site with the level
+/// between them inside (LOCKSMITH).
 #[derive(Clone, Copy, PartialEq, Eq)]
 pub struct SummaryEdge {
     /// Where it begins.
@@ -25,7 +26,8 @@ pub struct SummaryEdge {
     pub to: Label,
 }
 
-/// The summary edges over a relation that holds levels, perhaps not all yet. One may stand there several times.
+/// The summary edges over a relation that holds levels, perhaps not all yet. One
+/// may stand there several times.
 pub fn summaries(
     alloc: Global,
     edges: &[Edge],
@@ -82,7 +84,8 @@ fn push_summaries(
     Ok(())
 }
 
-/// Puts a summary edge behind the others for each of these Leave edges that ends what was entered at the label inside.
+/// Puts a summary edge behind the others for each of these Leave edges that ends what was
+/// entered at the label inside.
 fn push_matched(
     from: Label,
     inside: Label,

@@ -1,5 +1,5 @@
--- What the state is after a step has changed what it changes (C99 6.2.4, 6.5.2.2, 6.8.6.4, 7.20.3; POSIX pthread_create,
--- pthread_exit).
+-- What the state is after a step has changed what it changes (C99 6.2.4, 6.5.2.2, 6.8.6.4, 7.20.3; POSIX
+-- pthread_create, pthread_exit).
 use Rattle.std.specs.Prelude.{ℕ, ◌-◌, true, List, [], ◌∷◌, ◌++◌, take, length, Option, None, Some, slice_get, slice_set}
 use Rattle.std.specs.Option.{option_map_or}
 use Rattle.lk_facts.specs.declared.program.Program.{Program}
@@ -65,7 +65,8 @@ put_after s t given to c item = object_changed (gone_to s t given to) c.object (
 
 -- the thread with a value in a slot of its frame
 abbrev pub with_slot : ℕ → Value → Thread → Thread
-with_slot slot v thread = record thread { frame = record thread.frame { slots = slice_set thread.frame.slots slot v } }
+with_slot slot v thread =
+    record thread { frame = record thread.frame { slots = slice_set thread.frame.slots slot v } }
 
 -- the thread that keeps the number of the thread that it made
 abbrev pub with_created : ℕ → Thread → Thread
@@ -110,7 +111,8 @@ abbrev pub returned : Option Value → ℕ → Frame → Frame
 returned v q caller = turned (turn.To q) (with_given caller caller.point v)
 
 abbrev pub back_in : Option Value → ℕ → Frame → Thread → Thread
-back_in v q caller thread = record thread { frame = returned v q caller; below = take (length thread.below - 1) thread.below }
+back_in v q caller thread =
+    record thread { frame = returned v q caller; below = take (length thread.below - 1) thread.below }
 
 -- the objects after the locals of all frames of a thread have ended
 abbrev pub all_ended : List Object → Thread → List Object
@@ -127,21 +129,27 @@ module _ (t : ℕ) where
 
   -- enters a function: its frame goes on top, its objects are born (C99 6.2.4, 5; 6.5.2.2)
   abbrev pub entered : State → Made → State
-  entered s made = record s { objects = s.objects ++ made.objects; threads = changed_at s.threads t (calling made.frame) }
+  entered s made =
+      record s { objects = s.objects ++ made.objects; threads = changed_at s.threads t (calling made.frame) }
 
-  -- leaves a function: its locals end, and the frame below gets the value of its call and goes on (C99 6.2.4, 5; 6.8.6.4, 3)
+  -- leaves a function: its locals end, and the frame below gets the value of its call and goes
+  -- on (C99 6.2.4, 5; 6.8.6.4, 3)
   abbrev pub left : State → Option Value → ℕ → Thread → Frame → State
-  left s v q thread caller = record s { objects = after_lives s.objects thread.frame.locals; threads = changed_at s.threads t (back_in v q caller) }
+  left s v q thread caller =
+      record s { objects = after_lives s.objects thread.frame.locals; threads = changed_at s.threads t (back_in v q caller) }
 
   abbrev pub thread_ended : State → Thread → State
-  thread_ended s thread = record s { objects = all_ended s.objects thread; threads = changed_at s.threads t finished }
+  thread_ended s thread =
+      record s { objects = all_ended s.objects thread; threads = changed_at s.threads t finished }
 
   abbrev pub process_ended : State → Thread → State
   process_ended s thread = record s { objects = all_ended s.objects thread; ended = true }
 
   -- these, where the thread is there, and has a caller
   abbrev pub leaves : State → Option Value → ℕ → State
-  leaves s v q = option_map_or (λ thread. option_map_or (left s v q thread) (caller_of thread) s) (slice_get s.threads t) s
+  leaves s v q =
+      option_map_or (λ thread. option_map_or (left s v q thread) (caller_of thread) s)
+      (slice_get s.threads t) s
 
   abbrev pub ends_thread : State → State
   ends_thread s = option_map_or (thread_ended s) (slice_get s.threads t) s
@@ -149,7 +157,8 @@ module _ (t : ℕ) where
   abbrev pub ends_process : State → State
   ends_process s = option_map_or (process_ended s) (slice_get s.threads t) s
 
--- What the effect of a step of the thread t does to the state, in which t has gone on; and what a change does.
+-- What the effect of a step of the thread t does to the state, in which t has
+-- gone on; and what a change does.
 module _ (program : Program) (t : ℕ) where
   abbrev pub after_effect : State → Effect → State
   after_effect s effect.Nothing = s

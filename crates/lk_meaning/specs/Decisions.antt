@@ -15,7 +15,8 @@ use Rattle.lk_values.specs.declared.why.Why.TheVariants.{WrongType}
 use Rattle.lk_meaning.specs.declared.deciding.Decision.{Decision}
 use Rattle.lk_meaning.specs.declared.deciding.Decision.TheVariants.{Moves, Waits, Undefined}
 
--- a change is performed; where no row of the table takes the action's operands, the step is undefined by WrongType
+-- a change is performed; where no row of the table takes the action's operands, the
+-- step is undefined by WrongType
 abbrev pub moves_or_not : Option Change → Decision
 moves_or_not None = Undefined WrongType
 moves_or_not (Some change) = Moves change
@@ -29,7 +30,9 @@ unless None false decision = decision
 -- The thread t of the state s does this next, with the word w.
 module _ (program : Program) (s : State) (t : ℕ) (thread : Thread) (w : ℕ) where
   abbrev pub decision_of : Action → Decision
-  decision_of action = unless (cause program s t thread action) (waits program s thread action) (moves_or_not (change program s t thread w action))
+  decision_of action =
+      unless (cause program s t thread action) (waits program s thread action)
+      (moves_or_not (change program s t thread w action))
 
   abbrev pub decision : Decision
   decision = option_map_or decision_of (action_at program thread.frame.point) (Undefined WrongType)

@@ -57,4 +57,6 @@ is_past there more = nat_lt 0 more && nat_lt greatest (there + more)
 
 -- whether a change would make a thread or an object of the number that none may have
 abbrev pub is_full : Program → State → Change → Bool
-is_full program s change = is_past (length s.objects) (objects_made program change) || is_past (length s.threads) (threads_made change)
+is_full program s change =
+    is_past (length s.objects) (objects_made program change)
+    || is_past (length s.threads) (threads_made change)

@@ -1,4 +1,5 @@
--- The locations of cells: what cells of one root have in common when indices are forgotten (C99 6.2.4, 6.2.5, 20).
+-- The locations of cells: what cells of one root have in common when indices are
+-- forgotten (C99 6.2.4, 6.2.5, 20).
 use Rattle.std.specs.Prelude.{◌≡◌, ℕ, Bool, true, false, List, Option, None, Some, slice_get, option_and_then, if◌then◌else◌, MatchOption}
 use Rattle.std.specs.Option.{option_map}
 use Rattle.lk_base.specs.declared.cell.CellStep.{CellStep}
@@ -38,10 +39,15 @@ is_value (Some cell.Condition) = false
 module _ (program : Program) where
   -- the number of the root of an object, and the node of its type to which a path leads
   abbrev pub node_in : Object → List CellStep → Root → Option (ℕ × Node)
-  node_in object path root = if has_locations root.kind then option_map (λ n. (object.root, n)) (node_along program.types (first (Start root.ty)) path) else None
+  node_in object path root =
+      if has_locations root.kind
+      then option_map (λ n. (object.root, n)) (node_along program.types (first (Start root.ty)) path)
+      else None
 
   abbrev pub node_at : Object → List CellStep → Option (ℕ × Node)
-  node_at object path = if is_value (kind_at program.types object path) then option_and_then (node_in object path) (slice_get program.roots object.root) else None
+  node_at object path =
+      if is_value (kind_at program.types object path)
+      then option_and_then (node_in object path) (slice_get program.roots object.root) else None
 
   -- the same of a cell that is a location
   abbrev pub node_of_cell : State → Cell → Option (ℕ × Node)

@@ -14,14 +14,16 @@ pub record Choice : Type 0 where
 -- the choices lead from one state to another
 pub data Leads (program : Program) : State → List Choice → State → Type 0 where
   stays : {s : State} → Leads program s [] s
-  goes : {s s2 s3 : State} {t w : ℕ} {choices : List Choice} → Step program s t w s2 → Leads program s2 choices s3 → Leads program s (record { thread = t; word = w } ∷ choices) s3
+  goes : {s s2 s3 : State} {t w : ℕ} {choices : List Choice} → Step program s t w s2 →
+      Leads program s2 choices s3 → Leads program s (record { thread = t; word = w } ∷ choices) s3
 
 -- Run: with these strings as its arguments the program comes by the choices to s
 abbrev pub Run : Program → List (List ℕ) → List Choice → State → Type 0
 Run program args choices s = Leads program (started program args) choices s
 
--- Reached: some arguments and some choices lead to s. Static initialisers are performed before the program begins (C99 5.1.2), and one
--- that makes a pointer to another type of a `void *` has no defined step, as in a function; so such a program has no run.
+-- Reached: some arguments and some choices lead to s. Static initialisers are performed before the program
+-- begins (C99 5.1.2), and one that makes a pointer to another type of a `void *` has no defined step, as in a
+-- function; so such a program has no run.
 pub record Reached (program : Program) (s : State) : Type 0 where
   pub begins : StartsRight program
   pub args : List (List ℕ)

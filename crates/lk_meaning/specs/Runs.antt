@@ -64,13 +64,17 @@ module _ (s : State) (thread : Thread) where
   touched_by (does.Scan a) = through_current s thread a false
   touched_by (does.Fill a place named) = through_current s thread a true
 
--- Touch: the cell that the point of the thread t reads or writes next, and whether it writes. There is none where the thread isn't
--- there, or it or the process has ended, or the operand leads to no part of an object that lives.
+-- Touch: the cell that the point of the thread t reads or writes next, and whether it writes. There
+-- is none where the thread isn't there, or it or the process has ended, or the operand leads to no
+-- part of an object that lives.
 abbrev pub touch : Program → State → ℕ → Option Touched
 touch program s t =
-    option_and_then (λ thread. if thread.ended || s.ended then None else option_and_then (touched_by s thread) (action_at program thread.frame.point)) (slice_get s.threads t)
+    option_and_then (λ thread. if thread.ended
+    || s.ended then None else option_and_then (touched_by s thread)
+    (action_at program thread.frame.point)) (slice_get s.threads t)
 
--- Race: two threads are about to touch one cell of an object that lives, and one of them is to write it (POSIX Base Definitions 4.11)
+-- Race: two threads are about to touch one cell of an object that lives, and one of them is to write it
+-- (POSIX Base Definitions 4.11)
 pub record Race (program : Program) (s : State) (c : Cell) : Type 0 where
   pub lives : IsTrue (places.lives s c.object)
   pub first : ℕ

@@ -1,4 +1,5 @@
--- What comes of a step, exactly: it moves where a step exists and no number runs out, and each other answer has its cause.
+-- What comes of a step, exactly: it moves where a step exists and no number runs out, and
+-- each other answer has its cause.
 use Rattle.std.specs.Prelude.{◌≡◌, ℕ, ◌<◌, ◌+◌, ◌^◌, true, false, ◌||◌, Option, None, length, slice_get, if◌then◌else◌}
 use Rattle.std.specs.Option.{option_map, option_map_or}
 use Rattle.lk_facts.specs.declared.program.Program.{Program}
@@ -26,11 +27,13 @@ touched_cell program s t = option_map (λ touched. touched.cell) (touch program 
 
 -- the event of a step
 abbrev pub event_of : Program → State → ℕ → Thread → Event
-event_of program s t thread = record { point = thread.frame.point; thread = t; touched = touched_cell program s t }
+event_of program s t thread =
+    record { point = thread.frame.point; thread = t; touched = touched_cell program s t }
 
 -- what is to come of a step, by what the thread does next
 abbrev pub next_by : Program → State → ℕ → Thread → Decision → Next
-next_by program s t thread (decides.Moves change) = if is_full program s change then next_is.Full else next_is.Moves change (event_of program s t thread)
+next_by program s t thread (decides.Moves change) =
+    if is_full program s change then next_is.Full else next_is.Moves change (event_of program s t thread)
 next_by program s t thread decides.Waits = next_is.Waits
 next_by program s t thread (decides.Undefined why) = next_is.Undefined why
 
@@ -38,7 +41,8 @@ abbrev pub next_of : Program → State → ℕ → ℕ → Thread → Next
 next_of program s t w thread = next_by program s t thread (decision program s t thread w)
 
 abbrev pub next_or_ended : Program → State → ℕ → ℕ → Thread → Next
-next_or_ended program s t w thread = if thread.ended || s.ended then next_is.Ended else next_of program s t w thread
+next_or_ended program s t w thread =
+    if thread.ended || s.ended then next_is.Ended else next_of program s t w thread
 
 abbrev pub next : Program → State → ℕ → ℕ → Next
 next program s t w = option_map_or (next_or_ended program s t w) (slice_get s.threads t) next_is.NoSuchThread
@@ -68,7 +72,8 @@ Comes program s t w next_is.Ended = HasEnded s t
 Comes program s t w next_is.NoSuchThread = thread_at s t ≡ None
 Comes program s t w next_is.Full = IsFull program s t w
 
--- what comes of performing a change: the state after it with the event, or the old one where no memory is found
+-- what comes of performing a change: the state after it with the event, or the old
+-- one where no memory is found
 abbrev pub IsPerformed : Program → State → ℕ → Change → Event → Stepped → Type 0
 IsPerformed program s t change event (Moved s2 told) = (s2 ≡ after_change program t s change) × (told ≡ event)
 IsPerformed program s t change event (Waits s2) = ⊥

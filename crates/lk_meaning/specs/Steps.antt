@@ -19,8 +19,9 @@ pub record MayGoOn (s : State) (t : ℕ) (thread : Thread) : Type 0 where
   pub not_ended : thread.ended ≡ false
   pub process : s.ended ≡ false
 
--- Step: in the state s the thread t performs the action of its point with the word w, and s2 is the state after it (C99 5.1.2.3, 6.5,
--- 6.8; the POSIX pages of the functions). The decision says what the action changes, and after_change what the state is then.
+-- Step: in the state s the thread t performs the action of its point with the word w, and s2 is the state
+-- after it (C99 5.1.2.3, 6.5, 6.8; the POSIX pages of the functions). The decision says what the action
+-- changes, and after_change what the state is then.
 pub record Step (program : Program) (s : State) (t w : ℕ) (s2 : State) : Type 0 where
   pub thread : Thread
   pub may : MayGoOn s t thread
@@ -28,14 +29,15 @@ pub record Step (program : Program) (s : State) (t w : ℕ) (s2 : State) : Type 
   pub moves : decision program s t thread w ≡ Moves change
   pub is : s2 ≡ after_change program t s change
 
--- the thread t may go on, and waits where it stands: for a mutex, or for a thread to end (POSIX pthread_mutex_lock, pthread_cond_wait,
--- pthread_join)
+-- the thread t may go on, and waits where it stands: for a mutex, or for a thread to end (POSIX
+-- pthread_mutex_lock, pthread_cond_wait, pthread_join)
 pub record IsWaiting (program : Program) (s : State) (t w : ℕ) : Type 0 where
   pub thread : Thread
   pub may : MayGoOn s t thread
   pub is : decision program s t thread w ≡ Waits
 
--- the thread t may go on, but its step is undefined, by this first cause (C99 3.4.3, J.2; the POSIX pages of the functions)
+-- the thread t may go on, but its step is undefined, by this first cause (C99 3.4.3, J.2; the
+-- POSIX pages of the functions)
 pub record IsUndefined (program : Program) (s : State) (t w : ℕ) (why : Why) : Type 0 where
   pub thread : Thread
   pub may : MayGoOn s t thread

@@ -27,7 +27,8 @@ pub enum Put {
     Condition(Condition),
 }
 
-/// A frame keeps what its point gives, and something is put into an object at a path. Where no memory is found both are as before.
+/// A frame keeps what its point gives, and something is put into an object at a path. Where no memory
+/// is found both are as before.
 fn put_in_object(
     frame: &mut Frame,
     gives: Option<Value>,
@@ -179,7 +180,8 @@ fn begin_thread(
     }
 }
 
-/// A thread goes on, and begins another one (POSIX pthread_create). Where no memory is found the state is as before.
+/// A thread goes on, and begins another one (POSIX pthread_create). Where no memory is
+/// found the state is as before.
 #[tactic(auto, using(lk_birth::proofs::Changed::take_front))]
 fn begin(
     alloc: Global,
@@ -216,7 +218,8 @@ fn begin(
     }
 }
 
-/// A thread goes on, and an object is allocated (C99 7.20.3). Where no memory is found the state is as before.
+/// A thread goes on, and an object is allocated (C99 7.20.3). Where no memory is
+/// found the state is as before.
 #[tactic(auto, using(lk_birth::proofs::Changed::take_front))]
 fn bear(
     alloc: Global,
@@ -401,7 +404,8 @@ fn return_to(caller: &mut Frame, value: Option<Value>, next: u32) -> Result<(), 
     Ok(())
 }
 
-/// A thread returns to the frame below (C99 6.2.4, 5; 6.8.6.4, 3). Where no memory is found the state is as before.
+/// A thread returns to the frame below (C99 6.2.4, 5; 6.8.6.4, 3). Where no memory is
+/// found the state is as before.
 #[tactic(auto, using(lk_birth::proofs::Changed::set_back))]
 fn leave(
     alloc: Global,

@@ -119,7 +119,8 @@ pub(crate) fn record_and_put<V: Drop>(
     }
 }
 
-/// A thread's frame gives what it gives and goes where it goes. Where no memory is found the threads are as before.
+/// A thread's frame gives what it gives and goes where it goes. Where no memory is
+/// found the threads are as before.
 #[tactic(auto, using(lk_birth::proofs::Changed::set_changed, lk_birth::proofs::Changed::set_back))]
 pub(crate) fn go_on(
     alloc: Global,

@@ -81,8 +81,8 @@ fn node_at(points: &Points, object: &Object, path: &Path) -> Option<NodeId>
     Some(node)
 }
 
-/// The number of a cell's location, and nothing exactly where it has none: where it isn't there, is a mutex or a condition variable, or
-/// is of a string literal. It takes no memory.
+/// The number of a cell's location, and nothing exactly where it has none: where it isn't there, is a mutex
+/// or a condition variable, or is of a string literal. It takes no memory.
 pub fn location(points: &Points, state: &State, cell: &Cell) -> Option<u32>
     ensures { spec.IsLocation points.now state.now cell.now result }
 {

@@ -212,7 +212,8 @@ fn perform(
     }
 }
 
-/// A step of a thread: it performs the action of its point, where the word makes the free choices. See `Stepped` for what may come of it.
+/// A step of a thread: it performs the action of its point, where the word makes the free choices. See
+/// `Stepped` for what may come of it.
 #[tactic(auto, using(crate::proofs::Told::performed))]
 pub fn step(alloc: Global, points: &Points, state: State, thread: u32, word: u64) -> Stepped
     requires { IsSmall state }

@@ -107,8 +107,9 @@ fn touched_by(state: &State, thread: &Thread, action: &Action) -> Result<Option<
     }
 }
 
-/// The cell that a thread's point reads or writes next, and whether it writes it. There is none where the thread isn't there, or it
-/// or the process has ended, or its point accesses nothing, or the operand leads to no cell.
+/// The cell that a thread's point reads or writes next, and whether it writes it. There is none
+/// where the thread isn't there, or it or the process has ended, or its point accesses nothing, or
+/// the operand leads to no cell.
 pub fn touch(points: &Points, state: &State, thread: u32) -> Result<Option<Touched>, NoMemory>
     ensures { IfOk result (λ touched. touched ≡ spec.touch points.now state.now thread) }
 {

@@ -75,7 +75,8 @@ fn are_redeclarable(types: &TypeTable, t: TypeId, u: TypeId) -> bool
     types.are_redeclarable(t, u)
 }
 
-/// Whether two names stand for objects, or both for functions, of types that two declarations of one name may have.
+/// Whether two names stand for objects, or both for functions, of types that two
+/// declarations of one name may have.
 fn are_types_redeclarable(types: &TypeTable, old: Meaning, new: Meaning) -> bool
     requires old { IsKnownMeaning types.now old }
     requires new { IsKnownMeaning types.now new }
@@ -142,8 +143,8 @@ fn is_faulty(meaning: Meaning) -> bool
     }
 }
 
-/// Whether two declarations of one entity may stand in one scope: they reach equally far, at most one has a body or an
-/// initialiser, and their types are equal but for absent sizes of arrays.
+/// Whether two declarations of one entity may stand in one scope: they reach equally far, at most one has a
+/// body or an initialiser, and their types are equal but for absent sizes of arrays.
 fn are_of_one_entity(types: &TypeTable, old: &Declared, new: &Declared) -> bool
     requires old { IsKnownName types.now old.now }
     requires new { IsKnownName types.now new.now }
@@ -167,8 +168,8 @@ fn may_follow(types: &TypeTable, old: &Declared, new: &Declared) -> bool
 }
 
 impl Names {
-    /// The code of a declaration of a name that is no tag: 21 where one of its scope is there behind which it may
-    /// not stand.
+    /// The code of a declaration of a name that is no tag: 21 where one of its scope is there
+    /// behind which it may not stand.
     pub fn may_declare(&self, types: &TypeTable, new: &Declared) -> Option<Code>
         requires scope { IsKnownScope types.now self.now }
         requires new { IsKnownName types.now new.now }

@@ -16,8 +16,8 @@ pub fn left_scopes_stay()
     ensures { LeftScopesStay }
 {}
 
-/// What is known of what was declared in a scope that was left stays known while the table of types grows and structs
-/// come.
+/// What is known of what was declared in a scope that was left stays known while the table of
+/// types grows and structs come.
 pub fn known_left_stays()
     ensures { KnownLeftStays }
 {}

@@ -1,5 +1,6 @@
-//! The checker of types and faults: the names, tags and structs in scope while a source is checked (C99 6.2.1 to 6.2.3,
-//! 6.7.2.3), and the rules that ask of them: what may be declared again, what a tag means, and which words name a type.
+//! The checker of types and faults: the names, tags and structs in scope while a source is checked
+//! (C99 6.2.1 to 6.2.3, 6.7.2.3), and the rules that ask of them: what may be declared again, what a tag
+//! means, and which words name a type.
 #![tactic(auto)]
 
 mod declaring;

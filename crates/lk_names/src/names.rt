@@ -83,8 +83,8 @@ impl Names {
         }
     }
 
-    /// Whether no name stands outside of the innermost scope, as in file scope (C99 6.2.1, 4). In a scope behind a name of
-    /// file scope it doesn't hold.
+    /// Whether no name stands outside of the innermost scope, as in file scope (C99 6.2.1, 4). In a scope
+    /// behind a name of file scope it doesn't hold.
     pub fn is_outermost(&self) -> bool
         ensures { result ≡ nat_eq self.now.base 0 }
     {
@@ -182,8 +182,8 @@ impl Names {
         Ok(())
     }
 
-    /// The number of a new struct, of whose members nothing is known. Where no memory is found, or the numbers are
-    /// used up, all is as before.
+    /// The number of a new struct, of whose members nothing is known. Where no memory is found, or the
+    /// numbers are used up, all is as before.
     pub fn begin_struct(&mut self) -> Result<u32, NoMemory>
         ensures number { IfOk result (λ s. s ≡ length self.old.structs) }
         ensures ok { OnOk result (self.new ≡ record self.old { structs = self.old.structs ++ NotYet ∷ [] }) }
@@ -227,8 +227,8 @@ impl Names {
         mark
     }
 
-    /// Ends the scope that was begun when the mark was given: its names and tags are gone, and those that they hid
-    /// are in sight again. Structs stay, so that no number stands for two.
+    /// Ends the scope that was begun when the mark was given: its names and tags are gone, and those that
+    /// they hid are in sight again. Structs stay, so that no number stands for two.
     pub fn leave(&mut self, mark: Mark)
         ensures value { self.new ≡ left mark self.old }
         ensures leaves { Leaves mark self.old self.new }
@@ -240,8 +240,8 @@ impl Names {
         self.tag_base = mark.tag_base;
     }
 
-    /// Ends the scope that was begun when the mark was given, as `leave` does, and hands out its names and tags. Where no
-    /// memory is found the scope stays.
+    /// Ends the scope that was begun when the mark was given, as `leave` does, and hands out its names and
+    /// tags. Where no memory is found the scope stays.
     pub fn leave_with(&mut self, alloc: Global, mark: Mark) -> Result<LeftScope, NoMemory>
         ensures value { OnOk result (self.new ≡ left mark self.old) }
         ensures leaves { OnOk result (Leaves mark self.old self.new) }
@@ -262,8 +262,8 @@ impl Names {
         Ok(LeftScope { declared, tags })
     }
 
-    /// Declares in the innermost scope what was declared in one that was left. Where no memory is found, some of it may
-    /// be declared.
+    /// Declares in the innermost scope what was declared in one that was left. Where no memory is
+    /// found, some of it may be declared.
     pub fn declare_again(&mut self, scope: LeftScope) -> Result<(), NoMemory>
         ensures ok { OnOk result (self.new ≡ record self.old {
           declared = self.old.declared ++ scope.declared;

@@ -54,8 +54,8 @@ impl Names {
         }
     }
 
-    /// The tag that a use speaks of: a definition or a lone declaration of that of its own scope, else the innermost
-    /// one.
+    /// The tag that a use speaks of: a definition or a lone declaration of that of its own
+    /// scope, else the innermost one.
     pub fn tag_meant(&self, wanted: TagUse, name: &Name) -> Option<&Tag>
         ensures value { (table : Table) (rest : Env) →
             option_map tag_in (option_copied result) ≡
@@ -70,8 +70,8 @@ impl Names {
         }
     }
 
-    /// Whether a use may stand where its tag has this meaning: a struct and an enumeration are defined once, and
-    /// each is named by its own word.
+    /// Whether a use may stand where its tag has this meaning: a struct and an enumeration are defined once,
+    /// and each is named by its own word.
     fn admits(&self, meaning: TagMeaning, wanted: TagUse) -> bool
         ensures { (table : Table) (rest : Env) →
             result ≡ spec.admits (env_in table rest self.now) (tag_meaning_in meaning) (rules_use wanted) }

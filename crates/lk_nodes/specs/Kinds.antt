@@ -40,7 +40,8 @@ abbrev pub is_expression : Init-F Init Entry InitList → Bool
 is_expression (Init-F.Expr e) = true
 is_expression (Init-F.List entries) = false
 
--- an external declaration has the number of the declaration or definition that it is, and an initialiser without braces that of its expression
+-- an external declaration has the number of the declaration or definition that it is, and an initialiser
+-- without braces that of its expression
 abbrev pub is_numbered_by_its_part : Node → Bool
 is_numbered_by_its_part (AnExternal d) = true
 is_numbered_by_its_part (ADeclaration scope node) = false

@@ -1,4 +1,5 @@
-//! The ordinals of a tree: a walk numbers each node where it stands, before the nodes inside it, and those in the order of the text.
+//! The ordinals of a tree: a walk numbers each node where it stands, before the nodes inside it, and
+//! those in the order of the text.
 #![tactic(auto)]
 
 mod declaration;

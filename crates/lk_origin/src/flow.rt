@@ -17,9 +17,9 @@ use lk_match::{Side, summaries};
 use lk_sets::{Arrow, BitRows};
 use std::alloc::Global;
 
-/// The origins that may flow to each label, those that do so from within its function or through a global label, and the
-/// labels that flow into each site, where `levels` has Level of the edges (LOCKSMITH: label flow, with calls and returns
-/// matched).
+/// The origins that may flow to each label, those that do so from within its function or through a global
+/// label, and the labels that flow into each site, where `levels` has Level of the edges (LOCKSMITH: label
+/// flow, with calls and returns matched).
 pub fn origins(
     alloc: Global,
     edges: &[Edge],
@@ -69,8 +69,8 @@ fn put_start(number: u32, labels: &Labels, rows: &mut BitRows)
     }
 }
 
-/// Lets origins rise out of sites, then fall into sites, and then rise again from global labels. It answers whether an
-/// origin was new at one of these.
+/// Lets origins rise out of sites, then fall into sites, and then rise again from global labels. It answers
+/// whether an origin was new at one of these.
 fn flow(
     alloc: Global,
     rising: &[Arrow],

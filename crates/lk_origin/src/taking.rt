@@ -7,7 +7,8 @@ ghost use Rattle.lk_sets.specs.Rows.{has};
 use lk_facts::{Label, Labels};
 use lk_sets::BitRows;
 
-/// Lets each number that stands with `a` in one relation stand with it in the other, and answers whether a pair was new.
+/// Lets each number that stands with `a` in one relation stand with it in the other, and
+/// answers whether a pair was new.
 fn take_row(from: &BitRows, a: u32, into: &mut BitRows) -> bool
     requires a { a < into.old.size }
     requires size { from.now.size ≡ into.old.size }
@@ -52,7 +53,8 @@ fn take_if_global(from: &BitRows, label: Label, labels: &Labels, into: &mut BitR
     take_row(from, label.0, into)
 }
 
-/// Lets what stands with global labels in one relation stand with them in the other, and answers whether a pair was new.
+/// Lets what stands with global labels in one relation stand with them in the other, and
+/// answers whether a pair was new.
 pub(crate) fn take_globals(from: &BitRows, labels: &Labels, into: &mut BitRows) -> bool
     requires from { from.now.size ≡ length labels.now.entries }
     requires into { into.old.size ≡ length labels.now.entries }

@@ -32,18 +32,22 @@ begins_initialiser i = is_start (start_of (peek i)) || sees p.OpenBrace i
 
 -- behind the entries of a list
 abbrev pub braced_end : Spot → Found (List Entry) → Parser (Found Init)
-braced_end spot entries = comma_if_any >> expect p.CloseBrace >> pure (found (init.List (list_on spot entries.tree)) entries.room)
+braced_end spot entries =
+    comma_if_any >> expect p.CloseBrace >> pure (found (init.List (list_on spot entries.tree)) entries.room)
 
 -- behind the declarators of a declaration
-abbrev pub declare_end : Spot → Found (List Specifier × Bool) → Found (List InitDeclarator) → Parser (Found Declare)
-declare_end spot first list = expect p.Semicolon >> pure (found (declare_on spot first.tree.0 list.tree) (min first.room list.room))
+abbrev pub declare_end : Spot → Found (List Specifier × Bool) → Found (List InitDeclarator) →
+    Parser (Found Declare)
+declare_end spot first list =
+    expect p.Semicolon >> pure (found (declare_on spot first.tree.0 list.tree) (min first.room list.room))
 
 -- m is how many levels there are inside the node that is read; below reads an initialiser that stands there
 module _ (m : ℕ) (below : Parser (Found Init)) where
   unfoldable pub designator : Parser (Found Designator)
   designator = λ i.
       if sees p.Dot i then (take >> (word >>= (λ name. pure (found (designators_of.Member name) m)))) i
-      else (expect p.OpenBracket >> ((readers m).expr 2 >>= (λ index. expect p.CloseBracket >> pure (found (designators_of.Index index.tree) index.room)))) i
+      else (expect p.OpenBracket
+      >> ((readers m).expr 2 >>= (λ index. expect p.CloseBracket >> pure (found (designators_of.Index index.tree) index.room)))) i
 
   abbrev pub designator_list : Parser (Found (List Designator))
   designator_list = repeat (λ i. not (begins_designator i)) designator (found [] m)
@@ -55,7 +59,9 @@ module _ (m : ℕ) (below : Parser (Found Init)) where
       else Ok (found [] m, i)
 
   unfoldable pub entry : Parser (Found Entry)
-  entry = designators >>= (λ list. below >>= (λ value. pure (found (record { designators = list.tree; init = value.tree }) (min list.room value.room))))
+  entry =
+      designators >>= (λ list. below
+      >>= (λ value. pure (found (record { designators = list.tree; init = value.tree }) (min list.room value.room))))
 
   abbrev pub entries : Parser (Found (List Entry))
   entries = separated is_close_brace entry m
@@ -65,7 +71,8 @@ module _ (m : ℕ) (below : Parser (Found Init)) where
 
   unfoldable pub init_from : Spot → Parser (Found Init)
   init_from spot = λ i.
-      if sees p.OpenBrace i then braced spot i else ((readers (suc m)).expr 1 >>= (λ value. pure (found (init.Expr value.tree) value.room))) i
+      if sees p.OpenBrace i then braced spot i
+      else ((readers (suc m)).expr 1 >>= (λ value. pure (found (init.Expr value.tree) value.room))) i
 
 -- an initialiser, with so many levels
 unfoldable pub initialiser : ℕ → Parser (Found Init)
@@ -77,7 +84,9 @@ module _ (m : ℕ) where
   unfoldable pub initialised : Bool → Found (Declarator × Head) → Parser (Found InitDeclarator)
   initialised typedef one = λ i.
       if sees p.Equal i then
-      (take >> (initialiser m >>= (λ value. pure (found (record { declarator = one.tree.0; init = Some value.tree }) (min one.room value.room))))) (declare_head one.tree.1 typedef i)
+      (take >> (initialiser m >>= (λ value. pure
+      (found (record { declarator = one.tree.0; init = Some value.tree })
+      (min one.room value.room))))) (declare_head one.tree.1 typedef i)
       else Ok (found (record { declarator = one.tree.0; init = None }) one.room, declare_head one.tree.1 typedef i)
 
   unfoldable pub init_declarator : Bool → Parser (Found InitDeclarator)
@@ -86,7 +95,8 @@ module _ (m : ℕ) where
   -- behind the first declarator with its initialiser
   unfoldable pub after_first : Bool → Found InitDeclarator → Parser (Found (List InitDeclarator))
   after_first typedef one = λ i.
-      if sees p.Comma i then separated_from (λ _. false) (init_declarator typedef) (left i) (joined (found [] m) one) (next i) else Ok (joined (found [] m) one, i)
+      if sees p.Comma i then separated_from (λ _. false) (init_declarator typedef) (left i)
+      (joined (found [] m) one) (next i) else Ok (joined (found [] m) one, i)
 
   -- behind the first declarator
   unfoldable pub declarators_behind : Bool → Found (Declarator × Head) → Parser (Found (List InitDeclarator))
@@ -99,7 +109,8 @@ module _ (m : ℕ) where
   declarators typedef = λ i. if sees p.Semicolon i then Ok (found [] m, i) else declarator_list typedef i
 
   unfoldable pub declare_from : Spot → Parser (Found Declare)
-  declare_from spot = specifiers m (readers m) >>= (λ first. declarators first.tree.1 >>= declare_end spot first)
+  declare_from spot =
+      specifiers m (readers m) >>= (λ first. declarators first.tree.1 >>= declare_end spot first)
 
 -- a declaration, with so many levels
 unfoldable pub declaration : ℕ → Parser (Found Declare)

@@ -133,10 +133,12 @@ fn declarators_with<B: Drop>(
     Ok((before, list))
 }
 
-/// What is behind the first declarator of a declaration: its initialiser, and the other declarators, up to the `;`. `depth` is how
-/// many levels there are inside the declaration, and `typedef` says whether the names are declared as typedefs.
+/// What is behind the first declarator of a declaration: its initialiser, and the other declarators, up to
+/// the `;`. `depth` is how many levels there are inside the declaration, and `typedef` says whether the
+/// names are declared as typedefs.
 ///
-/// It answers all the declarators, the first one too, with the levels that they leave; and it refuses as `read_declaration` does.
+/// It answers all the declarators, the first one too, with the levels that they leave; and it
+/// refuses as `read_declaration` does.
 #[tactic(auto, unfolding(crate::specs::Reading::declarators_behind, crate::specs::Reading::after_first))]
 pub fn read_declarators_behind(
     alloc: Global,
@@ -187,10 +189,12 @@ fn declaration_at(
     })
 }
 
-/// A declaration, with so many levels for it and what stands in it (C99 6.7). Its names are in scope behind their declarators.
+/// A declaration, with so many levels for it and what stands in it (C99 6.7). Its names are in
+/// scope behind their declarators.
 ///
-/// It answers the declaration, with the levels that it leaves, and takes its tokens; or it refuses with 13 where no tree goes on
-/// with the next token, and with 14 where only trees that are too deep do. After a refusal the cursor is at no place of use.
+/// It answers the declaration, with the levels that it leaves, and takes its tokens; or it refuses with 13
+/// where no tree goes on with the next token, and with 14 where only trees that are too deep do. After a
+/// refusal the cursor is at no place of use.
 pub fn read_declaration(
     alloc: Global,
     cursor: &mut Cursor<'_>,

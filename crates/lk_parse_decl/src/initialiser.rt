@@ -162,8 +162,9 @@ fn braced(
 
 /// An initialiser, with so many levels for it and what stands in it (C99 6.7.8).
 ///
-/// It answers the initialiser, with the levels that it leaves, and takes its tokens; or it refuses with 13 where no tree goes on
-/// with the next token, and with 14 where only trees that are too deep do. After a refusal the cursor is at no place of use.
+/// It answers the initialiser, with the levels that it leaves, and takes its tokens; or it refuses with 13
+/// where no tree goes on with the next token, and with 14 where only trees that are too deep do. After a
+/// refusal the cursor is at no place of use.
 #[cycle(initialisers)]
 pub fn read_initialiser(
     alloc: Global,

@@ -1,4 +1,5 @@
--- What the readers answer, by the grammar: each tree of a form behind which nothing goes on with it is read where it is not too deep, and what is read is a tree of the form.
+-- What the readers answer, by the grammar: each tree of a form behind which nothing goes on with it is read
+-- where it is not too deep, and what is read is a tree of the form.
 use Rattle.std.specs.Prelude.{◌≡◌, ℕ, ◌+◌, ◌-◌, ◌<◌, ◌≤◌, false, None, Some, Ok, Err}
 use Rattle.lk_lex.specs.declared.token.TokenKind.{TokenKind}
 use Rattle.lk_lex.specs.declared.token.TokenKind.TheVariants as k
@@ -30,34 +31,42 @@ pub record EndsDeclarator (kind : TokenKind) : Type 0 where
   pub no_bracket : is_punct p.OpenBracket kind ≡ false
   pub no_name : is_word kind ≡ false
 
--- a tree of this depth is the answer of a reader with m levels, with the levels that it leaves; where it is deeper, the answer is that only trees that are too deep go on
-pub record IsRead {A : Type 0} (m depth : ℕ) (tree : A) (rest : Input) (outcome : Outcome (Found A)) : Type 0 where
+-- a tree of this depth is the answer of a reader with m levels, with the levels that it leaves; where it is
+-- deeper, the answer is that only trees that are too deep go on
+pub record IsRead {A : Type 0} (m depth : ℕ) (tree : A) (rest : Input)
+    (outcome : Outcome (Found A)) : Type 0 where
   pub fits : depth ≤ m → outcome ≡ Ok (found tree (m - depth), rest)
   pub deep : m < depth → (i : Input) × outcome ≡ Err (too_deep_at i)
 
 -- what a reader with m levels answers is a tree of the form, as deep as the levels that it took
 abbrev pub IsSound : {A : Type 0} → ℕ → (ℕ → A → Input → Type 0) → Outcome (Found A) → Type 0
-IsSound {A} m Reads outcome = (one : Found A) (rest : Input) → outcome ≡ Ok (one, rest) → (depth : ℕ) × Reads depth one.tree rest × depth + one.room ≡ m
+IsSound {A} m Reads outcome = (one : Found A) (rest : Input) → outcome ≡ Ok (one, rest) →
+    (depth : ℕ) × Reads depth one.tree rest × depth + one.room ≡ m
 
 abbrev pub ExprsAreRead : Type 0
-ExprsAreRead = (m level depth : ℕ) (tree : Expr) (from rest : Input) → ReadsExpr level depth tree from rest → EndsExpr level (peek rest)
-    → IsRead m depth tree rest ((readers m).expr level from)
+ExprsAreRead = (m level depth : ℕ) (tree : Expr) (from rest : Input) → ReadsExpr level depth tree from rest →
+    EndsExpr level (peek rest) → IsRead m depth tree rest ((readers m).expr level from)
 
 abbrev pub OnlyExprsAreRead : Type 0
-OnlyExprsAreRead = (m level : ℕ) (from : Input) → level ≤ 14 → IsSound m (λ depth tree rest. ReadsExpr level depth tree from rest) ((readers m).expr level from)
+OnlyExprsAreRead = (m level : ℕ) (from : Input) → level ≤ 14 →
+    IsSound m (λ depth tree rest. ReadsExpr level depth tree from rest) ((readers m).expr level from)
 
 -- a type name stands before a `)`
 abbrev pub TypeNamesAreRead : Type 0
-TypeNamesAreRead = (m depth : ℕ) (tree : TypeName) (from rest : Input) → ReadsTypeName depth tree from rest → peek rest ≡ k.Punct p.CloseParen
-    → IsRead m depth tree rest ((readers m).type_name from)
+TypeNamesAreRead = (m depth : ℕ) (tree : TypeName) (from rest : Input) → ReadsTypeName depth tree from rest →
+    peek rest ≡ k.Punct p.CloseParen → IsRead m depth tree rest ((readers m).type_name from)
 
 abbrev pub OnlyTypeNamesAreRead : Type 0
-OnlyTypeNamesAreRead = (m : ℕ) (from : Input) → IsSound m (λ depth tree rest. ReadsTypeName depth tree from rest) ((readers m).type_name from)
+OnlyTypeNamesAreRead =
+    (m : ℕ) (from : Input) →
+    IsSound m (λ depth tree rest. ReadsTypeName depth tree from rest) ((readers m).type_name from)
 
 abbrev pub DeclaratorsAreRead : Type 0
-DeclaratorsAreRead = (m depth : ℕ) (naming : Naming) (tree : Declarator) (head : Head) (from rest : Input) → ReadsDeclarator naming 0 depth tree head from rest
-    → EndsDeclarator (peek rest) → IsRead m depth (tree, head) rest ((readers m).declarator naming from)
+DeclaratorsAreRead = (m depth : ℕ) (naming : Naming) (tree : Declarator) (head : Head) (from rest : Input) →
+    ReadsDeclarator naming 0 depth tree head from rest → EndsDeclarator (peek rest) →
+    IsRead m depth (tree, head) rest ((readers m).declarator naming from)
 
 abbrev pub OnlyDeclaratorsAreRead : Type 0
-OnlyDeclaratorsAreRead = (m : ℕ) (naming : Naming) (from : Input)
-    → IsSound m (λ depth one rest. ReadsDeclarator naming 0 depth one.0 one.1 from rest) ((readers m).declarator naming from)
+OnlyDeclaratorsAreRead = (m : ℕ) (naming : Naming) (from : Input) →
+    IsSound m (λ depth one rest. ReadsDeclarator naming 0 depth one.0 one.1 from rest)
+    ((readers m).declarator naming from)

@@ -21,8 +21,11 @@ pub record Input : Type 0 where
   pub names : Names
 
 abbrev pub input_code : Coded Input
-input_code = code_by (List ℕ × (List Token × Names)) (coded× (coded_list coded_ℕ) (coded× (coded_list token.the_row.coded) (coded_list (coded× (coded_list coded_ℕ) coded_bool))))
-    (λ i. (i.source, (i.tokens, i.names))) (λ p. record { source = p.0; tokens = p.1.0; names = p.1.1 }) (λ _. refl)
+input_code =
+    code_by (List ℕ × (List Token × Names))
+    (coded× (coded_list coded_ℕ) (coded× (coded_list token.the_row.coded) (coded_list (coded× (coded_list coded_ℕ) coded_bool))))
+    (λ i. (i.source, (i.tokens, i.names)))
+    (λ p. record { source = p.0; tokens = p.1.0; names = p.1.1 }) (λ _. refl)
 
 -- the tokens stand in the source, and its words are no longer than names may be
 abbrev pub AreInside : List ℕ → List Token → Type 0

@@ -17,17 +17,20 @@ use Rattle.lk_parse_expr.specs.Reading.{readers}
 pub record NestsDeclarator (depth : ℕ) (pre : Global → MutBor Input → ℕ → Naming → Type 0)
     (post : Global → MutBor Input → ℕ → Naming → Result (Found (Declarator × Head)) Fault → MutBor Input → Type 0) : Type 0 where
   pub callable : (alloc : Global) (old : MutBor Input) (d : ℕ) (n : Naming) → d ≤ depth → pre alloc old d n
-  pub reads : (alloc : Global) (old new : MutBor Input) (d : ℕ) (n : Naming) (r : Result (Found (Declarator × Head)) Fault) → d ≤ depth → post alloc old d n r new
-      → Gives ((readers d).declarator n old.now) r new.now
+  pub reads : (alloc : Global) (old new : MutBor Input) (d : ℕ) (n : Naming)
+      (r : Result (Found (Declarator × Head)) Fault) → d ≤ depth → post alloc old d n r new →
+      Gives ((readers d).declarator n old.now) r new.now
 
 -- it reads members
-pub record NestsMember (depth : ℕ) (pre : Global → MutBor Input → ℕ → Type 0) (post : Global → MutBor Input → ℕ → Result (Found Member) Fault → MutBor Input → Type 0) : Type 0 where
+pub record NestsMember (depth : ℕ) (pre : Global → MutBor Input → ℕ → Type 0)
+    (post : Global → MutBor Input → ℕ → Result (Found Member) Fault → MutBor Input → Type 0) : Type 0 where
   pub callable : (alloc : Global) (old : MutBor Input) (d : ℕ) → d ≤ depth → pre alloc old d
-  pub reads : (alloc : Global) (old new : MutBor Input) (d : ℕ) (r : Result (Found Member) Fault) → d ≤ depth → post alloc old d r new
-      → Gives ((readers d).member old.now) r new.now
+  pub reads : (alloc : Global) (old new : MutBor Input) (d : ℕ) (r : Result (Found Member) Fault) →
+      d ≤ depth → post alloc old d r new → Gives ((readers d).member old.now) r new.now
 
 -- it reads items
-pub record NestsItem (depth : ℕ) (pre : Global → MutBor Input → ℕ → Type 0) (post : Global → MutBor Input → ℕ → Result (Found Item) Fault → MutBor Input → Type 0) : Type 0 where
+pub record NestsItem (depth : ℕ) (pre : Global → MutBor Input → ℕ → Type 0)
+    (post : Global → MutBor Input → ℕ → Result (Found Item) Fault → MutBor Input → Type 0) : Type 0 where
   pub callable : (alloc : Global) (old : MutBor Input) (d : ℕ) → d ≤ depth → pre alloc old d
-  pub reads : (alloc : Global) (old new : MutBor Input) (d : ℕ) (r : Result (Found Item) Fault) → d ≤ depth → post alloc old d r new
-      → Gives ((readers d).item old.now) r new.now
+  pub reads : (alloc : Global) (old new : MutBor Input) (d : ℕ) (r : Result (Found Item) Fault) → d ≤ depth →
+      post alloc old d r new → Gives ((readers d).item old.now) r new.now

@@ -19,9 +19,12 @@ use Rattle.lk_parse_expr.specs.Readers as reader
 use Rattle.lk_parse_expr.specs.Readers.{Parser, and_then, ◌>>=◌, ◌>>◌, pure, expect, expect_key, found, need}
 use Rattle.lk_parse_expr.specs.Reading.{Readers, tag, struct_by, enum_by, array_of, function_of}
 
--- the `)` behind parameters, where the scopes of the names end that were declared since there were so many; and those names
+-- the `)` behind parameters, where the scopes of the names end that were declared since there
+-- were so many; and those names
 abbrev pub close_parameters : ℕ → Parser Names
-close_parameters mark = λ i. and_then (expect p.CloseParen i) (λ _. λ j. Ok (drop mark i.names, record j { names = take mark j.names }))
+close_parameters mark =
+    λ i. and_then (expect p.CloseParen i)
+    (λ _. λ j. Ok (drop mark i.names, record j { names = take mark j.names }))
 
 -- what is read behind something, with that
 abbrev pub behind : {A B : Type 0} → A → Parser B → Parser (A × B)
@@ -43,7 +46,8 @@ module _ (m : ℕ) (below : Readers) where
   -- behind the `:` of a choice
   abbrev pub choice_end : Spot → Found Expr → Found Expr → Parser (Found Expr)
   choice_end spot before middle =
-      below.expr 2 >>= (λ right. pure (found (expr_on spot (e.Choice before.tree middle.tree right.tree)) (min (before.room - 1) (min middle.room right.room))))
+      below.expr 2 >>= (λ right. pure
+      (found (expr_on spot (e.Choice before.tree middle.tree right.tree)) (min (before.room - 1) (min middle.room right.room))))
 
   -- a specifier whose `struct` is in front
   abbrev pub struct_specifier : Parser (Found Specifier)
@@ -60,8 +64,12 @@ module _ (m : ℕ) (below : Readers) where
 
   -- the `[` and what stands behind it, of an array of what comes before
   abbrev pub array_behind : Spot → Found (Declarator × Head) → Parser (Found (Declarator × Head))
-  array_behind spot before = need 1 before.room >> reader.take >> array_of m below spot (Some before.tree.0) before.tree.1 (before.room - 1)
+  array_behind spot before =
+      need 1 before.room >> reader.take
+      >> array_of m below spot (Some before.tree.0) before.tree.1 (before.room - 1)
 
   -- the `(` and what stands behind it, of a function
   abbrev pub function_behind : Spot → Found (Declarator × Head) → Parser (Found (Declarator × Head))
-  function_behind spot before = need 1 before.room >> reader.take >> function_of m below spot (Some before.tree.0) before.tree.1 (before.room - 1)
+  function_behind spot before =
+      need 1 before.room >> reader.take
+      >> function_of m below spot (Some before.tree.0) before.tree.1 (before.room - 1)

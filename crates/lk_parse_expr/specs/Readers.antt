@@ -1,5 +1,6 @@
--- Readers: functions from the input to what is read and the input behind it, or to a fault, and the steps that they are made of. Contracts of functions that read cite them;
--- what a tree of the tokens is stands in Grammar.
+-- Readers: functions from the input to what is read and the input behind it, or to a fault, and the
+-- steps that they are made of. Contracts of functions that read cite them; what a tree of the
+-- tokens is stands in Grammar.
 use Rattle.std.specs.Prelude.{◌≡◌, ◌≢◌, ℕ, zero, suc, min, Bool, false, not, ◌&&◌, if◌then◌else◌, nat_le, List, [], ◌∷◌, ◌++◌, length, Result, Ok, Err}
 use denote.Enum.Bare.{sameb}
 use Rattle.lk_base.specs.declared.code.Code.{Code}
@@ -128,7 +129,8 @@ unfoldable pub goes_on : (TokenKind → Bool) → Input → Bool
 goes_on ends i = sees p.Comma i && not (ends (peek (next i)))
 
 -- items with commas between them, one at least
-unfoldable pub separated_from : {A : Type 0} → (TokenKind → Bool) → Parser (Found A) → ℕ → Found (List A) → Parser (Found (List A))
+unfoldable pub separated_from : {A : Type 0} → (TokenKind → Bool) → Parser (Found A) → ℕ → Found (List A) →
+    Parser (Found (List A))
 separated_from ends item zero before = refuse
 separated_from ends item (suc n) before =
     item >>= (λ one. λ i. if goes_on ends i then separated_from ends item n (joined before one) (next i) else Ok (joined before one, i))
@@ -137,11 +139,15 @@ abbrev pub separated : {A : Type 0} → (TokenKind → Bool) → Parser (Found A
 separated ends item room = λ i. separated_from ends item (left i) (found [] room) i
 
 -- items one after another, until one is in front that stops them
-unfoldable pub repeat_from : {A : Type 0} → (Input → Bool) → Parser (Found A) → ℕ → Found (List A) → Parser (Found (List A))
+unfoldable pub repeat_from : {A : Type 0} → (Input → Bool) → Parser (Found A) → ℕ → Found (List A) →
+    Parser (Found (List A))
 repeat_from stops item zero before = λ i. Ok (before, i)
-repeat_from stops item (suc n) before = λ i. if stops i then Ok (before, i) else and_then (item i) (λ next. repeat_from stops item n (joined before next))
+repeat_from stops item (suc n) before =
+    λ i. if stops i then Ok (before, i)
+    else and_then (item i) (λ next. repeat_from stops item n (joined before next))
 
-abbrev pub repeat : {A : Type 0} → (Input → Bool) → Parser (Found A) → Found (List A) → Parser (Found (List A))
+abbrev pub repeat : {A : Type 0} → (Input → Bool) → Parser (Found A) → Found (List A) →
+    Parser (Found (List A))
 repeat stops item before = λ i. repeat_from stops item (left i) before i
 
 -- ---- what a function that reads ensures: the reader's outcome, unless memory fails

@@ -51,12 +51,14 @@ is_text k.End = false
 
 unfoldable pub texts_from : ℕ → List ℕ → Parser (List ℕ)
 texts_from zero before = pure before
-texts_from (suc n) before = λ i. if is_text (peek i) then texts_from n (before ++ text_value (text i)) (next i) else Ok (before, i)
+texts_from (suc n) before =
+    λ i. if is_text (peek i) then texts_from n (before ++ text_value (text i)) (next i) else Ok (before, i)
 
 unfoldable pub texts : Parser (List ℕ)
 texts = λ i. texts_from (left i) [] i
 
-abbrev pub qualifiers_by : List Qualifier → (List Qualifier → Parser (List Qualifier)) → Option Qualifier → Parser (List Qualifier)
+abbrev pub qualifiers_by : List Qualifier → (List Qualifier → Parser (List Qualifier)) → Option Qualifier →
+    Parser (List Qualifier)
 qualifiers_by before again None = pure before
 qualifiers_by before again (Some first) = take >> again (before ++ first ∷ [])
 
@@ -73,7 +75,9 @@ tag = λ i. if is_word (peek i) then Ok (Some (text i), next i) else Ok (None, i
 
 -- whether a declarator begins, where it has a name by this rule
 abbrev pub begins_declarator : Naming → Input → Bool
-begins_declarator n i = (sees p.Star i || sees p.OpenParen i) || ((is_word (peek i) && may_name n) || (sees p.OpenBracket i && may_omit n))
+begins_declarator n i =
+    (sees p.Star i || sees p.OpenParen i)
+    || ((is_word (peek i) && may_name n) || (sees p.OpenBracket i && may_omit n))
 
 unfoldable pub comma_if_any : Parser (Unit {0})
 comma_if_any = λ i. if sees p.Comma i then Ok (tt, next i) else Ok (tt, i)
@@ -91,8 +95,10 @@ abbrev pub as_type : Found Specifier → Found (Specifier × Bool × Bool)
 as_type one = found (one.tree, true, false) one.room
 
 -- one more specifier
-abbrev pub with_specifier : Found (List Specifier × Bool) → Found (Specifier × Bool × Bool) → Found (List Specifier × Bool)
-with_specifier before one = found (before.tree.0 ++ one.tree.0 ∷ [], before.tree.1 || one.tree.2) (min before.room one.room)
+abbrev pub with_specifier : Found (List Specifier × Bool) → Found (Specifier × Bool × Bool) →
+    Found (List Specifier × Bool)
+with_specifier before one =
+    found (before.tree.0 ++ one.tree.0 ∷ [], before.tree.1 || one.tree.2) (min before.room one.room)
 
 -- behind the members of a struct
 abbrev pub struct_end : Option (List ℕ) → Found (List Member) → Parser (Found Specifier)
@@ -120,7 +126,8 @@ module _ (m : ℕ) (below : Readers) where
   leaf e = pure (found e m)
 
   unfoldable pub parens : Spot → Parser (Found Expr)
-  parens spot = need 1 m >> take >> (below.expr 0 >>= (λ inner. expect p.CloseParen >> pure (found (expr_on spot (e.Paren inner.tree)) inner.room)))
+  parens spot =
+      need 1 m >> take >> (below.expr 0 >>= (λ inner. expect p.CloseParen >> pure (found (expr_on spot (e.Paren inner.tree)) inner.room)))
 
   abbrev pub primary_by : Spot → Start → Parser (Found Expr)
   primary_by spot start.Word = word >>= (λ name. leaf (expr_on spot (e.Word name)))
@@ -137,30 +144,40 @@ module _ (m : ℕ) (below : Readers) where
   primary spot = λ i. primary_by spot (start_of (peek i)) i
 
   unfoldable pub arguments : Parser (Found (List Expr))
-  arguments = λ i. if sees p.CloseParen i then Ok (found [] m, i) else separated (λ _. false) (below.expr 1) m i
+  arguments =
+      λ i. if sees p.CloseParen i then Ok (found [] m, i) else separated (λ _. false) (below.expr 1) m i
 
   unfoldable pub index : Spot → Found Expr → Parser (Found Expr)
-  index spot array = below.expr 0 >>= (λ inner. expect p.CloseBracket >> pure (found (expr_on spot (e.Index array.tree inner.tree)) (min (array.room - 1) inner.room)))
+  index spot array =
+      below.expr 0 >>= (λ inner. expect p.CloseBracket
+      >> pure (found (expr_on spot (e.Index array.tree inner.tree)) (min (array.room - 1) inner.room)))
 
   unfoldable pub call : Spot → Found Expr → Parser (Found Expr)
   call spot function =
-      arguments >>= (λ inner. expect p.CloseParen >> pure (found (expr_on spot (e.Call function.tree inner.tree)) (min (function.room - 1) inner.room)))
+      arguments >>= (λ inner. expect p.CloseParen
+      >> pure (found (expr_on spot (e.Call function.tree inner.tree)) (min (function.room - 1) inner.room)))
 
   -- behind the token that makes the operand a part of a greater one
   abbrev pub suffixed : Spot → Found Expr → Suffix → Parser (Found Expr)
   suffixed spot operand suffix.Index = index spot operand
   suffixed spot operand suffix.Call = call spot operand
-  suffixed spot operand suffix.Member = word >>= (λ name. pure (found (expr_on spot (e.Member operand.tree name)) (operand.room - 1)))
-  suffixed spot operand suffix.Arrow = word >>= (λ name. pure (found (expr_on spot (e.Arrow operand.tree name)) (operand.room - 1)))
-  suffixed spot operand (suffix.Post op) = pure (found (expr_on spot (e.Post op operand.tree)) (operand.room - 1))
+  suffixed spot operand suffix.Member =
+      word >>= (λ name. pure (found (expr_on spot (e.Member operand.tree name)) (operand.room - 1)))
+  suffixed spot operand suffix.Arrow =
+      word >>= (λ name. pure (found (expr_on spot (e.Arrow operand.tree name)) (operand.room - 1)))
+  suffixed spot operand (suffix.Post op) =
+      pure (found (expr_on spot (e.Post op operand.tree)) (operand.room - 1))
 
-  abbrev pub suffixes_by : Spot → (Found Expr → Parser (Found Expr)) → Found Expr → Option Suffix → Parser (Found Expr)
+  abbrev pub suffixes_by : Spot → (Found Expr → Parser (Found Expr)) → Found Expr → Option Suffix →
+      Parser (Found Expr)
   suffixes_by spot again operand None = pure operand
-  suffixes_by spot again operand (Some kind) = need 1 operand.room >> take >> (suffixed spot operand kind >>= again)
+  suffixes_by spot again operand (Some kind) =
+      need 1 operand.room >> take >> (suffixed spot operand kind >>= again)
 
   unfoldable pub suffixes_from : Spot → ℕ → Found Expr → Parser (Found Expr)
   suffixes_from spot zero operand = pure operand
-  suffixes_from spot (suc n) operand = λ i. suffixes_by spot (suffixes_from spot n) operand (suffix_of (peek i)) i
+  suffixes_from spot (suc n) operand =
+      λ i. suffixes_by spot (suffixes_from spot n) operand (suffix_of (peek i)) i
 
   unfoldable pub suffixes : Spot → Found Expr → Parser (Found Expr)
   suffixes spot operand = λ i. suffixes_from spot (left i) operand i
@@ -173,9 +190,12 @@ module _ (m : ℕ) (below : Readers) where
   cast spot = below.type_name >>= (λ name. expect p.CloseParen
       >> (below.expr 13 >>= (λ operand. pure (found (expr_on spot (e.Cast name.tree operand.tree)) (min name.room operand.room)))))
 
-  -- the operand of `sizeof`. Where one level is left for it, a `(` may still open a type name, and what stands behind it is too deep
+  -- the operand of `sizeof`. Where one level is left for it, a `(` may still open a type name, and what
+  -- stands behind it is too deep
   unfoldable pub sizeof_operand : Parser (Found Expr)
-  sizeof_operand = λ i. if sees p.OpenParen i && nat_le m 1 then exhausted (is_start (start_of (peek (next i)))) (next i) else below.expr 14 i
+  sizeof_operand =
+      λ i. if sees p.OpenParen i && nat_le m 1 then exhausted (is_start (start_of (peek (next i)))) (next i)
+      else below.expr 14 i
 
   -- behind `sizeof`
   unfoldable pub sizeof : Spot → Parser (Found Expr)
@@ -190,7 +210,8 @@ module _ (m : ℕ) (below : Readers) where
 
   -- a `(` is in front: casts says whether a cast may stand here
   unfoldable pub opened : Bool → Spot → Parser (Found Expr)
-  opened casts spot = λ i. if begins_specifiers (next i) then (need 1 m >> take >> cast_if casts spot) i else postfix spot i
+  opened casts spot = λ i. if begins_specifiers (next i) then (need 1 m >> take >> cast_if casts spot) i
+      else postfix spot i
 
   abbrev pub operand_by : Bool → Spot → Start → Parser (Found Expr)
   operand_by casts spot start.Word = postfix spot
@@ -198,8 +219,10 @@ module _ (m : ℕ) (below : Readers) where
   operand_by casts spot (start.Char value) = postfix spot
   operand_by casts spot start.Text = postfix spot
   operand_by casts spot start.Open = opened casts spot
-  operand_by casts spot (start.Step op) = need 1 m >> take >> (below.expr 14 >>= (λ operand. pure (found (expr_on spot (e.Pre op operand.tree)) operand.room)))
-  operand_by casts spot (start.Prefix op) = need 1 m >> take >> (below.expr 13 >>= (λ operand. pure (found (expr_on spot (e.Prefix op operand.tree)) operand.room)))
+  operand_by casts spot (start.Step op) =
+      need 1 m >> take >> (below.expr 14 >>= (λ operand. pure (found (expr_on spot (e.Pre op operand.tree)) operand.room)))
+  operand_by casts spot (start.Prefix op) =
+      need 1 m >> take >> (below.expr 13 >>= (λ operand. pure (found (expr_on spot (e.Prefix op operand.tree)) operand.room)))
   operand_by casts spot start.Sizeof = need 1 m >> take >> sizeof spot
   operand_by casts spot start.Nothing = refuse
 
@@ -208,23 +231,30 @@ module _ (m : ℕ) (below : Readers) where
 
   -- the operand behind an operator of two
   abbrev pub combined : Spot → Found Expr → Infix → Parser (Found Expr)
-  combined spot before between.Comma = below.expr 1 >>= (λ right. pure (found (expr_on spot (e.Comma before.tree right.tree)) (min (before.room - 1) right.room)))
-  combined spot before (between.Assign op) = below.expr 1 >>= (λ right. pure (found (expr_on spot (e.Assign op before.tree right.tree)) (min (before.room - 1) right.room)))
+  combined spot before between.Comma =
+      below.expr 1 >>= (λ right. pure (found (expr_on spot (e.Comma before.tree right.tree)) (min (before.room - 1) right.room)))
+  combined spot before (between.Assign op) =
+      below.expr 1 >>= (λ right. pure (found (expr_on spot (e.Assign op before.tree right.tree)) (min (before.room - 1) right.room)))
   combined spot before between.Choice = below.expr 0 >>= (λ middle. expect p.Colon
-      >> (below.expr 2 >>= (λ right. pure (found (expr_on spot (e.Choice before.tree middle.tree right.tree)) (min (before.room - 1) (min middle.room right.room))))))
+      >> (below.expr 2 >>= (λ right. pure
+      (found (expr_on spot (e.Choice before.tree middle.tree right.tree)) (min (before.room - 1) (min middle.room right.room))))))
   combined spot before (between.Binary op) =
-      below.expr (level_of op + 1) >>= (λ right. pure (found (expr_on spot (e.Binary op before.tree right.tree)) (min (before.room - 1) right.room)))
+      below.expr (level_of op + 1)
+      >>= (λ right. pure (found (expr_on spot (e.Binary op before.tree right.tree)) (min (before.room - 1) right.room)))
 
   abbrev pub climb_on : Spot → (Found Expr → Parser (Found Expr)) → Found Expr → Infix → Parser (Found Expr)
   climb_on spot again before op = need 1 before.room >> take >> (combined spot before op >>= again)
 
-  abbrev pub climb_by : ℕ → Spot → (Found Expr → Parser (Found Expr)) → Found Expr → Option Infix → Parser (Found Expr)
+  abbrev pub climb_by : ℕ → Spot → (Found Expr → Parser (Found Expr)) → Found Expr → Option Infix →
+      Parser (Found Expr)
   climb_by least spot again before None = pure before
-  climb_by least spot again before (Some op) = if nat_le least (infix_level op) then climb_on spot again before op else pure before
+  climb_by least spot again before (Some op) =
+      if nat_le least (infix_level op) then climb_on spot again before op else pure before
 
   unfoldable pub climb_from : ℕ → Spot → ℕ → Found Expr → Parser (Found Expr)
   climb_from least spot zero before = pure before
-  climb_from least spot (suc n) before = λ i. climb_by least spot (climb_from least spot n) before (infix_of (peek i)) i
+  climb_from least spot (suc n) before =
+      λ i. climb_by least spot (climb_from least spot n) before (infix_of (peek i)) i
 
   unfoldable pub climb : ℕ → Spot → Found Expr → Parser (Found Expr)
   climb least spot before = λ i. climb_from least spot (left i) before i
@@ -239,7 +269,8 @@ module _ (m : ℕ) (below : Readers) where
   members first = repeat (sees p.CloseBrace) below.member (joined (found [] m) first)
 
   unfoldable pub struct_body : Option (List ℕ) → Parser (Found Specifier)
-  struct_body tag = need 2 m >> expect p.OpenBrace >> (below.member >>= (λ first. members first >>= struct_end tag))
+  struct_body tag =
+      need 2 m >> expect p.OpenBrace >> (below.member >>= (λ first. members first >>= struct_end tag))
 
   abbrev pub items : Parser (Found (List Item))
   items = separated is_close_brace below.item m
@@ -249,15 +280,19 @@ module _ (m : ℕ) (below : Readers) where
 
   abbrev pub struct_by : Option (List ℕ) → Parser (Found Specifier)
   struct_by None = λ i. if sees p.OpenBrace i then struct_body None i else refuse i
-  struct_by (Some name) = λ i. if sees p.OpenBrace i then struct_body (Some name) i else Ok (found (s.StructTag name) m, i)
+  struct_by (Some name) =
+      λ i. if sees p.OpenBrace i then struct_body (Some name) i else Ok (found (s.StructTag name) m, i)
 
   abbrev pub enum_by : Option (List ℕ) → Parser (Found Specifier)
   enum_by None = λ i. if sees p.OpenBrace i then enum_body None i else refuse i
-  enum_by (Some name) = λ i. if sees p.OpenBrace i then enum_body (Some name) i else Ok (found (s.EnumTag name) m, i)
+  enum_by (Some name) =
+      λ i. if sees p.OpenBrace i then enum_body (Some name) i else Ok (found (s.EnumTag name) m, i)
 
-  -- a specifier by its keyword or its name; with it whether a type came before what follows, and whether it is `typedef`
+  -- a specifier by its keyword or its name; with it whether a type came before what
+  -- follows, and whether it is `typedef`
   abbrev pub keyword_by : Bool → TokenKind → Option Specifier → Parser (Found (Specifier × Bool × Bool))
-  keyword_by typed kind (Some specifier) = take >> pure (found (specifier, typed || is_type_word kind, is_typedef_word kind) m)
+  keyword_by typed kind (Some specifier) =
+      take >> pure (found (specifier, typed || is_type_word kind, is_typedef_word kind) m)
   keyword_by typed kind None = word >>= (λ name. pure (found (s.Typedef name, true, false) m))
 
   abbrev pub plain_specifier : Bool → Parser (Found (Specifier × Bool × Bool))
@@ -269,27 +304,35 @@ module _ (m : ℕ) (below : Readers) where
       else if sees_key w.Enum i then (take >> (tag >>= enum_by) >>= (λ one. pure (as_type one))) i
       else plain_specifier typed i
 
-  unfoldable pub specifiers_from : ℕ → Bool → Found (List Specifier × Bool) → Parser (Found (List Specifier × Bool))
+  unfoldable pub specifiers_from : ℕ → Bool → Found (List Specifier × Bool) →
+      Parser (Found (List Specifier × Bool))
   specifiers_from zero typed before = pure before
   specifiers_from (suc n) typed before = λ i.
-      if continues_specifiers typed i then (specifier typed >>= (λ one. specifiers_from n one.tree.1 (with_specifier before one))) i else Ok (before, i)
+      if continues_specifiers typed i
+      then (specifier typed >>= (λ one. specifiers_from n one.tree.1 (with_specifier before one))) i
+      else Ok (before, i)
 
   unfoldable pub specifiers : Parser (Found (List Specifier × Bool))
-  specifiers = λ i. if begins_specifiers i then specifiers_from (left i) false (found ([], false) m) i else refuse i
+  specifiers =
+      λ i. if begins_specifiers i then specifiers_from (left i) false (found ([], false) m) i else refuse i
 
   -- ---- type names, parameters, members and items
 
   unfoldable pub type_name_from : Spot → Parser (Found TypeName)
   type_name_from spot = specifiers >>= (λ first. λ i.
       if begins_declarator naming.Abstract i then
-      (below.declarator naming.Abstract >>= (λ inner. pure (found (type_name_on spot first.tree.0 (Some inner.tree.0)) (min first.room inner.room)))) i
+      (below.declarator naming.Abstract
+      >>= (λ inner. pure (found (type_name_on spot first.tree.0 (Some inner.tree.0)) (min first.room inner.room)))) i
       else Ok (found (type_name_on spot first.tree.0 None) first.room, i))
 
   unfoldable pub parameter_from : Spot → Parser (Found Parameter)
   parameter_from spot = specifiers >>= (λ first. λ i.
       if begins_declarator naming.Either i then
       (below.declarator naming.Either >>= (λ inner. λ i.
-      Ok (found (parameter_on spot first.tree.0 (Some inner.tree.0)) (min first.room inner.room), declare_head inner.tree.1 first.tree.1 i))) i
+      Ok (
+        found (parameter_on spot first.tree.0 (Some inner.tree.0)) (min first.room inner.room),
+        declare_head inner.tree.1 first.tree.1 i,
+      ))) i
       else Ok (found (parameter_on spot first.tree.0 None) first.room, i))
 
   abbrev pub parameter : Parser (Found Parameter)
@@ -321,30 +364,45 @@ module _ (m : ℕ) (below : Readers) where
       >>= (λ list. expect p.Semicolon >> pure (found (member_on spot first.tree.0 list.tree) (min first.room list.room))))
 
   unfoldable pub value : Parser (Found (Option Expr))
-  value = λ i. if sees p.Equal i then (need 1 m >> take >> (below.expr 2 >>= (λ one. pure (found (Some one.tree) one.room)))) i else Ok (found None m, i)
+  value =
+      λ i. if sees p.Equal i then (need 1 m >> take
+      >> (below.expr 2 >>= (λ one. pure (found (Some one.tree) one.room)))) i else Ok (found None m, i)
 
   unfoldable pub item_from : Spot → Parser (Found Item)
-  item_from spot = word >>= (λ name. value >>= (λ one. λ i. Ok (found (item_on spot name one.tree) one.room, declare name false i)))
+  item_from spot =
+      word >>= (λ name. value >>= (λ one. λ i. Ok (found (item_on spot name one.tree) one.room, declare name false i)))
 
   -- ---- declarators
 
   unfoldable pub size : Parser (Found (Option Expr))
-  size = λ i. if sees p.CloseBracket i then Ok (found None m, i) else (below.expr 1 >>= (λ one. pure (found (Some one.tree) one.room))) i
+  size =
+      λ i. if sees p.CloseBracket i then Ok (found None m, i)
+      else (below.expr 1 >>= (λ one. pure (found (Some one.tree) one.room))) i
 
   -- behind the `[` of an array of what comes before
   unfoldable pub array_of : Spot → Option Declarator → Head → ℕ → Parser (Found (Declarator × Head))
   array_of spot inner head room =
-      size >>= (λ one. expect p.CloseBracket >> pure (found (declarator_on spot (d.ArrayOf inner one.tree), other head) (min room one.room)))
+      size >>= (λ one. expect p.CloseBracket
+      >> pure (found (declarator_on spot (d.ArrayOf inner one.tree), other head) (min room one.room)))
 
   -- behind the `(` of a function, whose parameters go out of scope at the `)`
   unfoldable pub function_of : Spot → Option Declarator → Head → ℕ → Parser (Found (Declarator × Head))
   function_of spot inner head room = λ open_. (parameters >>= (λ list. λ close.
-      (expect p.CloseParen >> (λ i. Ok (found (declarator_on spot (d.FunctionOf inner list.tree.0 list.tree.1), called (declared_since open_ close) head) (min room list.room), leave open_ i))) close)) open_
+      (expect p.CloseParen >> (λ i. Ok (
+        found (
+          declarator_on spot (d.FunctionOf inner list.tree.0 list.tree.1),
+          called (declared_since open_ close) head,
+        ) (min room list.room),
+        leave open_ i,
+      ))) close)) open_
 
-  abbrev pub grown : Spot → (Found (Declarator × Head) → Parser (Found (Declarator × Head))) → Found (Declarator × Head) → Parser (Found (Declarator × Head))
+  abbrev pub grown : Spot → (Found (Declarator × Head) → Parser (Found (Declarator × Head))) →
+      Found (Declarator × Head) → Parser (Found (Declarator × Head))
   grown spot again before = λ i.
-      if sees p.OpenBracket i then (need 1 before.room >> take >> (array_of spot (Some before.tree.0) before.tree.1 (before.room - 1) >>= again)) i
-      else if sees p.OpenParen i then (need 1 before.room >> take >> (function_of spot (Some before.tree.0) before.tree.1 (before.room - 1) >>= again)) i
+      if sees p.OpenBracket i then (need 1 before.room >> take
+      >> (array_of spot (Some before.tree.0) before.tree.1 (before.room - 1) >>= again)) i
+      else if sees p.OpenParen i
+      then (need 1 before.room >> take >> (function_of spot (Some before.tree.0) before.tree.1 (before.room - 1) >>= again)) i
       else Ok (before, i)
 
   unfoldable pub grown_from : Spot → ℕ → Found (Declarator × Head) → Parser (Found (Declarator × Head))
@@ -366,8 +424,10 @@ module _ (m : ℕ) (below : Readers) where
   -- behind the `*` and its qualifiers
   unfoldable pub star_of : Naming → Spot → List Qualifier → Parser (Found (Declarator × Head))
   star_of n spot list = λ i.
-      if not (begins_declarator n i) && may_omit n then Ok (found (declarator_on spot (d.Star list None), head.Abstract) m, i)
-      else (below.declarator n >>= (λ inner. pure (found (declarator_on spot (d.Star list (Some inner.tree.0)), other inner.tree.1) inner.room))) i
+      if not (begins_declarator n i) && may_omit n
+      then Ok (found (declarator_on spot (d.Star list None), head.Abstract) m, i)
+      else (below.declarator n
+      >>= (λ inner. pure (found (declarator_on spot (d.Star list (Some inner.tree.0)), other inner.tree.1) inner.room))) i
 
   unfoldable pub star : Naming → Spot → Parser (Found (Declarator × Head))
   star n spot = need_inside n >> take >> (qualifiers >>= star_of n spot)

@@ -20,7 +20,8 @@ use Rattle.lk_tree.specs.declared.expression.Specifier.{Specifier}
 use Rattle.lk_tree.specs.declared.expression.Specifier.TheVariants as specifier
 use Rattle.lk_parse_expr.specs.Input.{Input, peek, next, text, is_typedef}
 
--- the levels of expressions (C99 6.5), from the loosest: 0 expression, 1 assignment, 2 conditional, 3 to 12 binary, 13 cast, 14 unary, 15 postfix, 16 primary
+-- the levels of expressions (C99 6.5), from the loosest: 0 expression, 1 assignment, 2 conditional, 3 to 12
+-- binary, 13 cast, 14 unary, 15 postfix, 16 primary
 
 -- how tightly a binary operator binds (C99 6.5.5 to 6.5.14)
 abbrev pub level_of : BinaryOperator → ℕ
@@ -146,9 +147,11 @@ abbrev pub is_word : TokenKind → Bool
 is_word k.Word = true
 is_word _ = false
 
--- whether a specifier is in front, where typed says that a type came before it: a typedef name is a type only where none did
+-- whether a specifier is in front, where typed says that a type came before it: a typedef name
+-- is a type only where none did
 unfoldable pub continues_specifiers : Bool → Input → Bool
-continues_specifiers typed i = is_specifier_word (peek i) || ((is_word (peek i) && not typed) && is_typedef i.names (text i))
+continues_specifiers typed i =
+    is_specifier_word (peek i) || ((is_word (peek i) && not typed) && is_typedef i.names (text i))
 
 -- whether specifiers begin
 abbrev pub begins_specifiers : Input → Bool

@@ -297,7 +297,8 @@ impl<'t> Cursor<'t> {
         }
     }
 
-    /// Takes a token above what was read, which leaves `room` levels and is given back: one of them has to be left.
+    /// Takes a token above what was read, which leaves `room` levels and is given
+    /// back: one of them has to be left.
     #[tactic(auto, unfolding(crate::specs::Readers::need))]
     pub fn rise<B: Drop>(&mut self, before: B, room: usize) -> Result<B, Fault>
         ensures { Gives (part.rise before room self.old) result self.new }

@@ -20,7 +20,8 @@ use lk_tree::{
 };
 use std::alloc::Global;
 
-/// What reads expressions, with the readers of what stands inside them handed in, so that each form is proved by itself.
+/// What reads expressions, with the readers of what stands inside them handed in, so that
+/// each form is proved by itself.
 #[derive(Clone, Copy)]
 pub struct Expressions<E, T> {
     pub alloc: Global,

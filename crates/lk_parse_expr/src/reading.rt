@@ -126,7 +126,8 @@ fn read_item(alloc: Global, cursor: &mut Cursor<'_>, depth: usize) -> Result<Fou
     inside.item(cursor)
 }
 
-/// Specifiers, one at least, and whether `typedef` is among them. `depth` is how many levels there are inside them.
+/// Specifiers, one at least, and whether `typedef` is among them. `depth` is how many
+/// levels there are inside them.
 pub fn read_specifiers(
     alloc: Global,
     cursor: &mut Cursor<'_>,

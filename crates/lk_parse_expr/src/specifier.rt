@@ -211,8 +211,8 @@ impl<
         self.enum_of(cursor, tag)
     }
 
-    /// A specifier, where `typed` says whether a type came before it. With it, whether a type came before what follows, and
-    /// whether it is `typedef`.
+    /// A specifier, where `typed` says whether a type came before it. With it, whether a type came before
+    /// what follows, and whether it is `typedef`.
     #[tactic(auto, unfolding(crate::specs::Reading::specifier))]
     fn specifier(
         &self,

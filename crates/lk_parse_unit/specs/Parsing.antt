@@ -10,11 +10,13 @@ use Rattle.lk_tree.specs.Numbers.{numbered, count}
 use Rattle.lk_parse_expr.specs.Input.{spot_of}
 use Rattle.lk_parse_unit.specs.Tree.{IsTree}
 
--- why these tokens have no tree of this depth at most: none of any depth, or only deeper ones. The place is that of the first of the tokens that were left.
+-- why these tokens have no tree of this depth at most: none of any depth, or only deeper ones. The place is
+-- that of the first of the tokens that were left.
 pub record IsRefusal (most : ℕ) (source : List ℕ) (tokens : List Token) (refusal : Refusal) : Type 0 where
   pub cause : (refusal.code ≡ code.Syntax) ⊎ (refusal.code ≡ code.TooDeep)
   pub none : (unit : tree.Unit) → IsTree most source tokens unit → ⊥
-  pub deeper : refusal.code ≡ code.Syntax → (depth : ℕ) (unit : tree.Unit) → IsTree depth source tokens unit → ⊥
+  pub deeper : refusal.code ≡ code.Syntax → (depth : ℕ) (unit : tree.Unit) →
+      IsTree depth source tokens unit → ⊥
   pub place : (n : ℕ) × (refusal.spot ≡ spot_of (drop n tokens))
   pub nameless : refusal.name ≡ []
 

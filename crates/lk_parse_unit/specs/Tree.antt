@@ -22,4 +22,5 @@ pub record IsTree (most : ℕ) (source : List ℕ) (tokens : List Token) (unit :
 
 -- tokens are one tree at most, of whatever depth
 abbrev pub HasOneTree : Type 0
-HasOneTree = (m n : ℕ) (source : List ℕ) (tokens : List Token) (a b : tree.Unit) → IsTree m source tokens a → IsTree n source tokens b → a ≡ b
+HasOneTree = (m n : ℕ) (source : List ℕ) (tokens : List Token) (a b : tree.Unit) → IsTree m source tokens a →
+    IsTree n source tokens b → a ≡ b

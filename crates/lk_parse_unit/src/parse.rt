@@ -12,7 +12,8 @@ use lk_ordinals::number_unit;
 use lk_tree::Unit;
 use std::alloc::Global;
 
-/// A source that was read. It is let go here, so that a crate which holds one need not know what trees are made of.
+/// A source that was read. It is let go here, so that a crate which holds one need not
+/// know what trees are made of.
 pub struct Parsed {
     /// The tree of the source.
     pub unit: Unit,
@@ -24,12 +25,13 @@ impl Drop for Parsed {
     }
 }
 
-/// The tree of a source with these tokens, as the grammar gives it (C99 6.5 to 6.9), of depth 200 at most. Its nodes are numbered in a
-/// walk, parents first, from 0 on, and there are at most as many as tokens.
+/// The tree of a source with these tokens, as the grammar gives it (C99 6.5 to 6.9), of depth 200 at most.
+/// Its nodes are numbered in a walk, parents first, from 0 on, and there are at most as many as tokens.
 ///
-/// A refusal has the code `Syntax` only where there is no tree of any depth, and the code `TooDeep` only where there is none of depth 200
-/// at most. By the law `one_tree` there is one tree at most; so the tree comes, but for want of memory, exactly where there is one that is
-/// not too deep. A refusal has an empty name.
+/// A refusal has the code `Syntax` only where there is no tree of any depth, and the code
+/// `TooDeep` only where there is none of depth 200 at most. By the law `one_tree` there is one
+/// tree at most; so the tree comes, but for want of memory, exactly where there is one that is not
+/// too deep. A refusal has an empty name.
 #[tactic(auto, using(crate::proofs::Exact::read_tree, crate::proofs::Exact::refused))]
 pub fn parse_unit(alloc: Global, source: &[u8], tokens: &[Token]) -> Result<Parsed, Fault>
     requires { AreInside source.now tokens.now }

@@ -1,4 +1,5 @@
--- What a point of a static initialiser is asked to give, on the way back from a pointer to its object (C99 6.6, 9).
+-- What a point of a static initialiser is asked to give, on the way back from a
+-- pointer to its object (C99 6.6, 9).
 use Rattle.std.specs.Prelude.{◌≡◌, ◌⊎◌, ◌↔◌, ℕ, suc, ℤ, pos, neg_ℤ, Bool, true, false, List, [], ◌∷◌, ◌++◌, Option, None, Some}
 use Rattle.lk_base.specs.declared.cell.CellStep.{CellStep}
 use Rattle.lk_base.specs.declared.cell.CellStep.TheVariants.{Field, Index}
@@ -29,10 +30,12 @@ pub record IsFor (r : ℕ) (path : List CellStep) (past : Bool) (wanted : Wanted
   pub leads : path_in wanted ≡ path
   pub past_ : wanted.past ≡ past
 
--- a pointer stands at the same place as another one: it is this, or one past an element before the element of this
+-- a pointer stands at the same place as another one: it is this, or one past an
+-- element before the element of this
 pub data StandsAt : List CellStep → Bool → List CellStep → Bool → Type 0 where
   same : (path : List CellStep) (past : Bool) → StandsAt path past path past
-  next : (before : List CellStep) (k : ℕ) → StandsAt (before ++ Index k ∷ []) true (before ++ Index (suc k) ∷ []) false
+  next : (before : List CellStep) (k : ℕ) →
+      StandsAt (before ++ Index k ∷ []) true (before ++ Index (suc k) ∷ []) false
 
 -- a pointer moves by so many elements, or back by so many
 abbrev pub moved_by : ℤ → Bool → ℤ
@@ -43,7 +46,8 @@ moved_by n true = neg_ℤ n
 pub record MovesTo (by : ℤ) (from to : Wanted) : Type 0 where
   pub root : from.root ≡ to.root
   pub moved : IsMovedNear (path_in from) from.past by (path_in to) to.past
-  pub only : (path : List CellStep) (past : Bool) → IsMovedNear path past by (path_in to) to.past → StandsAt path past (path_in from) from.past
+  pub only : (path : List CellStep) (past : Bool) → IsMovedNear path past by (path_in to) to.past →
+      StandsAt path past (path_in from) from.past
 
 -- no pointer becomes this one when it moves by so many elements
 abbrev pub NoneMovesTo : ℤ → Wanted → Type 0
@@ -72,11 +76,14 @@ Meets program wanted p = GivesNear program p wanted.root (path_in wanted) wanted
 
 -- it does so by itself: it gives the one to the object of a root
 abbrev pub MeetsAlone : Program → Wanted → ℕ → Type 0
-MeetsAlone program wanted p = (r : ℕ) × ((action_at program p ≡ Some (Root r)) ⊎ (action_at program p ≡ Some (Text r))) × IsFor r [] false wanted
+MeetsAlone program wanted p =
+    (r : ℕ) × ((action_at program p ≡ Some (Root r)) ⊎ (action_at program p ≡ Some (Text r)))
+    × IsFor r [] false wanted
 
 -- a point with this action gives the second pointer exactly where the point `a` gives the first
 abbrev pub Leads : Program → Action → (a : ℕ) → (from to : Wanted) → Type 0
-Leads program action a from to = (p : ℕ) → action_at program p ≡ Some action → Meets program from a ↔ Meets program to p
+Leads program action a from to = (p : ℕ) → action_at program p ≡ Some action →
+    Meets program from a ↔ Meets program to p
 
 -- no point with this action gives the pointer
 abbrev pub NoneLeads : Program → Action → Wanted → Type 0

@@ -60,17 +60,21 @@ pub record Begins (program : Program) (initial : Initial) (write : StaticWrite) 
 
 -- the write at this place is that of the cell
 abbrev pub BeginsAt : Program → Initial → List StaticWrite → ℕ → Type 0
-BeginsAt program initial writes i = (write : StaticWrite) × (slice_get writes i ≡ Some write) × Begins program initial write
+BeginsAt program initial writes i =
+    (write : StaticWrite) × (slice_get writes i ≡ Some write) × Begins program initial write
 
 -- none of the writes from one place up to another is that of the cell
 abbrev pub NoneBegins : Program → Initial → List StaticWrite → (first end : ℕ) → Type 0
-NoneBegins program initial writes first end = (i : ℕ) → first ≤ i → i < end → BeginsAt program initial writes i → ⊥
+NoneBegins program initial writes first end =
+    (i : ℕ) → first ≤ i → i < end → BeginsAt program initial writes i → ⊥
 
 abbrev pub IsBegun : Program → Initial → Type 0
 IsBegun program initial = IsWrittenNear program initial initial.value
 
 abbrev pub MayAllBegin : Program → Type 0
-MayAllBegin program = (i : ℕ) (initial : Initial) → slice_get program.initials i ≡ Some initial → IsInitial program initial
+MayAllBegin program = (i : ℕ) (initial : Initial) → slice_get program.initials i ≡ Some initial →
+    IsInitial program initial
 
 abbrev pub AreWritten : Program → Type 0
-AreWritten program = (i : ℕ) (initial : Initial) → slice_get program.initials i ≡ Some initial → IsBegun program initial
+AreWritten program = (i : ℕ) (initial : Initial) → slice_get program.initials i ≡ Some initial →
+    IsBegun program initial

@@ -9,7 +9,8 @@ use lk_base::CellStep;
 use lk_facts::Points;
 use lk_types::{CType, TypeId, TypeTable};
 
-/// The type of the part of an object of type `t` to which a step leads, or nothing where there is no such part.
+/// The type of the part of an object of type `t` to which a step leads, or nothing
+/// where there is no such part.
 fn part_at(types: &TypeTable, t: TypeId, step: &CellStep) -> Option<TypeId>
     requires { IsKnown types.now t }
     ensures leads { IfSome result (LeadsTo types.now t step.now) }

@@ -10,7 +10,8 @@ use lk_base::NoMemory;
 use lk_facts::Points;
 use std::alloc::Global;
 
-/// Whether each cell of static storage that an initialiser names is a part of its object, and may begin with its value.
+/// Whether each cell of static storage that an initialiser names is a part of its object,
+/// and may begin with its value.
 fn are_initials(points: &Points) -> bool
     requires { IsInRange points.now }
     ensures { IsTrue result ↔ MayAllBegin points.now }
@@ -32,9 +33,9 @@ fn are_kept(points: &Points, writes: &[StaticWrite]) -> bool
     are_initials(points) && are_written(points, writes)
 }
 
-/// Whether what objects of static storage begin with is there (C99 6.6, 7 to 9; 6.7.8, 4): each cell that an initialiser
-/// names is a part of its object, and has a type of which its value may be; a function has the type to which its pointer
-/// points; and a point of no function writes each pointer there.
+/// Whether what objects of static storage begin with is there (C99 6.6, 7 to 9; 6.7.8, 4): each cell that an
+/// initialiser names is a part of its object, and has a type of which its value may be; a function has the
+/// type to which its pointer points; and a point of no function writes each pointer there.
 ///
 /// `Err` comes for want of memory.
 pub fn are_statics(alloc: Global, points: &Points) -> Result<bool, NoMemory>

@@ -21,7 +21,8 @@ pub(crate) struct Wanted<'a> {
     past: bool,
 }
 
-/// The place from which a pointer moved by so many elements, or back by so many, where there is such a number.
+/// The place from which a pointer moved by so many elements, or back by so many,
+/// where there is such a number.
 fn place_before(place: i128, by: i128, back: bool) -> Option<i128>
     ensures from { IfSome result (λ from. from +ℤ moved_by by back ≡ place) }
     ensures only { (from : ℤ) → FitsSigned w128 from → from +ℤ moved_by by back ≡ place → result ≡ Some from }
@@ -33,8 +34,8 @@ fn place_before(place: i128, by: i128, back: bool) -> Option<i128>
     }
 }
 
-/// The index of the element from which a pointer to an element, or one past it, moved by so many elements, or back by so
-/// many, where there is such an index.
+/// The index of the element from which a pointer to an element, or one past it, moved by so many elements, or
+/// back by so many, where there is such an index.
 fn index_before(index: u64, past: bool, by: i128, back: bool) -> Option<u64>
     ensures { MatchOption result
         ((place : ℤ) → IsIndex place → place +ℤ moved_by by back ≡ stand index past → ⊥)
@@ -49,8 +50,8 @@ fn index_before(index: u64, past: bool, by: i128, back: bool) -> Option<u64>
     }
 }
 
-/// Whether a pointer that moved by so many elements, or back by so many, pointed past its part, which is no element;
-/// nothing where it pointed neither to it nor past it.
+/// Whether a pointer that moved by so many elements, or back by so many, pointed past its part, which is no
+/// element; nothing where it pointed neither to it nor past it.
 fn past_before(past: bool, by: i128, back: bool) -> Option<bool>
     ensures { MatchOption result ((from : Bool) → stand 0 from +ℤ moved_by by back ≡ stand 0 past → ⊥)
         (λ from. stand 0 from +ℤ moved_by by back ≡ stand 0 past) }
@@ -131,8 +132,8 @@ impl<'a> Wanted<'a> {
         }
     }
 
-    /// A pointer that becomes this one when it moves by so many elements, or back by so many, where there is one (C99
-    /// 6.5.6, 8).
+    /// A pointer that becomes this one when it moves by so many elements, or back by so many, where
+    /// there is one (C99 6.5.6, 8).
     pub(crate) fn before_move(&self, by: i128, back: bool) -> Option<Wanted<'a>>
         ensures { MatchOption result (NoneMovesTo (moved_by by back) self.now)
             (λ from. MovesTo (moved_by by back) from self.now) }

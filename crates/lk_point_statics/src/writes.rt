@@ -106,7 +106,8 @@ fn begins_at(points: &Points, writes: &[StaticWrite], place: usize, initial: &In
     write.begins(points, initial)
 }
 
-/// The place of a write among those from one place up to another that writes the pointer with which a cell begins.
+/// The place of a write among those from one place up to another that writes the
+/// pointer with which a cell begins.
 fn write_among(
     points: &Points,
     writes: &[StaticWrite],
@@ -178,8 +179,8 @@ fn after_write(
     Some(place + 1)
 }
 
-/// Whether each pointer with which a cell of static storage begins is among what points write. Both stand in the order of
-/// the text, so that the search for one goes on behind the one before.
+/// Whether each pointer with which a cell of static storage begins is among what points write. Both stand in
+/// the order of the text, so that the search for one goes on behind the one before.
 pub(crate) fn are_written(points: &Points, writes: &[StaticWrite]) -> bool
     requires { AreStaticWrites points.now writes.now }
     ensures { IsTrue result ↔ AreWritten points.now }

@@ -1,4 +1,5 @@
--- What is asked of one point and of one root, so that a program has types as `HaveTypes` says. Only the private calls of this crate speak of it.
+-- What is asked of one point and of one root, so that a program has types as `HaveTypes` says. Only the
+-- private calls of this crate speak of it.
 use Rattle.std.specs.Prelude.{◌≡◌, ◌<◌, ℕ, List, Some, length}
 use Rattle.lk_base.specs.declared.cell.CellStep.{CellStep}
 use Rattle.lk_facts.specs.Lowered.{IsArgument, IsString, IsText}
@@ -15,20 +16,25 @@ use Rattle.lk_types.specs.declared.c_type.CType.TheVariants.{Pointer}
 use Rattle.lk_point_types.specs.Filled.{LeadsToNode}
 
 module _ (program : Program) where
-  -- what is equal to a type to which the point gives a pointer, but for the sizes of arrays, is so to the type t
+  -- what is equal to a type to which the point gives a pointer, but for the sizes
+  -- of arrays, is so to the type t
   abbrev pub StandsForTargets : (p t : ℕ) → Type 0
-  StandsForTargets p t = (u v : ℕ) → PointsTo program p u → IsAlike program.types.types v u → IsAlike program.types.types v t
+  StandsForTargets p t = (u v : ℕ) → PointsTo program p u → IsAlike program.types.types v u →
+      IsAlike program.types.types v t
 
   -- where the action fills cells, its operand points to those of the place that it names
   abbrev pub FillsItsPlace : Action → Type 0
-  FillsItsPlace action = (a : ℕ) (place : Place) (named : List (List CellStep)) → action ≡ Fill a place named → LeadsToNode program a place.node
+  FillsItsPlace action = (a : ℕ) (place : Place) (named : List (List CellStep)) →
+      action ≡ Fill a place named → LeadsToNode program a place.node
 
   abbrev pub HasItsPlace : ℕ → Type 0
-  HasItsPlace p = (a : ℕ) (place : Place) (named : List (List CellStep)) → action_at program p ≡ Some (Fill a place named) → LeadsToNode program a place.node
+  HasItsPlace p = (a : ℕ) (place : Place) (named : List (List CellStep)) →
+      action_at program p ≡ Some (Fill a place named) → LeadsToNode program a place.node
 
   -- what the point takes and gives has the types that its action needs
   abbrev pub IsPointTyped : ℕ → Type 0
-  IsPointTyped p = (f : ℕ) (action : Action) → action_at program p ≡ Some action → function_at program p ≡ Some f → IsTyped program p f action
+  IsPointTyped p = (f : ℕ) (action : Action) → action_at program p ≡ Some action →
+      function_at program p ≡ Some f → IsTyped program p f action
 
   -- the text to which the point gives a pointer has its bytes
   abbrev pub HasItsText : ℕ → Type 0
@@ -40,13 +46,16 @@ module _ (program : Program) where
 
   -- main's second parameter points to strings
   abbrev pub IsMainTyped : Type 0
-  IsMainTyped = (holder : Holder) (t : ℕ) → parameter_of program program.main 2 ≡ Some holder → IsHolderType program holder t →
+  IsMainTyped = (holder : Holder) (t : ℕ) → parameter_of program program.main 2 ≡ Some holder →
+      IsHolderType program holder t →
       (string : ℕ) × IsForm program.types t (Pointer string) × IsString program string
 
   -- ---- of all of them
 
   abbrev pub IsCodeTyped : Type 0
-  IsCodeTyped = ((p : ℕ) → HasItsPlace p × IsPointTyped p) × ((f : ℕ) → f < length program.functions → IsFunctionTyped program f)
+  IsCodeTyped =
+      ((p : ℕ) → HasItsPlace p × IsPointTyped p)
+      × ((f : ℕ) → f < length program.functions → IsFunctionTyped program f)
 
   abbrev pub AreObjectsTyped : Type 0
   AreObjectsTyped = ((p : ℕ) → HasItsText p) × ((r : ℕ) → IsArgumentAt r)

@@ -33,8 +33,8 @@ fn gives_int_or_none(points: &Points, p: u32) -> bool
     gives_int(points, p) || gives_none(points, p)
 }
 
-/// Whether what the action of a point of a function takes and gives has the types that it needs (C99 6.3, 6.5, 6.8.6.4,
-/// 7.20; POSIX pthread_*).
+/// Whether what the action of a point of a function takes and gives has the types that it needs
+/// (C99 6.3, 6.5, 6.8.6.4, 7.20; POSIX pthread_*).
 pub(crate) fn is_typed(points: &Points, p: u32, f: u32, action: &Action) -> bool
     requires p { p < length points.now.points }
     requires action { IsActionInRange (sizes_of points.now) action.now }

@@ -77,8 +77,8 @@ pub(crate) fn function_type(points: &Points, f: u32) -> &CType
     form(points.types(), root.ty)
 }
 
-/// Whether the arguments and the value of a call of a function of the program have the types of its parameters and its
-/// result.
+/// Whether the arguments and the value of a call of a function of the program have the types of
+/// its parameters and its result.
 pub(crate) fn calls_function(points: &Points, f: u32, args: &[u32], p: u32) -> bool
     requires f { f < length points.now.functions }
     requires args { All (λ a. a < length points.now.points) args.now }
@@ -89,8 +89,8 @@ pub(crate) fn calls_function(points: &Points, f: u32, args: &[u32], p: u32) -> b
     is_call(points, function_type(points, f), args, p)
 }
 
-/// Whether the operand of a call points to a function, whose parameters and result have the types of the arguments and
-/// the value.
+/// Whether the operand of a call points to a function, whose parameters and result have the types of
+/// the arguments and the value.
 pub(crate) fn calls_pointer(points: &Points, a: u32, args: &[u32], p: u32) -> bool
     requires a { a < length points.now.points }
     requires args { All (λ a. a < length points.now.points) args.now }
@@ -104,7 +104,8 @@ pub(crate) fn calls_pointer(points: &Points, a: u32, args: &[u32], p: u32) -> bo
     }
 }
 
-/// Whether a function takes and returns a `void *`, as one at which a thread can start (POSIX pthread_create).
+/// Whether a function takes and returns a `void *`, as one at which a thread can
+/// start (POSIX pthread_create).
 pub(crate) fn is_start_routine(points: &Points, f: u32) -> bool
     requires { f < length points.now.functions }
     ensures { IsTrue result ↔ IsStartRoutine points.now f }

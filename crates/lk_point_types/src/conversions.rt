@@ -89,7 +89,8 @@ fn from_void(points: &Points, a: u32, p: u32) -> bool
     points_to_void(points, a) && points_to_object(points, p)
 }
 
-/// Whether a pointer becomes one to its own type, one to an object a `void *`, or a `void *` one to an object.
+/// Whether a pointer becomes one to its own type, one to an object a `void *`, or
+/// a `void *` one to an object.
 fn converts_pointer(points: &Points, a: u32, p: u32) -> bool
     requires a { a < length points.now.points }
     requires p { p < length points.now.points }

@@ -201,8 +201,8 @@ fn step_of(action: &Action) -> Option<(u32, Sel)>
     }
 }
 
-/// The part of the object of a root to which the pointer leads that a point gives: that by fewer than so many steps to
-/// members and elements.
+/// The part of the object of a root to which the pointer leads that a point gives: that by fewer than so many
+/// steps to members and elements.
 fn part_at(points: &Points, p: u32, steps: u32) -> Option<NodeId>
     requires { p < length points.now.points }
     ensures node { IfSome result (IsNode points.now.types) }
@@ -250,8 +250,8 @@ pub(crate) fn points_to_place(points: &Points, a: u32, place: Place) -> bool
     points_to_cell(points, a, points.types().node_type(place.node))
 }
 
-/// Whether the operand of an action that fills cells points to those of the place that it names. No type of a table has more
-/// than `MOST_TABLE_STEPS` steps to its parts.
+/// Whether the operand of an action that fills cells points to those of the place that it names. No type of a
+/// table has more than `MOST_TABLE_STEPS` steps to its parts.
 pub(crate) fn has_its_place(points: &Points, action: &Action) -> bool
     requires { IsActionInRange (sizes_of points.now) action.now }
     ensures { IsTrue result ↔ FillsItsPlace points.now action.now }

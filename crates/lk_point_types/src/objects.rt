@@ -75,8 +75,8 @@ pub(crate) fn points_to_function(points: &Points, p: u32, f: u32) -> bool
     points_to_root(points, p, points.function_root(f))
 }
 
-/// Whether a root is what a point allocates: one object of a type, or an array of it without a size where there is a
-/// count (C99 7.20.3).
+/// Whether a root is what a point allocates: one object of a type, or an array of it without a size where
+/// there is a count (C99 7.20.3).
 pub(crate) fn is_allocated(points: &Points, p: u32, r: u32, t: TypeId, count: Option<u32>) -> bool
     requires { r < length points.now.roots }
     ensures { IsTrue result ↔ IsAllocated points.now p r t count }

@@ -103,7 +103,8 @@ fn is_shift(points: &Points, a: u32, b: u32, p: u32) -> bool
     }
 }
 
-/// Whether the operands and the value of a binary operator have types that it takes and gives (C99 6.5.5 to 6.5.12).
+/// Whether the operands and the value of a binary operator have types that it takes and
+/// gives (C99 6.5.5 to 6.5.12).
 pub(crate) fn is_binary(points: &Points, op: Op, a: u32, b: u32, p: u32) -> bool
     requires a { a < length points.now.points }
     requires b { b < length points.now.points }

@@ -10,7 +10,8 @@ use crate::functions::is_function_typed;
 use crate::roots::{is_argument, is_main_typed, is_text};
 use lk_facts::{Action, Points};
 
-/// Whether what a point takes and gives has the types that its action needs, and what it fills is the place that it names.
+/// Whether what a point takes and gives has the types that its action needs, and what it
+/// fills is the place that it names.
 fn is_point_typed(points: &Points, p: u32) -> bool
     requires { p < length points.now.points }
     ensures { IsTrue result ↔ (HasItsPlace points.now p × IsPointTyped points.now p) }
@@ -99,10 +100,10 @@ fn is_data_typed(points: &Points) -> bool
     are_objects_typed(points) && is_main_typed(points)
 }
 
-/// Whether each point, function and text of a program has the types that its action or its declaration asks for: the
-/// operands and the value of each operator, conversion, access and call (C99 6.3, 6.5, 6.8.6.4, 7.20; POSIX pthread_*),
-/// the parameters and the result of each function (C99 6.9.1), the bytes of each text (C99 6.4.5), and main's arguments
-/// (C99 5.1.2.2.1).
+/// Whether each point, function and text of a program has the types that its action or its declaration asks
+/// for: the operands and the value of each operator, conversion, access and call
+/// (C99 6.3, 6.5, 6.8.6.4, 7.20; POSIX pthread_*), the parameters and the result of each function
+/// (C99 6.9.1), the bytes of each text (C99 6.4.5), and main's arguments (C99 5.1.2.2.1).
 pub fn have_types(points: &Points) -> bool
     ensures { IsTrue result ↔ HaveTypes points.now }
 {

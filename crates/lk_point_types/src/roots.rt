@@ -90,8 +90,8 @@ fn has_strings(points: &Points) -> bool
     false
 }
 
-/// Whether a root, where it is one of main's arguments, is the array of the pointers to the strings, which have a root, or
-/// their chars.
+/// Whether a root, where it is one of main's arguments, is the array of the pointers to the strings, which
+/// have a root, or their chars.
 pub(crate) fn is_argument(points: &Points, root: &Root) -> bool
     requires { IsKnown points.now.types root.now.ty }
     ensures { IsTrue result ↔ IsArgument points.now root.now.kind root.now.ty }
@@ -126,7 +126,8 @@ fn is_argv(points: &Points, t: TypeId) -> bool
     }
 }
 
-/// Whether the second parameter of `main`, where there is one, is a pointer to pointers to `char` (C99 5.1.2.2.1).
+/// Whether the second parameter of `main`, where there is one, is a pointer to
+/// pointers to `char` (C99 5.1.2.2.1).
 pub(crate) fn is_main_typed(points: &Points) -> bool
     ensures { IsTrue result ↔ IsMainTyped points.now }
 {

@@ -1,4 +1,5 @@
--- What is asked of one point, of one function and of one root, so that control goes as `KeepWays` says. Only the private calls of this crate speak of it.
+-- What is asked of one point, of one function and of one root, so that control goes as `KeepWays` says. Only
+-- the private calls of this crate speak of it.
 use Rattle.std.specs.Prelude.{◌≡◌, ◌<◌, ℕ, [], ◌∷◌, Option, Some, length}
 use Rattle.lk_facts.specs.InRange.{AllOperands}
 use Rattle.lk_facts.specs.Lowered.{IsExit, named_function, ways_of}
@@ -12,7 +13,8 @@ module _ (program : Program) where
   -- ---- of a point
 
   abbrev pub HasOwnOperands : ℕ → Type 0
-  HasOwnOperands p = (action : Action) → action_at program p ≡ Some action → AllOperands (λ a. function_at program a ≡ function_at program p) action
+  HasOwnOperands p = (action : Action) → action_at program p ≡ Some action →
+      AllOperands (λ a. function_at program a ≡ function_at program p) action
 
   abbrev pub HasOwnSuccessors : ℕ → Type 0
   HasOwnSuccessors p = (q : ℕ) → IsNext program p q → function_at program q ≡ function_at program p
@@ -23,19 +25,23 @@ module _ (program : Program) where
 
   -- a Return leads to the exit of the function
   abbrev pub ReturnsToExit : (f p : ℕ) → Type 0
-  ReturnsToExit f p = (e : ℕ) (a : Option ℕ) → action_at program p ≡ Some (Return a) → exit_of program f ≡ Some e → next_of program p ≡ e ∷ []
+  ReturnsToExit f p = (e : ℕ) (a : Option ℕ) → action_at program p ≡ Some (Return a) →
+      exit_of program f ≡ Some e → next_of program p ≡ e ∷ []
 
   -- unless it is the exit of the function it has as many successors as its action asks for
   abbrev pub HasWays : (f p : ℕ) → Type 0
-  HasWays f p = (e : ℕ) (action : Action) → action_at program p ≡ Some action → exit_of program f ≡ Some e → (p ≡ e → ⊥) → length (next_of program p) ≡ ways_of action
+  HasWays f p = (e : ℕ) (action : Action) → action_at program p ≡ Some action → exit_of program f ≡ Some e →
+      (p ≡ e → ⊥) → length (next_of program p) ≡ ways_of action
 
   -- a wait takes the mutex again that it gave back, before anything else (POSIX pthread_cond_wait)
   abbrev pub Retakes : ℕ → Type 0
-  Retakes p = (q cond mutex : ℕ) → action_at program p ≡ Some (Release cond mutex) → IsNext program p q → action_at program q ≡ Some (Retake mutex)
+  Retakes p = (q cond mutex : ℕ) → action_at program p ≡ Some (Release cond mutex) → IsNext program p q →
+      action_at program q ≡ Some (Retake mutex)
 
   -- it doesn't call main, start a thread there, or take its address
   abbrev pub AvoidsMain : ℕ → Type 0
-  AvoidsMain p = (action : Action) → action_at program p ≡ Some action → named_function action ≡ Some program.main → ⊥
+  AvoidsMain p = (action : Action) → action_at program p ≡ Some action →
+      named_function action ≡ Some program.main → ⊥
 
   -- from a point of the function
   pub record GoesOn (f p : ℕ) : Type 0 where

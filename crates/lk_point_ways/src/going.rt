@@ -53,7 +53,8 @@ fn goes_on(points: &Points, function: u32, p: u32) -> bool
         && has_its_ways(points, function, p)
 }
 
-/// Whether control goes on from a point inside its function, a wait takes its mutex again, and nothing leads to `main`.
+/// Whether control goes on from a point inside its function, a wait takes its mutex again,
+/// and nothing leads to `main`.
 fn keeps_point(points: &Points, p: u32) -> bool
     requires { p < length points.now.points }
     ensures { IsTrue result ↔ kept.KeepsPoint points.now p }

@@ -18,18 +18,22 @@ use Rattle.lk_predeclared.specs.Functions.{type_by}
 
 -- a name that no node declares
 abbrev pub code_declared : Name → CodeMeaning → Linkage → Defines → CodeDeclared
-code_declared name meaning reach defined = record { name = name; meaning = meaning; linkage = reach; defines = defined; ordinal = 0 }
+code_declared name meaning reach defined =
+    record { name = name; meaning = meaning; linkage = reach; defines = defined; ordinal = 0 }
 
 abbrev pub declared : Name → Meaning → Linkage → Defines → Declared
-declared name meaning reach defined = record { name = name; meaning = meaning; linkage = reach; defines = defined; ordinal = 0 }
+declared name meaning reach defined =
+    record { name = name; meaning = meaning; linkage = reach; defines = defined; ordinal = 0 }
 
 -- a function of the library as it is declared
 abbrev pub function_declared : LibraryFunction → Declared
-function_declared function = declared (spelling function) (AFunction (type_by (rows_of function))) linkage.External defines.Whole
+function_declared function =
+    declared (spelling function) (AFunction (type_by (rows_of function))) linkage.External defines.Whole
 
 -- all of them
 abbrev pub functions_declared : List Declared
-functions_declared = map (λ f. declared f.name (AFunction (type_of_function f)) linkage.External defines.Whole) spec.library
+functions_declared =
+    map (λ f. declared f.name (AFunction (type_of_function f)) linkage.External defines.Whole) spec.library
 
 -- the words, and behind them the functions
 abbrev pub all_declared : List Declared
@@ -47,4 +51,5 @@ AddsName old new d = new ≡ record old { declared = old.declared ++ d ∷ [] }
 
 -- these names came last
 abbrev pub AddsNames : Table → InScope → Table → InScope → List Declared → Type 0
-AddsNames table scope later new more = (names : List Declared) → HasScope table scope names → HasScope later new (names ++ more)
+AddsNames table scope later new more = (names : List Declared) → HasScope table scope names →
+    HasScope later new (names ++ more)

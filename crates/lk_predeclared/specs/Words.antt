@@ -31,4 +31,6 @@ word_meaning w.CondInitialiser = InitialiserWord 15
 
 -- all of them
 abbrev pub words : List Word
-words = w.Thread ∷ w.Mutex ∷ w.Cond ∷ w.Size ∷ w.ThreadAttributes ∷ w.MutexAttributes ∷ w.CondAttributes ∷ w.MutexInitialiser ∷ w.CondInitialiser ∷ []
+words =
+    w.Thread ∷ w.Mutex ∷ w.Cond ∷ w.Size ∷ w.ThreadAttributes ∷ w.MutexAttributes ∷ w.CondAttributes ∷
+    w.MutexInitialiser ∷ w.CondInitialiser ∷ []

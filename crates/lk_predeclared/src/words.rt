@@ -1,4 +1,5 @@
-//! The predeclared words: the types of POSIX threads, `size_t`, and the words that initialise mutexes and condition variables.
+//! The predeclared words: the types of POSIX threads, `size_t`, and the words that initialise
+//! mutexes and condition variables.
 ghost use Rattle.std.specs.Prelude.{◌≡◌, OnOk};
 ghost use Rattle.lk_typed.specs.Library.{predeclared_types};
 ghost use Rattle.lk_typed.specs.Meaning.{IsReady};

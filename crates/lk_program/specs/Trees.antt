@@ -20,4 +20,5 @@ IsNumbered source = (before : Unit) × (source.parsed.unit ≡ numbered before)
 
 -- a source comes to this typed tree, whatever names --externs lists
 abbrev pub TypesSource : AcceptedSource → TypedUnit → Type 0
-TypesSource source typed = (externs : List Name) → IsCheckedOf externs source.parsed.unit source.checked → IsTypedUnit externs source.parsed.unit typed
+TypesSource source typed = (externs : List Name) → IsCheckedOf externs source.parsed.unit source.checked →
+    IsTypedUnit externs source.parsed.unit typed

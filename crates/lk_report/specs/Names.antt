@@ -19,7 +19,9 @@ use Rattle.lk_types.specs.declared.node.Sel.TheVariants.{Target, Element, Field,
 
 -- FILE:LINE:COL, of the files by their numbers
 abbrev pub spot_text : List (List ℕ) → Spot → List ℕ
-spot_text files spot = unwrap_or (slice_get files spot.file) [] ++ (codes ":" ++ (decimal spot.line ++ (codes ":" ++ decimal spot.col)))
+spot_text files spot =
+    unwrap_or (slice_get files spot.file) [] ++
+    (codes ":" ++ (decimal spot.line ++ (codes ":" ++ decimal spot.col)))
 
 -- the type of the elements, where the form is an array
 abbrev pub element_type : CType → Option ℕ
@@ -50,17 +52,22 @@ member_of table (Opaque n) k = None
 -- what follows an object's name for its part: `.member` for a member, `[]` for all elements of an array
 unfoldable pub path_text : Table → ℕ → List Sel → List ℕ
 path_text table t [] = []
-path_text table t (Element ∷ path) = codes "[]" ++ option_map_or (λ e. path_text table e path) (element_type (type_at table t)) []
-path_text table t (Field k ∷ path) = option_map_or (λ member. codes "." ++ (member.name ++ path_text table member.ty path)) (member_of table (type_at table t) k) []
+path_text table t (Element ∷ path) =
+    codes "[]" ++ option_map_or (λ e. path_text table e path) (element_type (type_at table t)) []
+path_text table t (Field k ∷ path) =
+    option_map_or (λ member. codes "." ++ (member.name ++ path_text table member.ty path))
+    (member_of table (type_at table t) k) []
 path_text table t (Target ∷ path) = []
 path_text table t (Part u ∷ path) = []
 
 -- the name of the function that a root belongs to, and a point
 abbrev pub owner_text : Program → Root → List ℕ
-owner_text program root = option_map_or (λ name. name ++ codes ".") (option_and_then (name_of program) root.function) []
+owner_text program root =
+    option_map_or (λ name. name ++ codes ".") (option_and_then (name_of program) root.function) []
 
 module _ (files : List (List ℕ)) (program : Program) where
-  -- An object has the name that is declared, in a function behind the function's; what is allocated has the place where that is done.
+  -- An object has the name that is declared, in a function behind the function's; what is allocated has
+  -- the place where that is done.
   abbrev pub object_text : RootKind → Root → List ℕ
   object_text kind.Global root = root.name
   object_text kind.Static root = owner_text program root ++ root.name
@@ -73,7 +80,8 @@ module _ (files : List (List ℕ)) (program : Program) where
 
   -- the text of a part of an object
   abbrev pub part_text : Place → Root → List ℕ
-  part_text place root = object_text root.kind root ++ path_text program.types root.ty (node_of program.types place.node).path
+  part_text place root =
+      object_text root.kind root ++ path_text program.types root.ty (node_of program.types place.node).path
 
   abbrev pub text_at : Place → List ℕ
   text_at place = option_map_or (part_text place) (root_at program place.root) []
@@ -84,9 +92,11 @@ module _ (files : List (List ℕ)) (program : Program) where
 
   -- its place in a source, which is that of its object
   abbrev pub location_spot_text : ℕ → List ℕ
-  location_spot_text n = option_map_or (λ place. option_map_or (λ root. spot_text files root.spot) (root_at program place.root) []) (place_at program n) []
+  location_spot_text n =
+      option_map_or (λ place. option_map_or (λ root. spot_text files root.spot) (root_at program place.root) []) (place_at program n) []
 
-  -- the files of all places in sources are there, and locations and lock places are nodes of types: no name is made up
+  -- the files of all places in sources are there, and locations and lock places are nodes
+  -- of types: no name is made up
   pub record CanBeNamed : Type 0 where
     pub roots : All (λ root. root.spot.file < length files) program.roots
     pub points : All (λ point. point.spot.file < length files) program.points

@@ -22,12 +22,15 @@ abbrev pub spot_at : Program → ℕ → Spot
 spot_at program p = unwrap_or (spot_of program p) (record { file = 0; line = 0; col = 0 })
 
 abbrev pub spot_cmp : Spot → Spot → Ordering
-spot_cmp a b = ordering_then (ordering_then (nat_cmp a.file b.file) (nat_cmp a.line b.line)) (nat_cmp a.col b.col)
+spot_cmp a b =
+    ordering_then (ordering_then (nat_cmp a.file b.file) (nat_cmp a.line b.line)) (nat_cmp a.col b.col)
 
 module _ (program : Program) where
   -- accesses compare by their places: file, line and column; at one place by their points
   abbrev pub access_cmp : Racing → Racing → Ordering
-  access_cmp a b = ordering_then (spot_cmp (spot_at program a.access) (spot_at program b.access)) (nat_cmp a.access b.access)
+  access_cmp a b =
+      ordering_then (spot_cmp (spot_at program a.access) (spot_at program b.access))
+      (nat_cmp a.access b.access)
 
   abbrev pub is_told_before : Racing → Racing → Bool
   is_told_before a b = is_lt (access_cmp a b)

@@ -1,4 +1,5 @@
--- The text of the report: a line for each location, with its racing accesses where it is suspect, and a line of totals.
+-- The text of the report: a line for each location, with its racing accesses where it is
+-- suspect, and a line of totals.
 use Rattle.std.specs.Prelude.{◌<◌, ◌≡◌, ℕ, Bool, true, false, if◌then◌else◌, List, [], ◌∷◌, ◌++◌, flat_map, All, length, codes, count_by, unwrap_or, Some}
 use Rattle.std.specs.Option.{option_and_then, option_map_or}
 use Rattle.std.specs.Fmt.{decimal}
@@ -49,7 +50,8 @@ module _ (files : List (List ℕ)) (program : Program) where
   -- lock places, with `, ` before each but the first
   abbrev pub locks_text : List ℕ → List ℕ
   locks_text [] = []
-  locks_text (first ∷ others) = place_text files program first ++ flat_map (λ lock. codes ", " ++ place_text files program lock) others
+  locks_text (first ∷ others) =
+      place_text files program first ++ flat_map (λ lock. codes ", " ++ place_text files program lock) others
 
   -- the locks that are held
   abbrev pub held_text : List ℕ → List ℕ

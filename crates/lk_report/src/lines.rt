@@ -125,7 +125,8 @@ impl Lines<'_> {
         Ok(())
     }
 
-    /// Appends the lines of the racing accesses of a location where it is suspect, in the order of their places.
+    /// Appends the lines of the racing accesses of a location where it is suspect,
+    /// in the order of their places.
     fn push_racing(
         &self,
         alloc: Global,
@@ -197,8 +198,8 @@ fn push_total(alloc: Global, out: &mut Vec<u8>, verdicts: &[Verdict]) -> Result<
     Ok(())
 }
 
-/// The report of these verdicts, in their order: a line for each location, with a line for each racing access where it is
-/// suspect, in the order of their places, and a line of totals.
+/// The report of these verdicts, in their order: a line for each location, with a line for each racing access
+/// where it is suspect, in the order of their places, and a line of totals.
 pub fn report(
     alloc: Global,
     verdicts: &[Verdict],

@@ -201,9 +201,9 @@ pub(crate) fn push_location_spot(
     push_spot(alloc, out, files, points.root(place.root).spot)
 }
 
-/// The text of the location or lock place `n`, counted as labels count them: the name of its object, and what leads to
-/// its part, as `table[].lock`. What a function declares stands behind the function's name, as `main.lock`; what is
-/// allocated is `heap@` and the place where that is done.
+/// The text of the location or lock place `n`, counted as labels count them: the name of its object, and what
+/// leads to its part, as `table[].lock`. What a function declares stands behind the function's name, as
+/// `main.lock`; what is allocated is `heap@` and the place where that is done.
 pub fn text_of(alloc: Global, n: u32, points: &Points, files: &Files) -> Result<Vec<u8>, NoMemory>
     requires place { n < length points.now.places }
     requires named { CanBeNamed files.now points.now }

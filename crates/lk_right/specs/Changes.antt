@@ -23,10 +23,12 @@ use Rattle.lk_values.specs.declared.cell.Cell.{Cell}
 use Rattle.lk_values.specs.declared.value.Value.{Value}
 
 module _ (program : Program) (labels : LabelTable) (es : List Edge) where
-  -- the function is there, begins at this entry, and its arguments are right for its parameters in the context d
+  -- the function is there, begins at this entry, and its arguments are right for
+  -- its parameters in the context d
   pub record IsCallRight (homes : List Home) (call : Call) (d : List ℕ) : Type 0 where
     pub begins : entry_of program call.function ≡ Some call.entry
-    pub args : (k : ℕ) (v : Value) → slice_get call.args k ≡ Some v → IsRight program labels es homes v (parameter program call.function (suc k)) d
+    pub args : (k : ℕ) (v : Value) → slice_get call.args k ≡ Some v →
+        IsRight program labels es homes v (parameter program call.function (suc k)) d
 
   -- a value that may be given is right
   abbrev pub IsGivenRight : List Home → Option Value → ℕ → List ℕ → Type 0
@@ -44,11 +46,13 @@ module _ (program : Program) (labels : LabelTable) (es : List Edge) where
     pub stands : function_at program q ≡ Some f
     pub live : live_at program q ≡ true
 
-  -- Of a step of a thread whose frame of the function f stands at the point p in the context c; the homes are those after it.
+  -- Of a step of a thread whose frame of the function f stands at the point p in the context c;
+  -- the homes are those after it.
   module _ (homes : List Home) (p f : ℕ) (c : List ℕ) where
     abbrev pub IsTurnRight : Turn → Type 0
     IsTurnRight (turn.To q) = IsLiveIn f q
-    IsTurnRight (turn.OnAt next) = (a : ℕ) → accessed_at program p ≡ Some a → IsPointerRight program labels es homes next (value program a) c
+    IsTurnRight (turn.OnAt next) = (a : ℕ) → accessed_at program p ≡ Some a →
+        IsPointerRight program labels es homes next (value program a) c
 
     abbrev pub IsEffectRight : Effect → Type 0
     IsEffectRight effect.Nothing = ⊤
@@ -63,7 +67,8 @@ module _ (program : Program) (labels : LabelTable) (es : List Edge) where
     IsEffectRight (effect.End o) = ⊤
 
   -- the frame that gets the value of a return, its function and its context
-  pub record IsReturnRight (homes : List Home) (cs : List (List ℕ)) (thread : Thread) (v : Option Value) (q : ℕ) : Type 0 where
+  pub record IsReturnRight (homes : List Home) (cs : List (List ℕ)) (thread : Thread) (v : Option Value)
+      (q : ℕ) : Type 0 where
     pub caller : Frame
     pub calls : caller_of thread ≡ Some caller
     pub function : ℕ
@@ -73,17 +78,21 @@ module _ (program : Program) (labels : LabelTable) (es : List Edge) where
     pub goes : IsLiveIn function q
     pub given : IsGivenRight homes v caller.point context
 
-  -- What a change of the thread t does is right. The contexts are those before it, those of the frames of t are cs, and that of its own
-  -- frame, of the function f, is c.
+  -- What a change of the thread t does is right. The contexts are those before it, those of the frames of t
+  -- are cs, and that of its own frame, of the function f, is c.
   module _ (contexts : Contexts) (t : ℕ) (thread : Thread) (f : ℕ) (cs : List (List ℕ)) (c : List ℕ) where
     abbrev homes_after : Change → List Home
     homes_after change = (contexts_after program t thread.frame.point c contexts change).homes
 
     abbrev pub IsChangeRight : Change → Type 0
     IsChangeRight (Goes going) =
-        IsGivenRight (homes_after (Goes going)) going.gives thread.frame.point c × IsTurnRight (homes_after (Goes going)) thread.frame.point f c going.turn × IsEffectRight (homes_after (Goes going)) thread.frame.point f c going.effect
+        IsGivenRight (homes_after (Goes going)) going.gives thread.frame.point c
+        × IsTurnRight (homes_after (Goes going)) thread.frame.point f c going.turn
+        × IsEffectRight (homes_after (Goes going)) thread.frame.point f c going.effect
     IsChangeRight (Enter call) =
-        IsCalling program thread.frame c call.function (entered_context program thread.frame.point call.function c) × IsCallRight contexts.homes call (entered_context program thread.frame.point call.function c)
+        IsCalling program thread.frame c call.function
+        (entered_context program thread.frame.point call.function c)
+        × IsCallRight contexts.homes call (entered_context program thread.frame.point call.function c)
     IsChangeRight (Leave v q) = IsReturnRight contexts.homes cs thread v q
     IsChangeRight EndThread = ⊤
     IsChangeRight EndProcess = ⊤

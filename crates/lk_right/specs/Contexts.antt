@@ -1,5 +1,6 @@
--- Contexts: which sites were entered, and not yet left, on the way to a frame, the last one first; and how a step changes them. An object
--- has the context of the frame that made it (LOCKSMITH: label flow, with call and return matched).
+-- Contexts: which sites were entered, and not yet left, on the way to a frame, the last one first; and
+-- how a step changes them. An object has the context of the frame that made it (LOCKSMITH: label flow,
+-- with call and return matched).
 use Rattle.std.specs.Prelude.{ℕ, ◌-◌, List, [], ◌∷◌, ◌++◌, map, take, length, slice_get, unwrap_or}
 use Rattle.std.specs.Option.{option_map_or}
 use Rattle.lk_birth.specs.Births.{changed_at, listed, locals_of}
@@ -23,7 +24,8 @@ pub record Home : Type 0 where
 abbrev pub home_of : ℕ → List ℕ → Home
 home_of r c = record { root = r; context = c }
 
--- The contexts of a state: of its objects by their numbers, and of each thread those of its frames, the oldest first.
+-- The contexts of a state: of its objects by their numbers, and of each thread those of
+-- its frames, the oldest first.
 pub record Contexts : Type 0 where
   pub homes : List Home
   pub frames : List (List (List ℕ))
@@ -40,8 +42,9 @@ abbrev pub own_context : Contexts → ℕ → List ℕ
 own_context contexts t = option_map_or last_of (slice_get contexts.frames t) []
 
 module _ (program : Program) where
-  -- The context of a frame of the function g that is entered from a frame in the context c, by what the point is to the analysis: the site
-  -- of the call or creation is entered; a call through a pointer goes through the site of the function, wherever it is.
+  -- The context of a frame of the function g that is entered from a frame in the context c, by what the point
+  -- is to the analysis: the site of the call or creation is entered; a call through a pointer goes through
+  -- the site of the function, wherever it is.
   abbrev pub entered_from : (p g : ℕ) → List ℕ → Effect → List ℕ
   entered_from p g c (Runs f) = listed (site_at program p) ++ c
   entered_from p g c (Starts f) = listed (site_at program p) ++ c
@@ -85,12 +88,14 @@ module _ (program : Program) where
     after_effect contexts (effect.Begin call) = begun contexts call
     after_effect contexts (effect.Join u) = contexts
     after_effect contexts (effect.Detach u) = contexts
-    after_effect contexts (effect.Bear birth) = record { homes = contexts.homes ++ home_of birth.root c ∷ []; frames = contexts.frames }
+    after_effect contexts (effect.Bear birth) =
+        record { homes = contexts.homes ++ home_of birth.root c ∷ []; frames = contexts.frames }
     after_effect contexts (effect.End o) = contexts
 
     abbrev pub contexts_after : Contexts → Change → Contexts
     contexts_after contexts (Goes going) = after_effect contexts going.effect
     contexts_after contexts (Enter call) = called contexts call
-    contexts_after contexts (Leave v q) = record { homes = contexts.homes; frames = changed_at contexts.frames t (λ cs. take (length cs - 1) cs) }
+    contexts_after contexts (Leave v q) =
+        record { homes = contexts.homes; frames = changed_at contexts.frames t (λ cs. take (length cs - 1) cs) }
     contexts_after contexts EndThread = contexts
     contexts_after contexts EndProcess = contexts

@@ -28,8 +28,10 @@ pub record IsAnalysed (program : Program) (labels : LabelTable) (es : List Edge)
   pub few_labels : AreLabelsInRange labels
   pub joined : AreEdges program labels.names es
 
--- The thread t of a state stands at the action, in a frame of the function f and in the context c; its frames are in the contexts cs.
-pub record Performs (program : Program) (contexts : Contexts) (s : State) (t : ℕ) (thread : Thread) (f : ℕ) (cs : List (List ℕ)) (c : List ℕ) (action : Action) : Type 0 where
+-- The thread t of a state stands at the action, in a frame of the function f and in the context c; its
+-- frames are in the contexts cs.
+pub record Performs (program : Program) (contexts : Contexts) (s : State) (t : ℕ) (thread : Thread) (f : ℕ)
+    (cs : List (List ℕ)) (c : List ℕ) (action : Action) : Type 0 where
   pub there : slice_get s.threads t ≡ Some thread
   pub in_contexts : slice_get contexts.frames t ≡ Some cs
   pub in_context : c ≡ last_of cs
@@ -39,6 +41,9 @@ pub record Performs (program : Program) (contexts : Contexts) (s : State) (t : �
 -- What a defined step changes is right, where what the state stores is.
 abbrev pub ChangesAreRight : Type 0
 ChangesAreRight =
-    (program : Program) (labels : LabelTable) (es : List Edge) → IsAnalysed program labels es → (contexts : Contexts) (s : State) → IsSound program labels es contexts s →
-    (t w f : ℕ) (thread : Thread) (cs : List (List ℕ)) (c : List ℕ) (action : Action) (made : Change) → Performs program contexts s t thread f cs c action →
-    cause program s t thread action ≡ None → change program s t thread w action ≡ Some made → IsChangeRight program labels es contexts t thread f cs c made
+    (program : Program) (labels : LabelTable) (es : List Edge) → IsAnalysed program labels es →
+    (contexts : Contexts) (s : State) → IsSound program labels es contexts s →
+    (t w f : ℕ) (thread : Thread) (cs : List (List ℕ)) (c : List ℕ) (action : Action) (made : Change) →
+    Performs program contexts s t thread f cs c action →
+    cause program s t thread action ≡ None → change program s t thread w action ≡ Some made →
+    IsChangeRight program labels es contexts t thread f cs c made

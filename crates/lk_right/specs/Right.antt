@@ -1,4 +1,5 @@
--- When a stored pointer is right: the origin of what it points to flows to the label of what holds it, each in its context.
+-- When a stored pointer is right: the origin of what it points to flows to the label of what
+-- holds it, each in its context.
 use Rattle.std.specs.Prelude.{◌≡◌, ℕ, true, List, [], Some, slice_get, ⊤}
 use Rattle.lk_base.specs.declared.cell.CellStep.{CellStep}
 use Rattle.lk_cells.specs.Parts.{node_along}
@@ -28,7 +29,8 @@ use Rattle.lk_values.specs.declared.value.Value.{Value}
 use Rattle.lk_values.specs.declared.value.Value.TheVariants.{Number, Pointer, Function, Null, Thread, Indeterminate}
 
 module _ (program : Program) where
-  -- x is the place of the part of an object of the root r to which a path leads, its indices forgotten: an origin
+  -- x is the place of the part of an object of the root r to which a path leads, its
+  -- indices forgotten: an origin
   pub record IsPlaceAt (r : ℕ) (path : List CellStep) (x : LabelName) : Type 0 where
     pub ty : ℕ
     pub of : IsRootType program r ty
@@ -36,11 +38,14 @@ module _ (program : Program) where
     pub within : IsWithin program.types ty x.node
     pub leads : node_along program.types (first (Start ty)) path ≡ Some (node_of program.types x.node)
 
-  -- y is what a pointer to a part of the type u leads to, where x holds the pointer: the Target of x, or where x is a `void *` the Part of u
-  -- there (C99 6.3.2.3, 1)
+  -- y is what a pointer to a part of the type u leads to, where x holds the pointer: the Target of x, or
+  -- where x is a `void *` the Part of u there (C99 6.3.2.3, 1)
   pub data IsAim (x : LabelName) (u : ℕ) (y : LabelName) : Type 0 where
-    typed : (t : ℕ) → IsForm program.types (type_of program x) (PointerType t) → IsAlike program.types.types u t → IsPart program x Target y → IsAim x u y
-    untyped : (t : ℕ) (v : LabelName) → IsForm program.types (type_of program x) (PointerType t) → is_void (type_at program.types t) ≡ true → IsPart program x Target v → IsInside program v (Part u) y → IsAim x u y
+    typed : (t : ℕ) → IsForm program.types (type_of program x) (PointerType t) →
+        IsAlike program.types.types u t → IsPart program x Target y → IsAim x u y
+    untyped : (t : ℕ) (v : LabelName) → IsForm program.types (type_of program x) (PointerType t) →
+        is_void (type_at program.types t) ≡ true → IsPart program x Target v →
+        IsInside program v (Part u) y → IsAim x u y
 
   -- y is what a pointer to a function of the type u leads to, where x holds the pointer
   pub record IsFunctionAim (x : LabelName) (u : ℕ) (y : LabelName) : Type 0 where
@@ -59,8 +64,8 @@ module _ (program : Program) where
       pub walk : Walk (HasEdge es) (is_global_at labels) from c to d
 
     module _ (homes : List Home) where
-      -- A pointer to a part of an object, or one past it, is right in the context d for what X names: the place of the part flows, in the
-      -- context of its object, to what the pointer leads to from there.
+      -- A pointer to a part of an object, or one past it, is right in the context d for what X names: the
+      -- place of the part flows, in the context of its object, to what the pointer leads to from there.
       pub record IsPointerRight (p : PointerTo) (X : LabelName → Type 0) (d : List ℕ) : Type 0 where
         pub home : Home
         pub lives_in : slice_get homes p.part.object ≡ Some home
@@ -84,8 +89,8 @@ module _ (program : Program) where
         pub aims : IsFunctionAim held_by (type_of program origin) aim
         pub flows : Flows origin [] aim d
 
-      -- A value is right in the context d for what X names; one that is no pointer always is. A pointer to a part is asked to be right only
-      -- where what holds it is a pointer.
+      -- A value is right in the context d for what X names; one that is no pointer always is. A pointer to a
+      -- part is asked to be right only where what holds it is a pointer.
       abbrev pub IsRight : Value → (LabelName → Type 0) → List ℕ → Type 0
       IsRight (Number k n) X d = ⊤
       IsRight (Pointer p) X d = HasPointer program X → IsPointerRight p X d

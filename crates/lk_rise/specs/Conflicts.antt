@@ -20,7 +20,8 @@ conflicts_of entries races racing = record { entries = entries; races = races; r
 
 -- the racing item of a correlation whose subject is a location
 abbrev pub race_with : Correlation → RaceItem
-race_with correlation = record { function = correlation.function; child = correlation.child; location = correlation.subject; access = correlation.access }
+race_with correlation =
+    record { function = correlation.function; child = correlation.child; location = correlation.subject; access = correlation.access }
 
 abbrev pub race_in : Correlation × List ℕ → RaceItem
 race_in entry = race_with entry.0
@@ -33,8 +34,10 @@ racing_of conflicts o = slice_index_or conflicts.racing o []
 abbrev pub every_place : ℕ → Bool
 every_place q = true
 
--- For each location its list has just the racing accesses of main, each with the lock places of its lock set before it is asked
--- which of them are linear.
-pub record AreRacingLists (basis : Basis) (entries : List (Correlation × List ℕ)) (racing : List (List Racing)) : Type 0 where
+-- For each location its list has just the racing accesses of main, each with the lock places of its lock set
+-- before it is asked which of them are linear.
+pub record AreRacingLists (basis : Basis) (entries : List (Correlation × List ℕ))
+    (racing : List (List Racing)) : Type 0 where
   pub each : length racing ≡ basis.program.locations
-  pub are : (o : ℕ) → o < basis.program.locations → AreRacing basis (has_of entries) (locks_of entries) every_place o (slice_index_or racing o [])
+  pub are : (o : ℕ) → o < basis.program.locations →
+      AreRacing basis (has_of entries) (locks_of entries) every_place o (slice_index_or racing o [])

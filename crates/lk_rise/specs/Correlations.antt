@@ -13,7 +13,8 @@ abbrev pub item_of : (f : ℕ) (child : Bool) (subject access : ℕ) → Correla
 item_of f child subject access = record { function = f; child = child; subject = subject; access = access }
 
 abbrev pub is_same : Correlation → Correlation → Bool
-is_same a b = a.function == b.function && (beq a.child b.child && (a.subject == b.subject && a.access == b.access))
+is_same a b =
+    a.function == b.function && (beq a.child b.child && (a.subject == b.subject && a.access == b.access))
 
 -- the locks of an item, where it is there
 abbrev pub set_of : List (Correlation × List ℕ) → Correlation → Option (List ℕ)
@@ -35,9 +36,11 @@ locks_of entries f child subject access x = has_lock entries (item_of f child su
 
 -- no item is there twice: what a place has is what is read of its item
 pub record AreCorrelations (entries : List (Correlation × List ℕ)) : Type 0 where
-  pub each : (i : ℕ) (item : Correlation) (set : List ℕ) → slice_get entries i ≡ Some (item, set) → set_of entries item ≡ Some set
+  pub each : (i : ℕ) (item : Correlation) (set : List ℕ) → slice_get entries i ≡ Some (item, set) →
+      set_of entries item ≡ Some set
 
--- the numbers of an item are in range, where its subject is below this number, and its locks are a set of labels
+-- the numbers of an item are in range, where its subject is below this number, and
+-- its locks are a set of labels
 pub record IsEntryInRange (facts : FactTable) (subjects : ℕ) (entry : Correlation × List ℕ) : Type 0 where
   pub function : entry.0.function < length facts.program.functions
   pub subject : entry.0.subject < subjects

@@ -16,4 +16,5 @@ pub record AreGroups (keys : List ℕ) (groups : List (List ℕ)) : Type 0 where
 
 -- those of the first n places
 abbrev pub AreGroupsBelow : List ℕ → ℕ → List (List ℕ) → Type 0
-AreGroupsBelow keys n groups = (key place : ℕ) → Contains (group_at groups key) place ↔ ((place < n) × (slice_get keys place ≡ Some key))
+AreGroupsBelow keys n groups =
+    (key place : ℕ) → Contains (group_at groups key) place ↔ ((place < n) × (slice_get keys place ≡ Some key))

@@ -15,7 +15,13 @@ items_of entries items = record { entries = entries; items = items }
 
 -- the item of a correlation whose subject is a label
 abbrev pub item_with : LabelTable → Correlation → Item
-item_with labels correlation = record { function = correlation.function; child = correlation.child; subject = subject_of labels correlation.subject; access = correlation.access }
+item_with labels correlation =
+    record {
+      function = correlation.function;
+      child = correlation.child;
+      subject = subject_of labels correlation.subject;
+      access = correlation.access;
+    }
 
 abbrev pub item_in : LabelTable → Correlation × List ℕ → Item
 item_in labels entry = item_with labels entry.0

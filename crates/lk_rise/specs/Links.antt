@@ -1,4 +1,5 @@
--- The links of a program by the functions that they go into. Only the private calls of this crate speak of it.
+-- The links of a program by the functions that they go into. Only the private
+-- calls of this crate speak of it.
 use Rattle.std.specs.Prelude.{◌≡◌, ◌<◌, ◌==◌, ◌↔◌, ℕ, Bool, List, [], Contains, slice_index_or}
 use Rattle.std.specs.List.{filter}
 use Rattle.lk_facts.specs.Basis.{Basis}
@@ -9,7 +10,8 @@ use Rattle.lk_links.specs.declared.link.Link.{Link}
 
 -- the list has just the links of the first n points
 abbrev pub AreLinksBelow : List (List Link) → ℕ → List Link → Type 0
-AreLinksBelow links n all = (link : Link) → Contains all link ↔ ((p : ℕ) × (p < n) × Contains (links_at links p) link)
+AreLinksBelow links n all =
+    (link : Link) → Contains all link ↔ ((p : ℕ) × (p < n) × Contains (links_at links p) link)
 
 -- the links that go into a function, of all
 abbrev pub going_into : List Link → ℕ → List Link
@@ -29,4 +31,5 @@ module _ (basis : Basis) where
   pub record AreLinksInto (into : List (List Link)) : Type 0 where
     pub each : (g : ℕ) (link : Link) → Contains (links_into into g) link → IsLinkInto g link
     pub all : (p f g : ℕ) (way : Way) (child above : Bool) → Rises basis p f way g child above →
-        (link : Link) × Contains (links_into into g) link × (link.point ≡ p) × IsBy basis f way g child above link
+        (link : Link) × Contains (links_into into g) link × (link.point ≡ p)
+        × IsBy basis f way g child above link

@@ -1,4 +1,5 @@
--- An item with its locks, and what both are above by a way into its function. Only the private calls of this crate speak of it.
+-- An item with its locks, and what both are above by a way into its function. Only the private
+-- calls of this crate speak of it.
 use Rattle.std.specs.Prelude.{◌≡◌, ◌<◌, ◌↔◌, ℕ, true, List, length, All}
 use Rattle.lk_facts.specs.Origins.{IsSetBelow, flow_of}
 use Rattle.lk_facts.specs.declared.way.Way.{Way}
@@ -13,9 +14,11 @@ module _ (s : Setting) where
   -- what it says of its item, its locks and its way is so
   pub record IsPassage (passage : Passage) : Type 0 where
     pub fits : Fits s passage.item passage.locks
-    pub subjects : (x : ℕ) → (has_id passage.subjects x ≡ true) ↔ Carries (flow_of s.facts.origins) s.subjects passage.way passage.item.subject x
+    pub subjects : (x : ℕ) → (has_id passage.subjects x ≡ true)
+        ↔ Carries (flow_of s.facts.origins) s.subjects passage.way passage.item.subject x
     pub subjects_below : All (λ x. x < subjects_below s.facts s.subjects) passage.subjects
-    pub risen : (y : ℕ) → (has_id passage.risen y ≡ true) ↔ HaveRisen (flow_of s.facts.origins) passage.way passage.locks y
+    pub risen : (y : ℕ) → (has_id passage.risen y ≡ true)
+        ↔ HaveRisen (flow_of s.facts.origins) passage.way passage.locks y
     pub risen_below : IsSetBelow (length s.facts.labels.entries) passage.risen
 
   -- and they are these

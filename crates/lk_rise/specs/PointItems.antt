@@ -47,23 +47,26 @@ abbrev pub point_functions : List Point → List ℕ
 point_functions points = map (λ (point : Point). point.function) points
 
 -- the items of functions are in range, and these are their numbers by their functions
-pub record AreBelow (facts : FactTable) (entries : List (Correlation × List ℕ)) (numbers : List (List ℕ)) : Type 0 where
+pub record AreBelow (facts : FactTable) (entries : List (Correlation × List ℕ))
+    (numbers : List (List ℕ)) : Type 0 where
   pub in_range : AreInRange facts (length facts.labels.entries) entries
   pub groups : AreGroups (functions_of entries) numbers
   pub count : length numbers ≡ length facts.program.functions
 
 -- no item of the function is of a started thread
 abbrev pub HasNoChild : List (Correlation × List ℕ) → ℕ → Type 0
-HasNoChild entries f = (item : Correlation) → has_item entries item ≡ true → item.function ≡ f → item.child ≡ false
+HasNoChild entries f = (item : Correlation) → has_item entries item ≡ true → item.function ≡ f →
+    item.child ≡ false
 
 -- the link starts no thread, and so does nothing in the function that it goes into
 pub record StartsNothing (entries : List (Correlation × List ℕ)) (link : Link) : Type 0 where
   pub runs : link.starts ≡ false
   pub below : HasNoChild entries link.below
 
--- The parts of what offers the items of points: lock sets, links and items are those of the program; the points of each
--- function are given, and the numbers of its items.
-pub record ArePointItems (table : PointTable) (ways : List (List Link)) (groups numbered : List (List ℕ)) : Type 0 where
+-- The parts of what offers the items of points: lock sets, links and items are those of the program; the
+-- points of each function are given, and the numbers of its items.
+pub record ArePointItems (table : PointTable) (ways : List (List Link))
+    (groups numbered : List (List ℕ)) : Type 0 where
   pub held_points : length table.held.at ≡ length table.facts.program.points
   pub held_labels : table.held.labels ≡ length table.facts.labels.entries
   pub links : AreLinks (basis_of table.facts) ways
@@ -73,7 +76,8 @@ pub record ArePointItems (table : PointTable) (ways : List (List Link)) (groups 
 
 -- the item of a point that is its own access
 abbrev pub own_access_of : (point subject : ℕ) → ItemAt
-own_access_of point subject = record { point = point; source = OwnAccess; child = false; subject = subject; access = point }
+own_access_of point subject =
+    record { point = point; source = OwnAccess; child = false; subject = subject; access = point }
 
 -- an item below as the source of items of a point
 abbrev pub source_of : Correlation → Way → Source
@@ -97,4 +101,5 @@ items_from origins entries link k = option_map_or (items_through origins link) (
 
 -- those from all items of the function below, whose numbers are given by their functions
 abbrev pub items_by : OriginTable → List (Correlation × List ℕ) → List (List ℕ) → Link → List ItemAt
-items_by origins entries numbers link = flat_map (items_from origins entries link) (group_at numbers link.below)
+items_by origins entries numbers link =
+    flat_map (items_from origins entries link) (group_at numbers link.below)

@@ -23,11 +23,11 @@ pub struct RaceItem {
     pub access: u32,
 }
 
-/// The racing items of all functions, each once, with the locks that are held at each, and for each location the racing
-/// accesses of `main` with the lock places that are held there.
+/// The racing items of all functions, each once, with the locks that are held at each, and for each location
+/// the racing accesses of `main` with the lock places that are held there.
 ///
-/// A contract sees them as the correlations that they are, as the list of racing items, in one order, and as the lists of
-/// racing accesses.
+/// A contract sees them as the correlations that they are, as the list of racing items, in one order, and as
+/// the lists of racing accesses.
 #[derive(Drop)]
 pub struct Conflicts {
     found: Correlations,
@@ -93,7 +93,8 @@ impl Conflicts {
         self.racing.len()
     }
 
-    /// The racing accesses of `main` for a location, in ascending order, each with the lock places that are held there.
+    /// The racing accesses of `main` for a location, in ascending order, each with the
+    /// lock places that are held there.
     pub fn racing(&self, location: u32) -> &[Racing]
         requires { location < length self.now.racing }
         ensures { result.now ≡ racing_of self.now location }

@@ -12,7 +12,8 @@ use lk_sets::IdSet;
 use std::alloc::Global;
 use std::marker::Model;
 
-/// An access that a function makes, itself or in what it runs or starts: an item or a racing item, by numbers alone.
+/// An access that a function makes, itself or in what it runs or starts: an item or a
+/// racing item, by numbers alone.
 #[derive(Clone, Copy, PartialEq, Eq, Hash)]
 pub struct Correlation {
     /// The function.
@@ -103,8 +104,8 @@ impl Correlations {
         }
     }
 
-    /// What is left of the locks of an item once they have met a set, or nothing where all are left. Of a new item
-    /// all of the set is left.
+    /// What is left of the locks of an item once they have met a set, or nothing where all are left. Of a new
+    /// item all of the set is left.
     fn left(&self, alloc: Global, item: Correlation, set: &IdSet) -> Result<Option<IdSet>, NoMemory>
         ensures { IfOk result (λ found.
             MatchOption found (IsWithin self.now item set.now) (IsLeft self.now item set.now)) }
@@ -124,8 +125,8 @@ impl Correlations {
         }
     }
 
-    /// Puts an item with the locks of a set, or takes those away from its locks that aren't in the set where the item
-    /// is there already, and answers whether it was there and has fewer locks now.
+    /// Puts an item with the locks of a set, or takes those away from its locks that aren't in the set where
+    /// the item is there already, and answers whether it was there and has fewer locks now.
     pub(crate) fn offer(
         &mut self,
         alloc: Global,

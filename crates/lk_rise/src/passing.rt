@@ -233,8 +233,8 @@ impl Rising<'_> {
         Ok(())
     }
 
-    /// Lets an item of the table rise by all links into its function. Those above it are to rise again that have fewer
-    /// locks now.
+    /// Lets an item of the table rise by all links into its function. Those above it are to rise
+    /// again that have fewer locks now.
     fn pass_item(
         &self,
         alloc: Global,

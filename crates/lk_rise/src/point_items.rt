@@ -55,8 +55,8 @@ struct Below<'a> {
 
 /// The items of the points of a program, with the locks of each.
 ///
-/// A contract sees what they rest on: what is known of the program, the locks that are held at its points, and the items
-/// of its functions with theirs.
+/// A contract sees what they rest on: what is known of the program, the locks that are held at its points,
+/// and the items of its functions with theirs.
 #[derive(Drop)]
 pub struct PointItems<'a> {
     below: Below<'a>,
@@ -140,7 +140,8 @@ fn functions_of_points(alloc: Global, facts: &Facts<'_>) -> Result<Vec<u32>, NoM
 }
 
 impl Below<'_> {
-    /// Puts the items of a call or creation that rise from an item of the function below behind those that were found.
+    /// Puts the items of a call or creation that rise from an item of the function below
+    /// behind those that were found.
     fn push_risen(
         &self,
         alloc: Global,
@@ -225,7 +226,8 @@ impl Below<'_> {
         false
     }
 
-    /// Whether one of the links starts a thread, or goes into a function with an item that is of a started one.
+    /// Whether one of the links starts a thread, or goes into a function with an
+    /// item that is of a started one.
     fn may_start(&self, links: &[Link]) -> bool
         requires below { AreBelow self.now.facts.now self.now.items.now self.now.numbers }
         requires links { All (λ link. link.below < length self.now.facts.now.program.functions) links.now }

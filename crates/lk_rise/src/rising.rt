@@ -87,10 +87,11 @@ pub(crate) struct Rising<'a> {
     ghost held_labels: { held.now.labels ≡ length facts.now.labels.entries },
 }
 
-/// The given items, and those that rise from them by calls and creations, with the locks that are held at each.
+/// The given items, and those that rise from them by calls and creations, with the
+/// locks that are held at each.
 ///
-/// An item that is given several times has only the locks that are in all of its sets. Lock sets and links are those of
-/// the points, and the numbers in the given items are in range.
+/// An item that is given several times has only the locks that are in all of its sets. Lock sets and links
+/// are those of the points, and the numbers in the given items are in range.
 pub fn rise(
     alloc: Global,
     facts: &Facts<'_>,

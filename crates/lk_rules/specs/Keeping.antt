@@ -1,4 +1,5 @@
--- What is kept while the nodes of a source are walked: the least fault so far, and whether a code was seen that holds at a node.
+-- What is kept while the nodes of a source are walked: the least fault so far, and whether a code
+-- was seen that holds at a node.
 use Rattle.std.specs.Prelude.{◌≡◌, ◌↔◌, ◌⊎◌, ◌||◌, Bool, true, false, Option, Some, None, List, [], ◌∷◌, MatchOption}
 use Rattle.lk_typed.specs.Env.{Env}
 use Rattle.lk_typed.specs.Faults.{Breach, Fault, IsLeast}
@@ -30,7 +31,8 @@ IsAmong (Some old) Adds f = (f ≡ old) ⊎ Adds f
 
 -- a least one of them is kept; none where there is none
 abbrev pub KeepsLeast : Option Fault → (Fault → Type 0) → Option Fault → Type 0
-KeepsLeast old Adds new = MatchOption new ((f : Fault) → IsAmong old Adds f → ⊥) (λ f. IsLeast (IsAmong old Adds) f)
+KeepsLeast old Adds new =
+    MatchOption new ((f : Fault) → IsAmong old Adds f → ⊥) (λ f. IsLeast (IsAmong old Adds) f)
 
 pub record Keeps (old : Kept) (Adds : Fault → Type 0) (Breaks : Type 0) (new : Kept) : Type 0 where
   pub least : KeepsLeast old.least Adds new.least
@@ -58,7 +60,8 @@ breaches_told (Some broken) = broken ∷ []
 
 abbrev pub keep : Kept → Mark → Option Breach → Kept
 keep old mark None = old
-keep old mark (Some broken) = record { least = lesser_fault old.least (fault_at mark broken); is_broken = true }
+keep old mark (Some broken) =
+    record { least = lesser_fault old.least (fault_at mark broken); is_broken = true }
 
 -- ---- nodes, where `at_end` is the environment behind the whole source
 
@@ -66,7 +69,8 @@ module _ (at_end : Env) where
   -- a fault in one of these nodes
   abbrev pub FaultIn : List Placed → Fault → Type 0
   FaultIn [] f = ⊥
-  FaultIn (p ∷ ps) f = IsFault (parts at_end) (breaches at_end) (hiding at_end) mark_of p.env p.node f ⊎ FaultIn ps f
+  FaultIn (p ∷ ps) f =
+      IsFault (parts at_end) (breaches at_end) (hiding at_end) mark_of p.env p.node f ⊎ FaultIn ps f
 
   -- a code holds at a node in one of them, hidden or not
   pub record IsBroken (ps : List Placed) : Type 0 where
@@ -79,4 +83,5 @@ module _ (at_end : Env) where
 
   -- these nodes are walked and these codes of one node kept, in any order
   abbrev pub KeepsBoth : Kept → List Placed → Mark → List Breach → Kept → Type 0
-  KeepsBoth old ps mark broken new = Keeps old (λ f. FaultIn ps f ⊎ FaultAt mark broken f) (IsBroken ps ⊎ HasBreach broken) new
+  KeepsBoth old ps mark broken new =
+      Keeps old (λ f. FaultIn ps f ⊎ FaultAt mark broken f) (IsBroken ps ⊎ HasBreach broken) new

@@ -1,4 +1,5 @@
--- Laws of the rules of C: what the fold over expressions finds, and what is kept while nodes are walked. Each is the contract of a function.
+-- Laws of the rules of C: what the fold over expressions finds, and what is kept while nodes are walked. Each
+-- is the contract of a function.
 use Rattle.std.specs.Prelude.{◌≡◌, ◌↔◌, ◌⊎◌, ◌++◌, ◌≤◌, Bool, true, Option, None, List, [], ◌∷◌, MatchOption, if◌then◌else◌}
 use Rattle.lk_base.specs.Code.{number_of}
 use Rattle.lk_tree.specs.declared.expression.Expr.{Expr}
@@ -24,11 +25,15 @@ name_found type env = named (type_found type) env
 
 -- what is found of an expression is what the rule of its form says of its parts, each in its own environment
 abbrev pub ExpressionsFollowTheirRules : Type 0
-ExpressionsFollowTheirRules = (e : Expr) (env : Env) → expression e env ≡ judged expression name_found env e.ordinal (out-ExprForm e.form)
+ExpressionsFollowTheirRules =
+    (e : Expr) (env : Env) →
+    expression e env ≡ judged expression name_found env e.ordinal (out-ExprForm e.form)
 
--- the codes that hold at an expression are those of its form's rule, which says nothing where a part has no type
+-- the codes that hold at an expression are those of its form's rule, which says
+-- nothing where a part has no type
 abbrev pub ExpressionsAreAsked : Type 0
-ExpressionsAreAsked = (at_end env : Env) (e : Expr) → breaches at_end env (AnExpression e) ≡ expr_breaches e env
+ExpressionsAreAsked =
+    (at_end env : Env) (e : Expr) → breaches at_end env (AnExpression e) ≡ expr_breaches e env
 
 -- ---- what is kept while nodes are walked
 
@@ -39,36 +44,45 @@ NothingIsKept = (at_end : Env) (kept : Kept) → KeepsNodes at_end kept [] kept
 -- nodes, then others
 abbrev pub NodesAreKeptInTurn : Type 0
 NodesAreKeptInTurn =
-    (at_end : Env) (old middle new : Kept) (ps qs : List Placed) → KeepsNodes at_end old ps middle → KeepsNodes at_end middle qs new → KeepsNodes at_end old (ps ++ qs) new
+    (at_end : Env) (old middle new : Kept) (ps qs : List Placed) → KeepsNodes at_end old ps middle →
+    KeepsNodes at_end middle qs new → KeepsNodes at_end old (ps ++ qs) new
 
 -- codes of one node in two turns
 abbrev pub CodesAreKeptInTurn : Type 0
-CodesAreKeptInTurn = (old middle new : Kept) (mark : Mark) (bs cs : List Breach) → KeepsCodes old mark bs middle → KeepsCodes middle mark cs new → KeepsCodes old mark (bs ++ cs) new
+CodesAreKeptInTurn = (old middle new : Kept) (mark : Mark) (bs cs : List Breach) →
+    KeepsCodes old mark bs middle → KeepsCodes middle mark cs new → KeepsCodes old mark (bs ++ cs) new
 
 -- keeping the least code of some, with its name, keeps them all
 abbrev pub TheLeastCodeIsEnough : Type 0
 TheLeastCodeIsEnough =
-    (old new : Kept) (mark : Mark) (bs : List Breach) (b : Breach) → IsIn b bs → ((c : Breach) → IsIn c bs → number_of b.code ≤ number_of c.code) →
+    (old new : Kept) (mark : Mark) (bs : List Breach) (b : Breach) → IsIn b bs →
+    ((c : Breach) → IsIn c bs → number_of b.code ≤ number_of c.code) →
     KeepsCodes old mark (b ∷ []) new → KeepsCodes old mark bs new
 
 -- a code that is kept by value
 abbrev pub TheLesserIsKept : Type 0
-TheLesserIsKept = (old : Kept) (mark : Mark) (broken : Option Breach) → KeepsCodes old mark (breaches_told broken) (keep old mark broken)
+TheLesserIsKept = (old : Kept) (mark : Mark) (broken : Option Breach) →
+    KeepsCodes old mark (breaches_told broken) (keep old mark broken)
 
 -- a node at which nothing is hidden: the nodes in it, then its own codes
 abbrev pub CodesAreKeptBehindParts : Type 0
 CodesAreKeptBehindParts =
     (at_end env : Env) (node : Node) (old middle new : Kept) → hiding at_end env node ≡ [] →
-    KeepsNodes at_end old (parts at_end env node) middle → KeepsCodes middle (mark_of node) (breaches at_end env node) new → KeepsNodes at_end old (at env node ∷ []) new
+    KeepsNodes at_end old (parts at_end env node) middle →
+    KeepsCodes middle (mark_of node) (breaches at_end env node) new →
+    KeepsNodes at_end old (at env node ∷ []) new
 
 -- a node whose codes a fault in it may hide: the nodes in it, then its own codes where there is none
 abbrev pub HiddenCodesAreLeftOut : Type 0
 HiddenCodesAreLeftOut =
-    (at_end env : Env) (node : Node) (old middle new : Kept) (hidden : Bool) → ((hidden ≡ true) ↔ IsBroken at_end (hiding at_end env node)) →
-    KeepsNodes at_end old (parts at_end env node) middle → KeepsCodes middle (mark_of node) (if hidden then [] else breaches at_end env node) new →
+    (at_end env : Env) (node : Node) (old middle new : Kept) (hidden : Bool) →
+    ((hidden ≡ true) ↔ IsBroken at_end (hiding at_end env node)) →
+    KeepsNodes at_end old (parts at_end env node) middle →
+    KeepsCodes middle (mark_of node) (if hidden then [] else breaches at_end env node) new →
     KeepsNodes at_end old (at env node ∷ []) new
 
--- a walk over nodes that begins to watch for codes tells whether one of them is broken, and keeps as one that doesn't
+-- a walk over nodes that begins to watch for codes tells whether one of them is broken,
+-- and keeps as one that doesn't
 abbrev pub AWatchTellsFaults : Type 0
 AWatchTellsFaults =
     (at_end : Env) (old new : Kept) (ps : List Placed) → KeepsNodes at_end (watched old) ps new →
@@ -82,12 +96,14 @@ NothingIsKeptOfBoth = (at_end : Env) (kept : Kept) (mark : Mark) → KeepsBoth a
 abbrev pub NodesAreKeptFurther : Type 0
 NodesAreKeptFurther =
     (at_end : Env) (old middle new : Kept) (mark : Mark) (ps qs : List Placed) (bs : List Breach) →
-    KeepsBoth at_end old ps mark bs middle → KeepsNodes at_end middle qs new → KeepsBoth at_end old (ps ++ qs) mark bs new
+    KeepsBoth at_end old ps mark bs middle → KeepsNodes at_end middle qs new →
+    KeepsBoth at_end old (ps ++ qs) mark bs new
 
 abbrev pub CodesAreKeptFurther : Type 0
 CodesAreKeptFurther =
     (at_end : Env) (old middle new : Kept) (mark : Mark) (ps : List Placed) (bs cs : List Breach) →
-    KeepsBoth at_end old ps mark bs middle → KeepsCodes middle mark cs new → KeepsBoth at_end old ps mark (bs ++ cs) new
+    KeepsBoth at_end old ps mark bs middle → KeepsCodes middle mark cs new →
+    KeepsBoth at_end old ps mark (bs ++ cs) new
 
 -- its codes, then the nodes in it
 abbrev pub CodesAreKeptBeforeParts : Type 0
@@ -98,18 +114,22 @@ CodesAreKeptBeforeParts =
 -- all nodes in it, and its codes in any order: the node is walked
 abbrev pub BothAreAllOfANode : Type 0
 BothAreAllOfANode =
-    (at_end env : Env) (node : Node) (old new : Kept) (bs : List Breach) → hiding at_end env node ≡ [] → ((b : Breach) → (IsIn b bs ↔ IsIn b (breaches at_end env node))) →
-    KeepsBoth at_end old (parts at_end env node) (mark_of node) bs new → KeepsNodes at_end old (at env node ∷ []) new
+    (at_end env : Env) (node : Node) (old new : Kept) (bs : List Breach) → hiding at_end env node ≡ [] →
+    ((b : Breach) → (IsIn b bs ↔ IsIn b (breaches at_end env node))) →
+    KeepsBoth at_end old (parts at_end env node) (mark_of node) bs new →
+    KeepsNodes at_end old (at env node ∷ []) new
 
 -- ---- whether nodes are broken
 
 abbrev pub NodesAreBrokenInTurn : Type 0
-NodesAreBrokenInTurn = (at_end : Env) (ps qs : List Placed) → IsBroken at_end (ps ++ qs) ↔ (IsBroken at_end ps ⊎ IsBroken at_end qs)
+NodesAreBrokenInTurn = (at_end : Env) (ps qs : List Placed) →
+    IsBroken at_end (ps ++ qs) ↔ (IsBroken at_end ps ⊎ IsBroken at_end qs)
 
 -- ---- a whole source
 
 -- behind all external declarations the first fault is kept, or there is none
 abbrev pub TheFirstFaultIsKept : Type 0
 TheFirstFaultIsKept =
-    (externs : List Name) (unit : Unit) (new : Kept) → KeepsNodes (units.at_end externs unit) none_kept (externals externs unit) new →
+    (externs : List Name) (unit : Unit) (new : Kept) →
+    KeepsNodes (units.at_end externs unit) none_kept (externals externs unit) new →
     MatchOption new.least ((f : Fault) → IsFaultOf externs unit f → ⊥) (λ f. IsFirstFault externs unit f)

@@ -1,5 +1,6 @@
--- What the fold over the tree finds of declarators, specifiers, members, enumerators, parameters and type names, one layer at a time; and what an expression adds, whatever
--- it stands as. Each law is the contract of a function.
+-- What the fold over the tree finds of declarators, specifiers, members, enumerators, parameters
+-- and type names, one layer at a time; and what an expression adds, whatever it stands as. Each law
+-- is the contract of a function.
 use Rattle.std.specs.Prelude.{◌≡◌, List, map, Option, Some, None, option_map}
 use Rattle.lk_tree.specs.declared.expression.DeclaratorForm.TheOpen.{DeclaratorForm-F, MemberDeclarator-F, Specifier-F}
 use Rattle.lk_tree.specs.declared.expression.DeclaratorForm.{DeclaratorForm, out-DeclaratorForm}
@@ -20,27 +21,39 @@ use Rattle.lk_typed.specs.Telling.{DeclaratorOpen, MemberDeclaratorOpen, Specifi
 -- ---- layers of trees
 
 abbrev pub DeclaratorTree : Type 0
-DeclaratorTree = DeclaratorForm-F DeclaratorForm ExprForm MemberDeclarator Specifier Declarator Expr Item Member Parameter TypeName
+DeclaratorTree =
+    DeclaratorForm-F DeclaratorForm ExprForm MemberDeclarator Specifier Declarator Expr Item Member
+    Parameter TypeName
 
 abbrev pub MemberDeclaratorTree : Type 0
-MemberDeclaratorTree = MemberDeclarator-F DeclaratorForm ExprForm MemberDeclarator Specifier Declarator Expr Item Member Parameter TypeName
+MemberDeclaratorTree =
+    MemberDeclarator-F DeclaratorForm ExprForm MemberDeclarator Specifier Declarator Expr Item Member
+    Parameter TypeName
 
 abbrev pub SpecifierTree : Type 0
-SpecifierTree = Specifier-F DeclaratorForm ExprForm MemberDeclarator Specifier Declarator Expr Item Member Parameter TypeName
+SpecifierTree =
+    Specifier-F DeclaratorForm ExprForm MemberDeclarator Specifier Declarator Expr Item Member
+    Parameter TypeName
 
 -- ---- what the parts of a layer tell
 
 abbrev pub declarator_parts_told : DeclaratorTree → DeclaratorOpen
-declarator_parts_told (DeclaratorForm-F.Star qualifiers inner) = DeclaratorForm-F.Star qualifiers (option_map declarator_layer inner)
+declarator_parts_told (DeclaratorForm-F.Star qualifiers inner) =
+    DeclaratorForm-F.Star qualifiers (option_map declarator_layer inner)
 declarator_parts_told (DeclaratorForm-F.Named name) = DeclaratorForm-F.Named name
 declarator_parts_told (DeclaratorForm-F.Group inner) = DeclaratorForm-F.Group (declarator_layer inner)
-declarator_parts_told (DeclaratorForm-F.ArrayOf inner size) = DeclaratorForm-F.ArrayOf (option_map declarator_layer inner) (option_map expression size)
-declarator_parts_told (DeclaratorForm-F.FunctionOf inner ps dots) = DeclaratorForm-F.FunctionOf (option_map declarator_layer inner) (map parameter_found ps) dots
+declarator_parts_told (DeclaratorForm-F.ArrayOf inner size) =
+    DeclaratorForm-F.ArrayOf (option_map declarator_layer inner) (option_map expression size)
+declarator_parts_told (DeclaratorForm-F.FunctionOf inner ps dots) =
+    DeclaratorForm-F.FunctionOf (option_map declarator_layer inner) (map parameter_found ps) dots
 
 abbrev pub member_declarator_parts_told : MemberDeclaratorTree → MemberDeclaratorOpen
-member_declarator_parts_told (MemberDeclarator-F.Plain inner) = MemberDeclarator-F.Plain (declarator_layer inner)
-member_declarator_parts_told (MemberDeclarator-F.Field inner width) = MemberDeclarator-F.Field (declarator_layer inner) (expression width)
-member_declarator_parts_told (MemberDeclarator-F.Unnamed width) = MemberDeclarator-F.Unnamed (expression width)
+member_declarator_parts_told (MemberDeclarator-F.Plain inner) =
+    MemberDeclarator-F.Plain (declarator_layer inner)
+member_declarator_parts_told (MemberDeclarator-F.Field inner width) =
+    MemberDeclarator-F.Field (declarator_layer inner) (expression width)
+member_declarator_parts_told (MemberDeclarator-F.Unnamed width) =
+    MemberDeclarator-F.Unnamed (expression width)
 
 abbrev pub specifier_parts_told : SpecifierTree → SpecifierOpen
 specifier_parts_told (Specifier-F.Storage word) = Specifier-F.Storage word
@@ -56,29 +69,45 @@ specifier_parts_told (Specifier-F.Typedef name) = Specifier-F.Typedef name
 -- ---- one layer at a time
 
 abbrev pub DeclaratorsFollowTheirForms : Type 0
-DeclaratorsFollowTheirForms = (d : Declarator) → declarator_layer d ≡ in_declarator (declarator_parts_told (out-DeclaratorForm d.form)) d.spot d.ordinal
+DeclaratorsFollowTheirForms =
+    (d : Declarator) → declarator_layer d
+    ≡ in_declarator (declarator_parts_told (out-DeclaratorForm d.form)) d.spot d.ordinal
 
 abbrev pub SpecifiersFollowTheirForms : Type 0
-SpecifiersFollowTheirForms = (s : Specifier) → specifier_found s ≡ of_specifier (specifier_parts_told (out-Specifier s))
+SpecifiersFollowTheirForms =
+    (s : Specifier) → specifier_found s ≡ of_specifier (specifier_parts_told (out-Specifier s))
 
 abbrev pub MemberDeclaratorsFollowTheirForms : Type 0
-MemberDeclaratorsFollowTheirForms = (d : MemberDeclarator) → member_declarator_found d ≡ of_member_declarator (member_declarator_parts_told (out-MemberDeclarator d))
+MemberDeclaratorsFollowTheirForms =
+    (d : MemberDeclarator) →
+    member_declarator_found d ≡ of_member_declarator (member_declarator_parts_told (out-MemberDeclarator d))
 
 abbrev pub MembersFollowTheirParts : Type 0
-MembersFollowTheirParts = (m : Member) → member_found m ≡ member_told (map specifier_found m.specifiers) (map member_declarator_found m.declarators)
+MembersFollowTheirParts =
+    (m : Member) → member_found m
+    ≡ member_told (map specifier_found m.specifiers) (map member_declarator_found m.declarators)
 
 abbrev pub ItemsFollowTheirParts : Type 0
 ItemsFollowTheirParts =
     (i : Item) → item_found i ≡
-    of_item (record { spot = (out-Item i).spot; ordinal = (out-Item i).ordinal; name = (out-Item i).name; value = option_map expression (out-Item i).value })
+    of_item (record {
+      spot = (out-Item i).spot;
+      ordinal = (out-Item i).ordinal;
+      name = (out-Item i).name;
+      value = option_map expression (out-Item i).value;
+    })
 
 abbrev pub ParametersFollowTheirParts : Type 0
 ParametersFollowTheirParts =
-    (p : Parameter) → parameter_found p ≡ parameter_told (map specifier_found (out-Parameter p).specifiers) (option_map declarator_layer (out-Parameter p).declarator)
+    (p : Parameter) → parameter_found p
+    ≡ parameter_told (map specifier_found (out-Parameter p).specifiers)
+    (option_map declarator_layer (out-Parameter p).declarator)
 
 abbrev pub TypeNamesFollowTheirParts : Type 0
 TypeNamesFollowTheirParts =
-    (t : TypeName) → type_found t ≡ type_name_told (map specifier_found (out-TypeName t).specifiers) (option_map declarator_layer (out-TypeName t).declarator)
+    (t : TypeName) → type_found t
+    ≡ type_name_told (map specifier_found (out-TypeName t).specifiers)
+    (option_map declarator_layer (out-TypeName t).declarator)
 
 -- ---- what an expression adds and how it is written doesn't depend on what it stands as
 

@@ -15,7 +15,8 @@ module _ (basis : Basis) where
   -- each thread owns, or waits for, what the lock sets say of where it is
   abbrev pub IsHolding : List Edge → LockSets → Contexts → State → Type 0
   IsHolding es held contexts s =
-      (t : ℕ) (thread : Thread) (cs : List (List ℕ)) → slice_get s.threads t ≡ Some thread → slice_get contexts.frames t ≡ Some cs →
+      (t : ℕ) (thread : Thread) (cs : List (List ℕ)) → slice_get s.threads t ≡ Some thread →
+      slice_get contexts.frames t ≡ Some cs →
       AreHeld basis es held (owned_by basis contexts s t) (own_trail thread cs)
 
   -- any two threads have parted, in the frames that were ever left
@@ -24,7 +25,8 @@ module _ (basis : Basis) where
 
   -- what is made once was made once
   abbrev pub IsCounted : Contexts → State → Type 0
-  IsCounted contexts s = (done : List ℕ) × AreCounted basis.program done (trails_in contexts s) (roots_in contexts)
+  IsCounted contexts s =
+      (done : List ℕ) × AreCounted basis.program done (trails_in contexts s) (roots_in contexts)
 
   pub record IsSafe (es : List Edge) (held : LockSets) (contexts : Contexts) (s : State) : Type 0 where
     pub holding : IsHolding es held contexts s

@@ -1,5 +1,6 @@
--- Soundness of locks and of races: threads own what the lock sets say, a race in a run is a pair of racing items, and so no state that is
--- reached has a race at a location that isn't called suspect. Each law is the contract of a public function.
+-- Soundness of locks and of races: threads own what the lock sets say, a race in a run is a pair of racing
+-- items, and so no state that is reached has a race at a location that isn't called suspect. Each law is the
+-- contract of a public function.
 use Rattle.std.specs.Prelude.{◌≡◌, ℕ, Bool, true, List, Some, slice_get}
 use Rattle.lk_cells.specs.declared.state.State.{State}
 use Rattle.lk_cells.specs.declared.state.Thread.{Thread}
@@ -48,17 +49,21 @@ module _ (basis : Basis) (s : State) (t : ℕ) where
     pub is_lock : is_lock_at basis.labels origin ≡ true
     pub all : basis.flow.all x origin ≡ true
 
--- Soundness of locks (LOCKSMITH: lock state). It is asked of each thread that stands at a point, whether its step is defined or not.
+-- Soundness of locks (LOCKSMITH: lock state). It is asked of each thread that stands at a point,
+-- whether its step is defined or not.
 abbrev pub LocksAreHeld : Type 0
 LocksAreHeld =
-    (basis : Basis) (es : List Edge) → IsFollowed basis es → (held : LockSets) → AreClosedLockSets basis held → (s : State) → Reached basis.program s →
-    (t : ℕ) (thread : Thread) → slice_get s.threads t ≡ Some thread → IsNoRetake basis.program thread.frame.point →
+    (basis : Basis) (es : List Edge) → IsFollowed basis es → (held : LockSets) →
+    AreClosedLockSets basis held → (s : State) → Reached basis.program s →
+    (t : ℕ) (thread : Thread) → slice_get s.threads t ≡ Some thread →
+    IsNoRetake basis.program thread.frame.point →
     (x : ℕ) → at_test held thread.frame.point x ≡ true → OwnsLock basis s t x
 
 -- the same of what a step tells: the thread that moved owned what the lock sets have at its point
 abbrev pub IsEventHeld : Program → State → Event → Type 0
 IsEventHeld program s event =
-    (basis : Basis) (es : List Edge) → basis.program ≡ program → IsFollowed basis es → (held : LockSets) → AreClosedLockSets basis held → Reached program s → IsNoRetake program event.point →
+    (basis : Basis) (es : List Edge) → basis.program ≡ program → IsFollowed basis es → (held : LockSets) →
+    AreClosedLockSets basis held → Reached program s → IsNoRetake program event.point →
     (x : ℕ) → at_test held event.point x ≡ true → OwnsLock basis s event.thread x
 
 -- what `step` promises where it moved
@@ -71,39 +76,49 @@ IsSteppedHeld program s (NoSuchThread s2) = s2 ≡ s
 IsSteppedHeld program s (Full s2) = s2 ≡ s
 IsSteppedHeld program s (NoMemory s2) = s2 ≡ s
 
--- main has a racing item for the location o of the access at which the thread stands, and the thread owns a mutex at each lock place by
--- which its racing items for o are locked
+-- main has a racing item for the location o of the access at which the thread stands, and the thread owns a
+-- mutex at each lock place by which its racing items for o are locked
 pub record IsFound (basis : Basis) (tables : Tables) (s : State) (t o : ℕ) : Type 0 where
   pub thread : Thread
   pub there : slice_get s.threads t ≡ Some thread
   pub child : Bool
   pub races : tables.races basis.program.main child o thread.frame.point ≡ true
-  pub owns : (q : ℕ) → IsLockedBy basis tables.races tables.race_locks o thread.frame.point q → OwnsPlace basis s t q
+  pub owns : (q : ℕ) → IsLockedBy basis tables.races tables.race_locks o thread.frame.point q →
+      OwnsPlace basis s t q
 
 -- Soundness of races (LOCKSMITH: correlation of accesses and locks)
 abbrev pub RacesAreFound : Type 0
 RacesAreFound =
-    (basis : Basis) (es : List Edge) → IsFollowed basis es → (tables : Tables) → AreClosedTables basis tables → (s : State) → Reached basis.program s →
-    (cell : Cell) (race : Race basis.program s cell) (o : ℕ) → HasLocation basis.program s cell o → IsFound basis tables s race.first o × IsFound basis tables s race.second o
+    (basis : Basis) (es : List Edge) → IsFollowed basis es → (tables : Tables) →
+    AreClosedTables basis tables → (s : State) → Reached basis.program s →
+    (cell : Cell) (race : Race basis.program s cell) (o : ℕ) → HasLocation basis.program s cell o →
+    IsFound basis tables s race.first o × IsFound basis tables s race.second o
 
 -- a linear lock place has one mutex (LOCKSMITH: linearity)
 abbrev pub LinearIsOne : Type 0
 LinearIsOne =
-    (basis : Basis) (es : List Edge) → IsFollowed basis es → (s : State) → Reached basis.program s → (q : ℕ) → IsLinear basis.program q →
-    (c d : Cell) → HasOrigin basis.program basis.labels s c q → HasOrigin basis.program basis.labels s d q → c ≡ d
+    (basis : Basis) (es : List Edge) → IsFollowed basis es → (s : State) → Reached basis.program s →
+    (q : ℕ) → IsLinear basis.program q →
+    (c d : Cell) → HasOrigin basis.program basis.labels s c q →
+    HasOrigin basis.program basis.labels s d q → c ≡ d
 
 -- ---- no races but at suspect locations
 
 -- no state that is reached has a race at a location that isn't called suspect
 abbrev pub HasNoOtherRaces : Program → List Verdict → Type 0
 HasNoOtherRaces program verdicts =
-    (s : State) → Reached program s → (cell : Cell) → Race program s cell → (o : ℕ) → HasLocation program s cell o → (verdict : Verdict) → slice_get verdicts o ≡ Some verdict → verdict.state ≡ Suspect
+    (s : State) → Reached program s → (cell : Cell) → Race program s cell → (o : ℕ) →
+    HasLocation program s cell o → (verdict : Verdict) → slice_get verdicts o ≡ Some verdict →
+    verdict.state ≡ Suspect
 
 abbrev pub RacesAreSuspect : Type 0
-RacesAreSuspect = (basis : Basis) (es : List Edge) → IsFollowed basis es → (verdicts : List Verdict) → AreVerdictsOf basis verdicts → HasNoOtherRaces basis.program verdicts
+RacesAreSuspect = (basis : Basis) (es : List Edge) → IsFollowed basis es → (verdicts : List Verdict) →
+    AreVerdictsOf basis verdicts → HasNoOtherRaces basis.program verdicts
 
--- so it is with the verdicts of a program that was lowered, by its labels, its edges and what flows along these
+-- so it is with the verdicts of a program that was lowered, by its labels, its
+-- edges and what flows along these
 abbrev pub VerdictsAreSafe : Type 0
 VerdictsAreSafe =
-    (basis : Basis) (es : List Edge) → IsAnalysed basis.program basis.labels es → IsFlowOf es basis.labels basis.flow → (verdicts : List Verdict) → AreVerdictsOf basis verdicts →
+    (basis : Basis) (es : List Edge) → IsAnalysed basis.program basis.labels es →
+    IsFlowOf es basis.labels basis.flow → (verdicts : List Verdict) → AreVerdictsOf basis verdicts →
     HasNoOtherRaces basis.program verdicts

@@ -1,5 +1,5 @@
--- What steps do to trails, to owners and to the roots of objects; and that they keep the invariant. Each law is the contract of a public
--- function.
+-- What steps do to trails, to owners and to the roots of objects; and that they keep the invariant. Each law
+-- is the contract of a public function.
 use Rattle.std.specs.Prelude.{◌≡◌, ℕ, List, ◌++◌}
 use Rattle.lk_birth.specs.Begins.{StartsRight}
 use Rattle.lk_birth.specs.Starts.{started}
@@ -27,7 +27,8 @@ pub record IsFollowed (basis : Basis) (es : List Edge) : Type 0 where
   pub closed : IsClosed es basis.labels basis.flow
 
 -- what a step does to the trails and to the objects
-pub record Steps (basis : Basis) (t : ℕ) (contexts : Contexts) (s : State) (later : Contexts) (s2 : State) : Type 0 where
+pub record Steps (basis : Basis) (t : ℕ) (contexts : Contexts) (s : State) (later : Contexts)
+    (s2 : State) : Type 0 where
   pub act : Act
   pub trails : TrailsMove basis t (trails_in contexts s) (trails_in later s2) act
   pub more : List ℕ
@@ -36,33 +37,43 @@ pub record Steps (basis : Basis) (t : ℕ) (contexts : Contexts) (s : State) (la
 
 abbrev pub StepsMoveTrails : Type 0
 StepsMoveTrails =
-    (basis : Basis) (es : List Edge) → IsFollowed basis es → (contexts : Contexts) (s s2 : State) (t w : ℕ) → IsSound basis.program basis.labels es contexts s → (step : Step basis.program s t w s2) →
+    (basis : Basis) (es : List Edge) → IsFollowed basis es → (contexts : Contexts) (s s2 : State) (t w : ℕ) →
+    IsSound basis.program basis.labels es contexts s → (step : Step basis.program s t w s2) →
     Steps basis t contexts s (contexts_next basis.program contexts t step.thread step.change) s2
 
 -- what a step of the thread t, which stands at p in the context c, does to what threads own
-pub record OwnersGoOn (basis : Basis) (es : List Edge) (t p : ℕ) (c : List ℕ) (contexts : Contexts) (s : State) (later : Contexts) (s2 : State) : Type 0 where
-  pub others : (u : ℕ) → (u ≡ t → ⊥) → (o : ℕ) (h : List ℕ) → owned_by basis contexts s u o h → owned_by basis later s2 u o h
-  pub own : (held : LockSets) → OwnedGoesOn basis es held (stay p c) (owned_by basis contexts s t) (owned_by basis later s2 t)
+pub record OwnersGoOn (basis : Basis) (es : List Edge) (t p : ℕ) (c : List ℕ) (contexts : Contexts)
+    (s : State) (later : Contexts) (s2 : State) : Type 0 where
+  pub others : (u : ℕ) → (u ≡ t → ⊥) → (o : ℕ) (h : List ℕ) → owned_by basis contexts s u o h →
+      owned_by basis later s2 u o h
+  pub own : (held : LockSets) →
+      OwnedGoesOn basis es held (stay p c) (owned_by basis contexts s t) (owned_by basis later s2 t)
 
 abbrev pub StepsMoveOwners : Type 0
 StepsMoveOwners =
-    (basis : Basis) (es : List Edge) → IsFollowed basis es → (contexts : Contexts) (s s2 : State) (t w : ℕ) → IsSound basis.program basis.labels es contexts s → (step : Step basis.program s t w s2) →
-    OwnersGoOn basis es t step.thread.frame.point (own_context contexts t) contexts s (contexts_next basis.program contexts t step.thread step.change) s2
+    (basis : Basis) (es : List Edge) → IsFollowed basis es → (contexts : Contexts) (s s2 : State) (t w : ℕ) →
+    IsSound basis.program basis.labels es contexts s → (step : Step basis.program s t w s2) →
+    OwnersGoOn basis es t step.thread.frame.point (own_context contexts t) contexts s
+    (contexts_next basis.program contexts t step.thread step.change) s2
 
 -- ---- the invariant at the start, and along steps
 
 abbrev pub StartIsSafe : Type 0
 StartIsSafe =
-    (basis : Basis) (es : List Edge) → IsFollowed basis es → (held : LockSets) → AreClosedLockSets basis held → StartsRight basis.program → (args : List (List ℕ)) →
+    (basis : Basis) (es : List Edge) → IsFollowed basis es → (held : LockSets) →
+    AreClosedLockSets basis held → StartsRight basis.program → (args : List (List ℕ)) →
     IsSafe basis es held (first_contexts (started basis.program args)) (started basis.program args)
 
 abbrev pub StepsKeepSafe : Type 0
 StepsKeepSafe =
-    (basis : Basis) (es : List Edge) → IsFollowed basis es → (held : LockSets) → AreClosedLockSets basis held → (contexts : Contexts) (s s2 : State) (t w : ℕ) →
-    IsSound basis.program basis.labels es contexts s → IsSafe basis es held contexts s → (step : Step basis.program s t w s2) →
+    (basis : Basis) (es : List Edge) → IsFollowed basis es → (held : LockSets) →
+    AreClosedLockSets basis held → (contexts : Contexts) (s s2 : State) (t w : ℕ) →
+    IsSound basis.program basis.labels es contexts s → IsSafe basis es held contexts s →
+    (step : Step basis.program s t w s2) →
     IsSafe basis es held (contexts_next basis.program contexts t step.thread step.change) s2
 
 abbrev pub ReachedIsSafe : Type 0
 ReachedIsSafe =
-    (basis : Basis) (es : List Edge) → IsFollowed basis es → (held : LockSets) → AreClosedLockSets basis held → (s : State) → Reached basis.program s →
+    (basis : Basis) (es : List Edge) → IsFollowed basis es → (held : LockSets) →
+    AreClosedLockSets basis held → (s : State) → Reached basis.program s →
     (contexts : Contexts) × IsSound basis.program basis.labels es contexts s × IsSafe basis es held contexts s

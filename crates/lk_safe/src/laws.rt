@@ -1,4 +1,5 @@
-//! What threads own, and which accesses race, in each state that a program comes to. Each function is a law, which its contract states.
+//! What threads own, and which accesses race, in each state that a program comes to. Each function is a
+//! law, which its contract states.
 ghost use Rattle.lk_safe.specs.Soundness.{LinearIsOne, LocksAreHeld, RacesAreFound, RacesAreSuspect, VerdictsAreSafe};
 ghost use Rattle.lk_safe.specs.Steps.{ReachedIsSafe, StartIsSafe, StepsKeepSafe, StepsMoveOwners, StepsMoveTrails};
 
@@ -27,14 +28,14 @@ pub fn reached_is_safe()
     ensures { ReachedIsSafe }
 {}
 
-/// Soundness of locks (LOCKSMITH: lock state): a thread owns a mutex at the place of each lock of the lock set of the point at
-/// which it stands.
+/// Soundness of locks (LOCKSMITH: lock state): a thread owns a mutex at the place of each lock of the lock
+/// set of the point at which it stands.
 pub fn locks_are_held()
     ensures { LocksAreHeld }
 {}
 
-/// Soundness of races (LOCKSMITH: races and correlation): a race in a run is two racing items of `main`, and the threads own
-/// mutexes at the lock places of these.
+/// Soundness of races (LOCKSMITH: races and correlation): a race in a run is two racing items of `main`, and
+/// the threads own mutexes at the lock places of these.
 pub fn races_are_found()
     ensures { RacesAreFound }
 {}
@@ -44,13 +45,14 @@ pub fn linear_is_one()
     ensures { LinearIsOne }
 {}
 
-/// No state that a program comes to has a race at a location that isn't called suspect by the verdicts that follow from a
-/// flow that is closed under the rules.
+/// No state that a program comes to has a race at a location that isn't called suspect by the verdicts that
+/// follow from a flow that is closed under the rules.
 pub fn races_are_suspect()
     ensures { RacesAreSuspect }
 {}
 
-/// So it is with the verdicts of a program that was lowered, by its labels, its edges and what flows along these.
+/// So it is with the verdicts of a program that was lowered, by its labels, its
+/// edges and what flows along these.
 pub fn verdicts_are_safe()
     ensures { VerdictsAreSafe }
 {}

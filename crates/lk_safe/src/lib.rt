@@ -1,4 +1,5 @@
-//! Soundness of locks and races: what threads own, in each state that a program comes to, and which accesses race.
+//! Soundness of locks and races: what threads own, in each state that a program comes
+//! to, and which accesses race.
 #![tactic(auto)]
 
 mod laws;

@@ -14,7 +14,8 @@ pub record Grows (old new : Rows) (changed : Bool) : Type 0 where
   pub falls : changed ≡ true → absent new < absent old
   pub same : changed ≡ false → new ≡ old
 
--- Where a loop stands that adds what is still missing: it has kept what was sound, and where it has changed nothing it is done so far.
+-- Where a loop stands that adds what is still missing: it has kept what was sound, and where it has
+-- changed nothing it is done so far.
 pub record Going (Sound Done : Rows → Type 0) (first now : Rows) (changed : Bool) : Type 0 where
   pub grows : Grows first now changed
   pub sound : Sound first → Sound now

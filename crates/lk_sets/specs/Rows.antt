@@ -16,7 +16,8 @@ row_of r a = slice_index_or r.rows a []
 unfoldable pub has : Rows → ℕ → ℕ → Bool
 has r a b = has_id (row_of r a) b
 
--- a row for each number below the size, which is at most 65,536: in ascending order without repeats, of numbers below the size
+-- a row for each number below the size, which is at most 65,536: in ascending order without
+-- repeats, of numbers below the size
 pub record IsSquare (r : Rows) : Type 0 where
   pub small : r.size ≤ 65536
   pub rows : length r.rows ≡ r.size

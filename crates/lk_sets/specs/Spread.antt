@@ -14,7 +14,8 @@ PassesOn r arrow = (b : ℕ) → has r arrow.from b ≡ true → has r arrow.int
 -- b stands with a in r, or an arrow passes it on to a
 pub data Spread (arrows : List Arrow) (r : Rows) : ℕ → ℕ → Type 0 where
   stands : {a b : ℕ} → has r a b ≡ true → Spread arrows r a b
-  passed : {b : ℕ} (arrow : Arrow) → Contains arrows arrow → Spread arrows r arrow.from b → Spread arrows r arrow.into b
+  passed : {b : ℕ} (arrow : Arrow) → Contains arrows arrow → Spread arrows r arrow.from b →
+      Spread arrows r arrow.into b
 
 -- no pair of `now` is there without a reason in `first`
 abbrev pub IsSound : List Arrow → Rows → Rows → Type 0

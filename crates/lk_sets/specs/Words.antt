@@ -7,17 +7,20 @@ use Rattle.std.specs.List.{filter, range_with_len}
 abbrev pub bit_in : List ℕ → ℕ → Bool
 bit_in words k = bit_at (slice_index words (k / 64)) (k % 64) == 1
 
--- Of `count` words from place `into` on, each has the bits of its own and of the word as far from place `from`. The others are as before.
+-- Of `count` words from place `into` on, each has the bits of its own and of the word as far from place
+-- `from`. The others are as before.
 pub record IsJoined (old new : List ℕ) (from into count : ℕ) : Type 0 where
   pub long : length new ≡ length old
-  pub joined : (k : ℕ) → k < 64 * count → bit_in new (64 * into + k) ≡ (bit_in old (64 * into + k) || bit_in old (64 * from + k))
+  pub joined : (k : ℕ) → k < 64 * count →
+      bit_in new (64 * into + k) ≡ (bit_in old (64 * into + k) || bit_in old (64 * from + k))
   pub below : (k : ℕ) → k < 64 * into → bit_in new k ≡ bit_in old k
   pub above : (k : ℕ) → 64 * (into + count) ≤ k → bit_in new k ≡ bit_in old k
 
 -- some bit of the words from `from` on is 1 where that of the words from `into` on is 0
 abbrev pub AddsBit : List ℕ → ℕ → ℕ → ℕ → Type 0
 AddsBit words from into count =
-    (k : ℕ) × (k < 64 * count) × (bit_in words (64 * from + k) ≡ true) × (bit_in words (64 * into + k) ≡ false)
+    (k : ℕ) × (k < 64 * count) × (bit_in words (64 * from + k) ≡ true)
+    × (bit_in words (64 * into + k) ≡ false)
 
 -- no bit is 1 from a place up to another
 abbrev pub AreClear : List ℕ → ℕ → ℕ → Type 0

@@ -106,7 +106,8 @@ impl BitRows {
     /// The first number from `b` on that stands with `a`, or nothing where there is none.
     pub fn next_in_row(&self, a: u32, b: u32) -> Option<u32>
         requires a { a < self.now.size }
-        ensures next { MatchOption result (HasNoneBetween self.now a b self.now.size) (λ c. IsNextInRow self.now a b c) }
+        ensures next { MatchOption result (HasNoneBetween self.now a b self.now.size)
+            (λ c. IsNextInRow self.now a b c) }
         ensures square { IsSquare self.now }
     {
         if b >= self.size {
@@ -135,7 +136,8 @@ impl BitRows {
 
 /// No two relations of one size have the same pairs, so what is said of the pairs says what the rows are.
 pub fn rows_are_their_pairs()
-    ensures { (r s : Rows) → IsSquare r → IsSquare s → r.size ≡ s.size → ((a b : ℕ) → has r a b ≡ has s a b) → r ≡ s }
+    ensures { (r s : Rows) → IsSquare r → IsSquare s → r.size ≡ s.size →
+        ((a b : ℕ) → has r a b ≡ has s a b) → r ≡ s }
 {}
 
 /// The numbers of a row that are left, in ascending order. A contract sees it as the list of them.

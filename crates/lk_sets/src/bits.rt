@@ -49,7 +49,8 @@ pub fn first_bit(words: &[u64], from: usize, end: usize) -> Option<usize>
     requires from { from / 64 < end }
     requires end { end ≤ length words.now }
     requires small { 64 * end < 2 ^ 64 }
-    ensures { MatchOption result (AreClear words.now from (64 * end)) (λ k. IsFirstBit words.now from (64 * end) k) }
+    ensures { MatchOption result (AreClear words.now from (64 * end))
+        (λ k. IsFirstBit words.now from (64 * end) k) }
 {
     let mut at = from / 64;
     let mut word = words[at] & (u64::MAX << (from % 64));

@@ -121,5 +121,6 @@ impl IdSet {
 
 /// No two ascending lists have the same numbers, so what is said of a set's numbers says what its list is.
 pub fn a_set_has_one_list()
-    ensures { (member : ℕ → Bool) (ids others : List ℕ) → IsSetOf member ids → IsSetOf member others → ids ≡ others }
+    ensures { (member : ℕ → Bool) (ids others : List ℕ) → IsSetOf member ids →
+        IsSetOf member others → ids ≡ others }
 {}

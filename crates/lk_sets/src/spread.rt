@@ -31,7 +31,8 @@ impl BitRows {
     /// Lets each arrow pass its row on once, and answers whether a pair was new.
     fn pass_on(&mut self, arrows: &[Arrow]) -> bool
         requires { All (IsWithin self.old.size) arrows.now }
-        ensures { (first : Rows) → Going (IsSound arrows.now first) (λ r. All (PassesOn r) arrows.now) self.old self.new result }
+        ensures { (first : Rows) →
+            Going (IsSound arrows.now first) (λ r. All (PassesOn r) arrows.now) self.old self.new result }
     {
         let mut changed = false;
         for arrow in arrows {

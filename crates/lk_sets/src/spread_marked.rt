@@ -12,8 +12,8 @@ use lk_base::NoMemory;
 use std::alloc::Global;
 
 impl BitRows {
-    /// Lets all arrows pass rows on until no pair is new, as `spread` does, and answers whether a pair was new. It takes
-    /// memory for a mark a row, and passes a row on again only where that has grown.
+    /// Lets all arrows pass rows on until no pair is new, as `spread` does, and answers whether a pair was
+    /// new. It takes memory for a mark a row, and passes a row on again only where that has grown.
     pub fn spread_marked(&mut self, alloc: Global, arrows: &[Arrow]) -> Result<bool, NoMemory>
         requires { All (IsWithin self.old.size) arrows.now }
         ensures grows { IfOk result (Grows self.old self.new) }
@@ -27,8 +27,8 @@ impl BitRows {
         Ok(changed)
     }
 
-    /// Lets each arrow pass its row on where that is marked or has grown, and answers whether a pair was new. The marks
-    /// are then those of the rows that have grown.
+    /// Lets each arrow pass its row on where that is marked or has grown, and answers whether a pair was new.
+    /// The marks are then those of the rows that have grown.
     fn pass_all_marked(
         &mut self,
         alloc: Global,
@@ -38,7 +38,9 @@ impl BitRows {
         requires within { All (IsWithin self.old.size) arrows.now }
         requires long { length marks.old.items ≡ self.old.size }
         requires waits { All (PassesOrWaits marks.old.items self.old) arrows.now }
-        ensures going { IfOk result (λ changed. (first : Rows) → Going (IsSound arrows.now first) (λ r. All (PassesOn r) arrows.now) self.old self.new changed) }
+        ensures going { IfOk result (λ changed. (first : Rows) →
+            Going (IsSound arrows.now first) (λ r. All (PassesOn r) arrows.now) self.old
+            self.new changed) }
         ensures long { OnOk result (length marks.new.items ≡ self.old.size) }
         ensures waits { OnOk result (All (PassesOrWaits marks.new.items self.new) arrows.now) }
     {
@@ -51,14 +53,18 @@ impl BitRows {
         Ok(changed)
     }
 
-    /// Lets an arrow pass its row on where that is marked or has grown, and notes whether the row that takes it has.
+    /// Lets an arrow pass its row on where that is marked or has grown, and notes
+    /// whether the row that takes it has.
     fn pass_marked(&mut self, arrow: &Arrow, marks: &[bool], grown: &mut Vec<bool>) -> bool
         requires within { IsWithin self.old.size arrow.now }
         requires marks { length marks.now ≡ self.old.size }
         requires grown { length grown.old.items ≡ self.old.size }
-        ensures going { (arrows : List Arrow) (first : Rows) → Contains arrows arrow.now → Going (IsSound arrows first) (λ _. ⊤) self.old self.new result }
+        ensures going { (arrows : List Arrow) (first : Rows) → Contains arrows arrow.now →
+            Going (IsSound arrows first) (λ _. ⊤) self.old self.new result }
         ensures marks { AreMarked self.old self.new grown.old.items grown.new.items result }
-        ensures passes { PassesOrWaits marks.now self.old arrow.now ⊎ (is_marked grown.old.items arrow.now.from ≡ true) → PassesOrWaits grown.new.items self.new arrow.now }
+        ensures passes { PassesOrWaits marks.now self.old arrow.now
+            ⊎ (is_marked grown.old.items arrow.now.from ≡ true) →
+            PassesOrWaits grown.new.items self.new arrow.now }
     {
         let from = arrow.from as usize;
         if !marks[from] && !grown[from] {

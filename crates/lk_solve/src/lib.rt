@@ -20,8 +20,8 @@ use lk_verdicts::verdicts;
 pub use points::verdicts_of;
 use std::alloc::Global;
 
-/// The verdict of each location of a program, in their order. Each location and lock place is a node of the program's types.
-/// Want of memory is its one fault.
+/// The verdict of each location of a program, in their order. Each location and lock place is a node of the
+/// program's types. Want of memory is its one fault.
 pub fn solve(alloc: Global, facts: &Facts<'_>) -> Result<Vec<Verdict>, NoMemory>
     requires { ArePlaceNodes facts.now.program }
     ensures { IfOk result (λ found. AreVerdictsOf (basis_of facts.now) found.items) }

@@ -28,7 +28,8 @@ fn flow(alloc: Global, points: &Points, labels: &Labels) -> Result<Origins, NoMe
     Ok(origins)
 }
 
-/// The verdicts of a program, by its labels and what flows to them. That the three fit one another is asked once more.
+/// The verdicts of a program, by its labels and what flows to them. That the three fit
+/// one another is asked once more.
 fn verdicts_by(
     alloc: Global,
     points: &Points,
@@ -47,10 +48,12 @@ fn verdicts_by(
     Ok(found)
 }
 
-/// The verdict of each location of a program, in their order. Each location and lock place is a node of the program's types.
+/// The verdict of each location of a program, in their order. Each location and lock place is a
+/// node of the program's types.
 ///
-/// `TooManyLabels` comes exactly where the program has more than 65,536 labels, unless memory ends first: where verdicts
-/// are answered, it has no more. `NoMemory` is its other fault. Targets of labels are in range, as `count` says of them.
+/// `TooManyLabels` comes exactly where the program has more than 65,536 labels, unless memory ends first:
+/// where verdicts are answered, it has no more. `NoMemory` is its other fault. Targets of labels are in
+/// range, as `count` says of them.
 pub fn verdicts_of(alloc: Global, points: &Points) -> Result<Vec<Verdict>, SolveFault>
     requires { ArePlaceNodes points.now }
     ensures ok { IfOk result (λ found. HasVerdicts points.now found.items) }

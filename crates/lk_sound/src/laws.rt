@@ -21,8 +21,8 @@ pub fn reached_is_sound()
     ensures { ReachedIsSound }
 {}
 
-/// Soundness of cells (LOCKSMITH: label flow): where a thread is about to touch a cell, the origin of the cell's place is
-/// among those that flow to the label of the access.
+/// Soundness of cells (LOCKSMITH: label flow): where a thread is about to touch a cell, the origin of the
+/// cell's place is among those that flow to the label of the access.
 pub fn cells_are_sound()
     ensures { CellsAreSound }
 {}

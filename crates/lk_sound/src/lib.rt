@@ -1,4 +1,5 @@
-//! Soundness over all interleavings: what each state that a program comes to has to do with its labels and edges.
+//! Soundness over all interleavings: what each state that a program comes to has to
+//! do with its labels and edges.
 #![tactic(auto)]
 
 mod laws;

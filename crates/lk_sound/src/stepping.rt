@@ -8,9 +8,9 @@ use lk_facts::Points;
 use lk_meaning::Stepped;
 use std::alloc::Global;
 
-/// A step of a thread: it performs the action of its point, where the word makes the free choices. Where it moves and
-/// touches a cell, and its program was lowered and comes to the state, the origin of the cell's place is among those that
-/// flow to the label of the access, by each flow that is closed under the rules.
+/// A step of a thread: it performs the action of its point, where the word makes the free choices. Where it
+/// moves and touches a cell, and its program was lowered and comes to the state, the origin of the cell's
+/// place is among those that flow to the label of the access, by each flow that is closed under the rules.
 pub fn step(alloc: Global, points: &Points, state: State, thread: u32, word: u64) -> Stepped
     requires { IsSmall state }
     ensures told { Tells points.now state thread word result }

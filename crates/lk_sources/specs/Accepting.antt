@@ -28,29 +28,36 @@ use Rattle.lk_sources.specs.declared.reading.Texts.{Texts}
 -- ---- sources, where --externs lists these names, and the names of files grow from the first to the last
 
 -- each is a tree without a fault, and no word in them is unsupported
-pub record AreAccepted (names : List (List ℕ)) (externs : List Name) (sources : List Source) (last : List (List ℕ)) (units : List Unit) : Type 0 where
+pub record AreAccepted (names : List (List ℕ)) (externs : List Name) (sources : List Source)
+    (last : List (List ℕ)) (units : List Unit) : Type 0 where
   pub lists : List (List Token)
   pub split : AreSplit names sources lists last
   pub supported : first_word sources lists ≡ None
   pub trees : AreTrees sources lists units
   pub faultless : AreFaultless externs units
 
--- Why they are refused: in some the split stops, or a word is unsupported, or some has no tree, or some tree has a fault. The first of these that applies tells the refusal, and of the
--- sources to which it applies the first.
-pub data AreRefused (names : List (List ℕ)) (externs : List Name) (sources : List Source) (last : List (List ℕ)) (refusal : Refusal) : Type 0 where
+-- Why they are refused: in some the split stops, or a word is unsupported, or some has no tree,
+-- or some tree has a fault. The first of these that applies tells the refusal, and of the sources
+-- to which it applies the first.
+pub data AreRefused (names : List (List ℕ)) (externs : List Name) (sources : List Source)
+    (last : List (List ℕ)) (refusal : Refusal) : Type 0 where
   stopped : StopsIn names sources refusal last → AreRefused names externs sources last refusal
-  unsupported : (lists : List (List Token)) → AreSplit names sources lists last → first_word sources lists ≡ Some refusal → AreRefused names externs sources last refusal
-  without_tree : (lists : List (List Token)) → AreSplit names sources lists last → first_word sources lists ≡ None → HasNoTree sources lists refusal →
+  unsupported : (lists : List (List Token)) → AreSplit names sources lists last →
+      first_word sources lists ≡ Some refusal → AreRefused names externs sources last refusal
+  without_tree : (lists : List (List Token)) → AreSplit names sources lists last →
+      first_word sources lists ≡ None → HasNoTree sources lists refusal →
       AreRefused names externs sources last refusal
-  faulty : (lists : List (List Token)) (units : List Unit) → AreSplit names sources lists last → first_word sources lists ≡ None → AreTrees sources lists units →
-      AreFaulty externs units refusal → AreRefused names externs sources last refusal
+  faulty : (lists : List (List Token)) (units : List Unit) → AreSplit names sources lists last →
+      first_word sources lists ≡ None → AreTrees sources lists units → AreFaulty externs units refusal →
+      AreRefused names externs sources last refusal
 
 -- ---- the files of a command, whose names have these numbers: that of --externs, if there is one, and its sources
 
 abbrev pub units_of : List AcceptedSource → List Unit
 units_of sources = map (λ s. s.parsed.unit) sources
 
--- a source is checked, where --externs lists these names: it has no fault, its types are as its typed tree asks for them, and what was found is true of it
+-- a source is checked, where --externs lists these names: it has no fault, its types are as its typed tree
+-- asks for them, and what was found is true of it
 pub record IsCheckedSource (externs : List Name) (source : AcceptedSource) : Type 0 where
   pub faultless : TellsFirst externs source.parsed.unit None
   pub ready : IsReady source.checked.types
@@ -75,16 +82,22 @@ pub record AreChecked (accepted : Accepted) : Type 0 where
   pub placed : ArePlaced accepted
 
 -- the lines of the externs file are names, and the sources are accepted
-pub record IsAccepted (names : List (List ℕ)) (externs sources : List Source) (accepted : Accepted) : Type 0 where
+pub record IsAccepted (names : List (List ℕ)) (externs sources : List Source)
+    (accepted : Accepted) : Type 0 where
   pub names_listed : listed (externs_text externs) ≡ Names accepted.externs.items
   pub are : AreAccepted names accepted.externs.items sources accepted.files (units_of accepted.sources.items)
 
--- Why they are refused, and the file in which the place of that stands: a line of the externs file is no name; or the sources are refused.
-pub data IsRefused (names : List (List ℕ)) (externs sources : List Source) (file : List ℕ) (refusal : Refusal) : Type 0 where
-  bad_externs : (first : Source) (others : List Source) (line : ℕ) → externs ≡ first ∷ others → listed first.bytes ≡ BadLine line → file ≡ first.name →
+-- Why they are refused, and the file in which the place of that stands: a line of the externs file is no
+-- name; or the sources are refused.
+pub data IsRefused (names : List (List ℕ)) (externs sources : List Source) (file : List ℕ)
+    (refusal : Refusal) : Type 0 where
+  bad_externs : (first : Source) (others : List Source) (line : ℕ) → externs ≡ first ∷ others →
+      listed first.bytes ≡ BadLine line → file ≡ first.name →
       refusal ≡ refusal_at names file BadExterns line → IsRefused names externs sources file refusal
-  sources_refused : (listed_names : List Name) (last : List (List ℕ)) → listed (externs_text externs) ≡ Names listed_names →
-      AreRefused names listed_names sources last refusal → slice_get last refusal.spot.file ≡ Some file → IsRefused names externs sources file refusal
+  sources_refused : (listed_names : List Name) (last : List (List ℕ)) →
+      listed (externs_text externs) ≡ Names listed_names →
+      AreRefused names listed_names sources last refusal → slice_get last refusal.spot.file ≡ Some file →
+      IsRefused names externs sources file refusal
 
 -- ---- a command over the files that a shelf holds
 
@@ -96,14 +109,17 @@ pub record IsAcceptedFor (check : Check) (held : Held) (accepted : Accepted) : T
 
 -- a file is too long, or the files are refused that were read
 pub data IsRefusedFor (check : Check) (held : Held) (file : List ℕ) (refusal : Refusal) : Type 0 where
-  too_long : IsTooLong check held file → refusal ≡ refusal_at (numbered check) file TooLong 1 → IsRefusedFor check held file refusal
-  refused : (externs sources : List Source) → IsRead check held externs sources → IsRefused (numbered check) externs sources file refusal → IsRefusedFor check held file refusal
+  too_long : IsTooLong check held file → refusal ≡ refusal_at (numbered check) file TooLong 1 →
+      IsRefusedFor check held file refusal
+  refused : (externs sources : List Source) → IsRead check held externs sources →
+      IsRefused (numbered check) externs sources file refusal → IsRefusedFor check held file refusal
 
 -- ---- what the calls answer
 
 -- this refusal, with the name of the file in which its place stands
 abbrev pub IsInFile : List (List ℕ) → Refusal → SourcesFault → Type 0
-IsInFile files refusal (told.Refused file is) = (is ≡ refusal) × (slice_get files refusal.spot.file ≡ Some file)
+IsInFile files refusal (told.Refused file is) =
+    (is ≡ refusal) × (slice_get files refusal.spot.file ≡ Some file)
 IsInFile files refusal (told.Unread name) = ⊥
 IsInFile files refusal told.NoMemory = ⊤
 

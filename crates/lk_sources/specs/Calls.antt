@@ -37,23 +37,31 @@ AreFileNames names = All IsFileName names
 
 -- a file of this name, of at most so many bytes
 abbrev pub IsFile : List ℕ → ℕ → Shelved → Source → Type 0
-IsFile name most shelf s = IsAsBefore shelf.faults × (s.name ≡ name) × (length s.bytes ≤ most) × ForSome shelf.files (λ held. held name ≡ Some s.bytes)
+IsFile name most shelf s =
+    IsAsBefore shelf.faults × (s.name ≡ name) × (length s.bytes ≤ most)
+    × ForSome shelf.files (λ held. held name ≡ Some s.bytes)
 
 abbrev pub IsNoFile : List ℕ → ℕ → Shelved → ReadingFault → Type 0
-IsNoFile name most shelf (unread.TooLong told) = IsAsBefore shelf.faults × (told ≡ name) × ForSome shelf.files (λ held. IsLonger (held name) most)
-IsNoFile name most shelf (unread.Unread told) = HasRisen shelf.faults × (told ≡ name) × ForSome shelf.bad (λ bad. bad ≡ name)
+IsNoFile name most shelf (unread.TooLong told) =
+    IsAsBefore shelf.faults × (told ≡ name) × ForSome shelf.files (λ held. IsLonger (held name) most)
+IsNoFile name most shelf (unread.Unread told) =
+    HasRisen shelf.faults × (told ≡ name) × ForSome shelf.bad (λ bad. bad ≡ name)
 IsNoFile name most shelf unread.NoMemory = ⊤
 
 -- the files of these names, of at most so many bytes together
-pub record AreFiles (names : List (List ℕ)) (most : ℕ) (shelf : Shelved) (sources : List Source) : Type 0 where
+pub record AreFiles (names : List (List ℕ)) (most : ℕ) (shelf : Shelved)
+    (sources : List Source) : Type 0 where
   pub calm : IsAsBefore shelf.faults
   pub named : map (λ s. s.name) sources ≡ names
   pub short : AreShort most sources
   pub read : ForSome shelf.files (λ held. (left : ℕ) × AreRead held most names sources left)
 
 abbrev pub AreNoFiles : List (List ℕ) → ℕ → Shelved → ReadingFault → Type 0
-AreNoFiles names most shelf (unread.TooLong name) = IsAsBefore shelf.faults × ForSome shelf.files (λ held. Passes held most names name)
-AreNoFiles names most shelf (unread.Unread name) = HasRisen shelf.faults × IsAmong names name × ForSome shelf.bad (λ bad. bad ≡ name) × ForSome shelf.files (λ held. Reaches held most names name)
+AreNoFiles names most shelf (unread.TooLong name) =
+    IsAsBefore shelf.faults × ForSome shelf.files (λ held. Passes held most names name)
+AreNoFiles names most shelf (unread.Unread name) =
+    HasRisen shelf.faults × IsAmong names name × ForSome shelf.bad (λ bad. bad ≡ name)
+    × ForSome shelf.files (λ held. Reaches held most names name)
 AreNoFiles names most shelf unread.NoMemory = ⊤
 
 -- the files of a command
@@ -66,8 +74,11 @@ pub record AreBoth (check : Check) (shelf : Shelved) (files : Both) : Type 0 whe
   pub read : ForSome shelf.files (λ held. IsRead check held files.externs files.sources)
 
 abbrev pub AreNotBoth : Check → Shelved → ReadingFault → Type 0
-AreNotBoth check shelf (unread.TooLong name) = IsAsBefore shelf.faults × ForSome shelf.files (λ held. IsTooLong check held name)
-AreNotBoth check shelf (unread.Unread name) = HasRisen shelf.faults × IsNamed check name × ForSome shelf.bad (λ bad. bad ≡ name) × ForSome shelf.files (λ held. ComesTo check held name)
+AreNotBoth check shelf (unread.TooLong name) =
+    IsAsBefore shelf.faults × ForSome shelf.files (λ held. IsTooLong check held name)
+AreNotBoth check shelf (unread.Unread name) =
+    HasRisen shelf.faults × IsNamed check name × ForSome shelf.bad (λ bad. bad ≡ name)
+    × ForSome shelf.files (λ held. ComesTo check held name)
 AreNotBoth check shelf unread.NoMemory = ⊤
 
 -- ---- the file of --externs
@@ -90,10 +101,12 @@ IsListed (BadLine number) (listing.BadLine line) = line ≡ number
 
 abbrev pub IsSplit : List (List ℕ) → ℕ → Source → List (List ℕ) → split.Split → Type 0
 IsSplit names own s last (splits.Tokens tokens) =
-    Splits names (start_of own) s.bytes tokens last × (first_refused s.bytes tokens ≡ None) × All (IsInside (length s.bytes)) tokens ×
+    Splits names (start_of own) s.bytes tokens last × (first_refused s.bytes tokens ≡ None)
+    × All (IsInside (length s.bytes)) tokens ×
     AreFiled (length last) tokens
 IsSplit names own s last (splits.Word refusal) =
-    ((tokens : List Token) × Splits names (start_of own) s.bytes tokens last × (word_in s tokens ≡ Some refusal)) × (refusal.spot.file < length last)
+    ((tokens : List Token) × Splits names (start_of own) s.bytes tokens last
+    × (word_in s tokens ≡ Some refusal)) × (refusal.spot.file < length last)
 
 -- the tokens of each stand in it
 abbrev pub AreAllInside : List Source → List (List Token) → Type 0
@@ -102,7 +115,8 @@ AreAllInside sources lists = AllZip (λ s tokens. All (IsInside (length s.bytes)
 abbrev pub IsSplitFault : List (List ℕ) → List Source → List (List ℕ) → Fault → Type 0
 IsSplitFault names sources last fault.NoMemory = ⊤
 IsSplitFault names sources last (fault.Refused refusal) =
-    StopsIn names sources refusal last ⊎ ((lists : List (List Token)) × AreSplit names sources lists last × (first_word sources lists ≡ Some refusal))
+    StopsIn names sources refusal last
+    ⊎ ((lists : List (List Token)) × AreSplit names sources lists last × (first_word sources lists ≡ Some refusal))
 
 -- ---- refusals
 
@@ -126,4 +140,5 @@ IsUnread names unread.NoMemory fault = fault ≡ told.NoMemory
 -- the refusal of a line of the first of these files
 abbrev pub IsBadExterns : List (List ℕ) → List Source → ℕ → SourcesFault → Type 0
 IsBadExterns names [] line fault = ⊥
-IsBadExterns names (first ∷ others) line fault = IsRefusedAt first.name (refusal_at names first.name BadExterns line) fault
+IsBadExterns names (first ∷ others) line fault =
+    IsRefusedAt first.name (refusal_at names first.name BadExterns line) fault

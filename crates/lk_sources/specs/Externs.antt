@@ -1,4 +1,5 @@
--- The file of --externs: lines, each empty or one identifier of at most 255 bytes (C99 6.4.2.1). The last line may lack its newline.
+-- The file of --externs: lines, each empty or one identifier of at most 255 bytes (C99 6.4.2.1). The
+-- last line may lack its newline.
 use Rattle.std.specs.Prelude.{ℕ, ◌+◌, Bool, false, ◌&&◌, ◌==◌, not, nat_le, List, [], ◌∷◌, length, if◌then◌else◌}
 use Rattle.std.specs.Char.{is_ascii_digit}
 use Rattle.std.specs.List.{list_all}
@@ -24,7 +25,8 @@ lines (b ∷ text) = if b == new_line then [] ∷ lines text else longer b (line
 -- a letter or `_`, then letters, digits and `_`, at most 255 in all (C99 6.4.2.1)
 abbrev pub is_identifier : List ℕ → Bool
 is_identifier [] = false
-is_identifier (b ∷ text) = not (is_ascii_digit b) && (list_all is_word_byte (b ∷ text) && nat_le (length (b ∷ text)) 255)
+is_identifier (b ∷ text) =
+    not (is_ascii_digit b) && (list_all is_word_byte (b ∷ text) && nat_le (length (b ∷ text)) 255)
 
 -- the names that lines list, or the number of the first line that is neither empty nor an identifier
 pub data Listed : Type 0 where
@@ -39,7 +41,9 @@ with_first name (BadLine line) = BadLine line
 abbrev pub listed_from : ℕ → List (List ℕ) → Listed
 listed_from number [] = Names []
 listed_from number ([] ∷ others) = listed_from (number + 1) others
-listed_from number ((b ∷ text) ∷ others) = if is_identifier (b ∷ text) then with_first (b ∷ text) (listed_from (number + 1) others) else BadLine number
+listed_from number ((b ∷ text) ∷ others) =
+    if is_identifier (b ∷ text) then with_first (b ∷ text) (listed_from (number + 1) others)
+    else BadLine number
 
 -- of a text
 abbrev pub listed : List ℕ → Listed

@@ -17,5 +17,7 @@ AreFaultless externs units = AllByRecursion (IsFaultless externs) units
 
 -- the first tree with a fault, and the refusal by its least
 pub data AreFaulty (externs : List Name) : List Unit → Refusal → Type 0 where
-  here : {unit : Unit} {units : List Unit} {told : Refusal} (fault : Fault) → IsFirstFault externs unit fault → told ≡ refusal_of fault → AreFaulty externs (unit ∷ units) told
-  behind : {unit : Unit} {units : List Unit} {told : Refusal} → IsFaultless externs unit → AreFaulty externs units told → AreFaulty externs (unit ∷ units) told
+  here : {unit : Unit} {units : List Unit} {told : Refusal} (fault : Fault) →
+      IsFirstFault externs unit fault → told ≡ refusal_of fault → AreFaulty externs (unit ∷ units) told
+  behind : {unit : Unit} {units : List Unit} {told : Refusal} → IsFaultless externs unit →
+      AreFaulty externs units told → AreFaulty externs (unit ∷ units) told

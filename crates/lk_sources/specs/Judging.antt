@@ -33,9 +33,13 @@ IsJudged names externs sources last fault.NoMemory = ⊤
 IsJudged names externs sources last (fault.Refused refusal) = AreRefused names externs sources last refusal
 
 abbrev pub AcceptsSources : List (List ℕ) → List Name → List Source → Accepted → Type 0
-AcceptsSources names externs sources accepted = (accepted.externs.items ≡ externs) × AreAccepted names externs sources accepted.files (units_of accepted.sources.items)
+AcceptsSources names externs sources accepted =
+    (accepted.externs.items ≡ externs)
+    × AreAccepted names externs sources accepted.files (units_of accepted.sources.items)
 
 abbrev pub RefusesSources : List (List ℕ) → List Name → List Source → SourcesFault → Type 0
-RefusesSources names externs sources (told.Refused file refusal) = (last : List (List ℕ)) × AreRefused names externs sources last refusal × (slice_get last refusal.spot.file ≡ Some file)
+RefusesSources names externs sources (told.Refused file refusal) =
+    (last : List (List ℕ)) × AreRefused names externs sources last refusal
+    × (slice_get last refusal.spot.file ≡ Some file)
 RefusesSources names externs sources (told.Unread name) = ⊥
 RefusesSources names externs sources told.NoMemory = ⊤

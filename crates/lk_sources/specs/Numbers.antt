@@ -1,4 +1,5 @@
--- The numbers of files: those of the FILEs first, in the order of the words, then that of the file of --externs. The names of line marks come behind them.
+-- The numbers of files: those of the FILEs first, in the order of the words, then that of the file of
+-- --externs. The names of line marks come behind them.
 use Rattle.std.specs.Prelude.{ℕ, nat_eq, List, [], fold}
 use Rattle.std.specs.Cmp.Lexicographic.{pointwise}
 use Rattle.std.specs.List.{position_or_len}
@@ -18,4 +19,5 @@ number_of names name = position_or_len (pointwise nat_eq name) names
 
 -- a refusal at the first byte of a line of the file of this name
 abbrev pub refusal_at : List (List ℕ) → List ℕ → Code → ℕ → Refusal
-refusal_at names name code line = record { code = code; spot = record { file = number_of names name; line = line; col = 1 }; name = [] }
+refusal_at names name code line =
+    record { code = code; spot = record { file = number_of names name; line = line; col = 1 }; name = [] }

@@ -46,7 +46,9 @@ pub record Reads (check : Check) (shelf : Shelved) (texts : Texts) : Type 0 wher
 -- a file is too long; or one of the command's can't be read, to which the reading comes; or want of memory
 abbrev pub FailsToRead : Check → Shelved → SourcesFault → Type 0
 FailsToRead check shelf (told.Refused file refusal) =
-    IsAsBefore shelf.faults × (refusal ≡ refusal_at (numbered check) file TooLong 1) × ForSome shelf.files (λ held. IsTooLong check held file)
+    IsAsBefore shelf.faults × (refusal ≡ refusal_at (numbered check) file TooLong 1)
+    × ForSome shelf.files (λ held. IsTooLong check held file)
 FailsToRead check shelf (told.Unread name) =
-    HasRisen shelf.faults × IsNamed check name × ForSome shelf.bad (λ bad. bad ≡ name) × ForSome shelf.files (λ held. ComesTo check held name)
+    HasRisen shelf.faults × IsNamed check name × ForSome shelf.bad (λ bad. bad ≡ name)
+    × ForSome shelf.files (λ held. ComesTo check held name)
 FailsToRead check shelf told.NoMemory = ⊤

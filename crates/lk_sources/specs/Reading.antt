@@ -1,4 +1,5 @@
--- The reading of a command's files: that of --externs first, then each FILE in the order of the words. A FILE that is named twice is read twice, and counts twice.
+-- The reading of a command's files: that of --externs first, then each FILE in the order of the words. A FILE
+-- that is named twice is read twice, and counts twice.
 use Rattle.std.specs.Prelude.{ℕ, ◌≡◌, ◌-◌, ◌≤◌, ◌⊎◌, List, [], ◌∷◌, ◌++◌, length, Option, Some, None}
 use Rattle.lk_io.specs.Shelf.{Held, IsLonger}
 use Rattle.lk_words.specs.Words.{Check}
@@ -22,14 +23,17 @@ source name bytes = record { name = name; bytes = bytes }
 -- The files of these names, in order. Of so many bytes that they may have together, so many are left.
 pub data AreRead (held : Held) : ℕ → List (List ℕ) → List Source → ℕ → Type 0 where
   nothing : {most : ℕ} → AreRead held most [] [] most
-  next : {most left : ℕ} {name bytes : List ℕ} {names : List (List ℕ)} {sources : List Source} → held name ≡ Some bytes → length bytes ≤ most →
-      AreRead held (most - length bytes) names sources left → AreRead held most (name ∷ names) (source name bytes ∷ sources) left
+  next : {most left : ℕ} {name bytes : List ℕ} {names : List (List ℕ)} {sources : List Source} →
+      held name ≡ Some bytes → length bytes ≤ most → AreRead held (most - length bytes) names sources left →
+      AreRead held most (name ∷ names) (source name bytes ∷ sources) left
 
 -- This file is the first with which they pass that number. Each before it is there.
 pub data Passes (held : Held) : ℕ → List (List ℕ) → List ℕ → Type 0 where
-  here : {most : ℕ} {name : List ℕ} {names : List (List ℕ)} → IsLonger (held name) most → Passes held most (name ∷ names) name
-  behind : {most : ℕ} {name bytes other : List ℕ} {names : List (List ℕ)} → held name ≡ Some bytes → length bytes ≤ most →
-      Passes held (most - length bytes) names other → Passes held most (name ∷ names) other
+  here : {most : ℕ} {name : List ℕ} {names : List (List ℕ)} → IsLonger (held name) most →
+      Passes held most (name ∷ names) name
+  behind : {most : ℕ} {name bytes other : List ℕ} {names : List (List ℕ)} → held name ≡ Some bytes →
+      length bytes ≤ most → Passes held (most - length bytes) names other →
+      Passes held most (name ∷ names) other
 
 -- the name is one of these
 abbrev pub IsAmong : List (List ℕ) → List ℕ → Type 0
@@ -59,9 +63,13 @@ IsNamed check name = IsAmong (names_of check.externs) name ⊎ IsAmong check.fil
 -- the first file that is too long
 pub data IsTooLong (check : Check) (held : Held) (name : List ℕ) : Type 0 where
   long_externs : Passes held longest_externs (names_of check.externs) name → IsTooLong check held name
-  long_sources : (read : List Source) (left : ℕ) → AreRead held longest_externs (names_of check.externs) read left → Passes held longest_sources check.files name → IsTooLong check held name
+  long_sources : (read : List Source) (left : ℕ) →
+      AreRead held longest_externs (names_of check.externs) read left →
+      Passes held longest_sources check.files name → IsTooLong check held name
 
 -- the reading comes to this file
 pub data ComesTo (check : Check) (held : Held) (name : List ℕ) : Type 0 where
   at_externs : Reaches held longest_externs (names_of check.externs) name → ComesTo check held name
-  at_sources : (read : List Source) (left : ℕ) → AreRead held longest_externs (names_of check.externs) read left → Reaches held longest_sources check.files name → ComesTo check held name
+  at_sources : (read : List Source) (left : ℕ) →
+      AreRead held longest_externs (names_of check.externs) read left →
+      Reaches held longest_sources check.files name → ComesTo check held name

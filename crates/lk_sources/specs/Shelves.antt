@@ -21,4 +21,5 @@ pub record Shelved : Type 0 where
   pub faults : Count
 
 abbrev pub shelved : {F : Type 0} → (F → Option Held) → (F → Option (List ℕ)) → (F → ℕ) → F → F → Shelved
-shelved held bad faults old new = record { files = held old; bad = bad new; faults = record { before = faults old; now = faults new } }
+shelved held bad faults old new =
+    record { files = held old; bad = bad new; faults = record { before = faults old; now = faults new } }

@@ -11,11 +11,13 @@ use Rattle.lk_lex.specs.declared.token.Token.{Token}
 use Rattle.lk_sources.specs.Numbers.{number_of}
 use Rattle.lk_sources.specs.declared.reading.Source.{Source}
 
--- These sources split into these lists of tokens, one each. The names of files, among which each source's own stands from the first on, grow by those of the line marks.
+-- These sources split into these lists of tokens, one each. The names of files, among which each source's own
+-- stands from the first on, grow by those of the line marks.
 pub data AreSplit : List (List ℕ) → List Source → List (List Token) → List (List ℕ) → Type 0 where
   nothing : {names : List (List ℕ)} → AreSplit names [] [] names
-  next : {names middle last : List (List ℕ)} {s : Source} {rest : List Source} {tokens : List Token} {lists : List (List Token)} →
-      Splits names (start_of (number_of names s.name)) s.bytes tokens middle → AreSplit middle rest lists last → AreSplit names (s ∷ rest) (tokens ∷ lists) last
+  next : {names middle last : List (List ℕ)} {s : Source} {rest : List Source} {tokens : List Token}
+      {lists : List (List Token)} → Splits names (start_of (number_of names s.name)) s.bytes tokens middle →
+      AreSplit middle rest lists last → AreSplit names (s ∷ rest) (tokens ∷ lists) last
 
 -- tokens stand in some of the first files, of which there is one at least
 pub record AreFiled (files : ℕ) (tokens : List Token) : Type 0 where
@@ -25,13 +27,17 @@ pub record AreFiled (files : ℕ) (tokens : List Token) : Type 0 where
 -- the first of them of which the split stops, with that refusal
 pub data StopsIn : List (List ℕ) → List Source → Refusal → List (List ℕ) → Type 0 where
   here : {names last : List (List ℕ)} {s : Source} {rest : List Source} (code : Code) (spot : Spot) →
-      Stops names (start_of (number_of names s.name)) s.bytes code spot last → StopsIn names (s ∷ rest) (refusal code spot []) last
-  behind : {names middle last : List (List ℕ)} {s : Source} {rest : List Source} {tokens : List Token} {told : Refusal} →
-      Splits names (start_of (number_of names s.name)) s.bytes tokens middle → StopsIn middle rest told last → StopsIn names (s ∷ rest) told last
+      Stops names (start_of (number_of names s.name)) s.bytes code spot last →
+      StopsIn names (s ∷ rest) (refusal code spot []) last
+  behind : {names middle last : List (List ℕ)} {s : Source} {rest : List Source} {tokens : List Token}
+      {told : Refusal} → Splits names (start_of (number_of names s.name)) s.bytes tokens middle →
+      StopsIn middle rest told last → StopsIn names (s ∷ rest) told last
 
 -- the refusal of the first word among a source's tokens that is not supported
 abbrev pub word_in : Source → List Token → Option Refusal
-word_in s tokens = option_map (λ token. refusal UnsupportedWord token.spot (text_of s.bytes token)) (first_refused s.bytes tokens)
+word_in s tokens =
+    option_map (λ token. refusal UnsupportedWord token.spot (text_of s.bytes token))
+    (first_refused s.bytes tokens)
 
 -- the same of several sources
 abbrev pub first_word : List Source → List (List Token) → Option Refusal

@@ -10,12 +10,14 @@ use Rattle.lk_sources.specs.declared.reading.Source.{Source}
 -- the tokens of each source are its tree
 pub data AreTrees : List Source → List (List Token) → List Unit → Type 0 where
   nothing : AreTrees [] [] []
-  next : {s : Source} {rest : List Source} {tokens : List Token} {lists : List (List Token)} {unit : Unit} {units : List Unit} →
-      IsTree 200 s.bytes tokens unit → AreTrees rest lists units → AreTrees (s ∷ rest) (tokens ∷ lists) (unit ∷ units)
+  next : {s : Source} {rest : List Source} {tokens : List Token} {lists : List (List Token)} {unit : Unit}
+      {units : List Unit} → IsTree 200 s.bytes tokens unit → AreTrees rest lists units →
+      AreTrees (s ∷ rest) (tokens ∷ lists) (unit ∷ units)
 
 -- the first source whose tokens are none, with that refusal
 pub data HasNoTree : List Source → List (List Token) → Refusal → Type 0 where
-  here : {s : Source} {rest : List Source} {tokens : List Token} {lists : List (List Token)} {told : Refusal} →
-      IsRefusal 200 s.bytes tokens told → HasNoTree (s ∷ rest) (tokens ∷ lists) told
-  behind : {s : Source} {rest : List Source} {tokens : List Token} {lists : List (List Token)} {unit : Unit} {told : Refusal} →
-      IsTree 200 s.bytes tokens unit → HasNoTree rest lists told → HasNoTree (s ∷ rest) (tokens ∷ lists) told
+  here : {s : Source} {rest : List Source} {tokens : List Token} {lists : List (List Token)}
+      {told : Refusal} → IsRefusal 200 s.bytes tokens told → HasNoTree (s ∷ rest) (tokens ∷ lists) told
+  behind : {s : Source} {rest : List Source} {tokens : List Token} {lists : List (List Token)} {unit : Unit}
+      {told : Refusal} → IsTree 200 s.bytes tokens unit → HasNoTree rest lists told →
+      HasNoTree (s ∷ rest) (tokens ∷ lists) told

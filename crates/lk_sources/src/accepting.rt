@@ -95,9 +95,10 @@ fn bad_externs(
 
 /// The sources of a command, checked, where these are its files.
 ///
-/// They are accepted exactly where no refusal holds and memory is found. A refusal is the first that applies: a line of
-/// the externs file is neither empty nor a name; the split of a source stops; a word is not supported; a source has no
-/// tree; a tree has a fault. Of the sources to which it applies the first is told. As many are accepted as there are.
+/// They are accepted exactly where no refusal holds and memory is found. A refusal is the first that applies:
+/// a line of the externs file is neither empty nor a name; the split of a source stops; a word is not
+/// supported; a source has no tree; a tree has a fault. Of the sources to which it applies the first is told.
+/// As many are accepted as there are.
 pub fn accept(alloc: Global, texts: Texts) -> Result<Accepted, SourcesFault>
     requires { IsReadable texts }
     ensures checked { IfOk result AreChecked }

@@ -8,7 +8,8 @@ use crate::numbers::refusal_at;
 use lk_base::{Code, Files, Name, NoMemory, Refusal};
 use std::alloc::Global;
 
-/// Why the sources of a command make no program: they can't be read, or aren't accepted, or speak against one another.
+/// Why the sources of a command make no program: they can't be read, or aren't accepted,
+/// or speak against one another.
 #[derive(Drop)]
 pub enum SourcesFault {
     /// They are refused, at a place in this file.

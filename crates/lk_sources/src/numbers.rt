@@ -23,8 +23,8 @@ pub(crate) fn name_of(alloc: Global, name: &[u8]) -> Result<Name, NoMemory>
 /// So many names have numbers.
 const MOST_NAMES: usize = 2_147_483_647;
 
-/// The number of this name, which is put at the end where it is new. There are never so many names in a command that
-/// none is left for it.
+/// The number of this name, which is put at the end where it is new. There are never so many names in a
+/// command that none is left for it.
 pub(crate) fn put_name(alloc: Global, files: &mut Files, name: &[u8]) -> Result<u32, NoMemory>
     ensures number { IfOk result (λ number. number ≡ spec.number_of files.old name.now) }
     ensures within { IfOk result (λ number. number < length files.new) }

@@ -159,8 +159,8 @@ fn unread(alloc: Global, files: &mut Files, fault: ReadingFault) -> SourcesFault
     }
 }
 
-/// Reads the files of a command: that of `--externs` first, and then each FILE. It stops at the first that can't be read
-/// or that is too long.
+/// Reads the files of a command: that of `--externs` first, and then each FILE. It stops at the first that
+/// can't be read or that is too long.
 pub fn read<F: Shelf>(
     alloc: Global,
     check: &Check<'_>,

@@ -84,11 +84,11 @@ fn split_source(alloc: Global, source: &Source, files: &mut Files) -> Result<Spl
     Ok(split)
 }
 
-/// The tokens of each source. The names of the sources stand among the files; those of their line marks are put behind
-/// them, source by source.
+/// The tokens of each source. The names of the sources stand among the files; those of their line marks are
+/// put behind them, source by source.
 ///
-/// A refusal is for the first source of which the split stops; where there is none, for the first in which a word is
-/// not supported.
+/// A refusal is for the first source of which the split stops; where there is none, for the first in
+/// which a word is not supported.
 pub(crate) fn split_all(
     alloc: Global,
     sources: &[Source],

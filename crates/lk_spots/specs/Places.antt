@@ -1,5 +1,5 @@
--- A property of each place in an expression, a declarator or a specifier: of its own place, and of those of all nodes in it. Each family says it of one kind of node,
--- by the parts of its form.
+-- A property of each place in an expression, a declarator or a specifier: of its own place, and of those of
+-- all nodes in it. Each family says it of one kind of node, by the parts of its form.
 use Rattle.std.specs.Prelude.{◌≡◌, ℕ, ℤ, Bool, List, Option, Some}
 use Rattle.lk_base.specs.declared.kind.Kind.{Kind}
 use Rattle.lk_base.specs.declared.spot.Spot.{Spot}
@@ -32,16 +32,24 @@ abbrev pub IfThere : {A : Type 0} → (A → Type 0) → Option A → Type 0
 IfThere {A} Q part = (a : A) → part ≡ Some a → Q a
 
 abbrev pub ExprLayer : Type 0
-ExprLayer = ExprForm-F DeclaratorForm ExprForm MemberDeclarator Specifier Declarator Expr Item Member Parameter TypeName
+ExprLayer =
+    ExprForm-F DeclaratorForm ExprForm MemberDeclarator Specifier Declarator Expr Item Member
+    Parameter TypeName
 
 abbrev pub DeclaratorLayer : Type 0
-DeclaratorLayer = DeclaratorForm-F DeclaratorForm ExprForm MemberDeclarator Specifier Declarator Expr Item Member Parameter TypeName
+DeclaratorLayer =
+    DeclaratorForm-F DeclaratorForm ExprForm MemberDeclarator Specifier Declarator Expr Item Member
+    Parameter TypeName
 
 abbrev pub SpecifierLayer : Type 0
-SpecifierLayer = Specifier-F DeclaratorForm ExprForm MemberDeclarator Specifier Declarator Expr Item Member Parameter TypeName
+SpecifierLayer =
+    Specifier-F DeclaratorForm ExprForm MemberDeclarator Specifier Declarator Expr Item Member
+    Parameter TypeName
 
 abbrev pub FieldLayer : Type 0
-FieldLayer = MemberDeclarator-F DeclaratorForm ExprForm MemberDeclarator Specifier Declarator Expr Item Member Parameter TypeName
+FieldLayer =
+    MemberDeclarator-F DeclaratorForm ExprForm MemberDeclarator Specifier Declarator Expr Item Member
+    Parameter TypeName
 
 module _ (P : Spot → Type 0) where
   mutual
@@ -49,20 +57,32 @@ module _ (P : Spot → Type 0) where
       expr : {e : Expr} → P e.spot → ExprFormSpots (out-ExprForm e.form) → ExprSpots e
 
     pub data ExprFormSpots : ExprLayer → Type 0 where
-      comma : {left right : Expr} → ExprSpots left → ExprSpots right → ExprFormSpots (ExprForm-F.Comma left right)
-      assign : {op : AssignOperator} {left right : Expr} → ExprSpots left → ExprSpots right → ExprFormSpots (ExprForm-F.Assign op left right)
-      choice : {condition yes no : Expr} → ExprSpots condition → ExprSpots yes → ExprSpots no → ExprFormSpots (ExprForm-F.Choice condition yes no)
-      binary : {op : BinaryOperator} {left right : Expr} → ExprSpots left → ExprSpots right → ExprFormSpots (ExprForm-F.Binary op left right)
-      cast : {name : TypeName} {operand : Expr} → TypeNameSpots name → ExprSpots operand → ExprFormSpots (ExprForm-F.Cast name operand)
-      pre : {op : StepOperator} {operand : Expr} → ExprSpots operand → ExprFormSpots (ExprForm-F.Pre op operand)
-      prefix : {op : PrefixOperator} {operand : Expr} → ExprSpots operand → ExprFormSpots (ExprForm-F.Prefix op operand)
+      comma : {left right : Expr} → ExprSpots left → ExprSpots right →
+          ExprFormSpots (ExprForm-F.Comma left right)
+      assign : {op : AssignOperator} {left right : Expr} → ExprSpots left → ExprSpots right →
+          ExprFormSpots (ExprForm-F.Assign op left right)
+      choice : {condition yes no : Expr} → ExprSpots condition → ExprSpots yes → ExprSpots no →
+          ExprFormSpots (ExprForm-F.Choice condition yes no)
+      binary : {op : BinaryOperator} {left right : Expr} → ExprSpots left → ExprSpots right →
+          ExprFormSpots (ExprForm-F.Binary op left right)
+      cast : {name : TypeName} {operand : Expr} → TypeNameSpots name → ExprSpots operand →
+          ExprFormSpots (ExprForm-F.Cast name operand)
+      pre : {op : StepOperator} {operand : Expr} → ExprSpots operand →
+          ExprFormSpots (ExprForm-F.Pre op operand)
+      prefix : {op : PrefixOperator} {operand : Expr} → ExprSpots operand →
+          ExprFormSpots (ExprForm-F.Prefix op operand)
       sizeof_expr : {operand : Expr} → ExprSpots operand → ExprFormSpots (ExprForm-F.SizeofExpr operand)
       sizeof_type : {name : TypeName} → TypeNameSpots name → ExprFormSpots (ExprForm-F.SizeofType name)
-      index : {array inner : Expr} → ExprSpots array → ExprSpots inner → ExprFormSpots (ExprForm-F.Index array inner)
-      call : {function : Expr} {arguments : List Expr} → ExprSpots function → ((a : Expr) → IsIn a arguments → ExprSpots a) → ExprFormSpots (ExprForm-F.Call function arguments)
-      member : {object : Expr} {name : List ℕ} → ExprSpots object → ExprFormSpots (ExprForm-F.Member object name)
-      arrow : {pointer : Expr} {name : List ℕ} → ExprSpots pointer → ExprFormSpots (ExprForm-F.Arrow pointer name)
-      post : {op : StepOperator} {operand : Expr} → ExprSpots operand → ExprFormSpots (ExprForm-F.Post op operand)
+      index : {array inner : Expr} → ExprSpots array → ExprSpots inner →
+          ExprFormSpots (ExprForm-F.Index array inner)
+      call : {function : Expr} {arguments : List Expr} → ExprSpots function →
+          ((a : Expr) → IsIn a arguments → ExprSpots a) → ExprFormSpots (ExprForm-F.Call function arguments)
+      member : {object : Expr} {name : List ℕ} → ExprSpots object →
+          ExprFormSpots (ExprForm-F.Member object name)
+      arrow : {pointer : Expr} {name : List ℕ} → ExprSpots pointer →
+          ExprFormSpots (ExprForm-F.Arrow pointer name)
+      post : {op : StepOperator} {operand : Expr} → ExprSpots operand →
+          ExprFormSpots (ExprForm-F.Post op operand)
       word : {name : List ℕ} → ExprFormSpots (ExprForm-F.Word name)
       number : {kind : Kind} {value : ℕ} → ExprFormSpots (ExprForm-F.Number kind value)
       char : {value : ℤ} → ExprFormSpots (ExprForm-F.Char value)
@@ -70,7 +90,9 @@ module _ (P : Spot → Type 0) where
       paren : {inner : Expr} → ExprSpots inner → ExprFormSpots (ExprForm-F.Paren inner)
 
     pub data TypeNameSpots : TypeName → Type 0 where
-      type_name : {n : TypeName} → P (out-TypeName n).spot → ((a : Specifier) → IsIn a (out-TypeName n).specifiers → SpecifierSpots a) → ((a : Declarator) → (out-TypeName n).declarator ≡ Some a → DeclaratorSpots a) → TypeNameSpots n
+      type_name : {n : TypeName} → P (out-TypeName n).spot →
+          ((a : Specifier) → IsIn a (out-TypeName n).specifiers → SpecifierSpots a) →
+          ((a : Declarator) → (out-TypeName n).declarator ≡ Some a → DeclaratorSpots a) → TypeNameSpots n
 
     pub data SpecifierSpots : Specifier → Type 0 where
       specifier : {s : Specifier} → SpecifierFormSpots (out-Specifier s) → SpecifierSpots s
@@ -80,14 +102,18 @@ module _ (P : Spot → Type 0) where
       inline : SpecifierFormSpots Specifier-F.Inline
       qualifier : {word : Qualifier} → SpecifierFormSpots (Specifier-F.Qualifier word)
       type : {word : TypeWord} → SpecifierFormSpots (Specifier-F.Type word)
-      struct : {tag : Option (List ℕ)} {members : List Member} → ((a : Member) → IsIn a members → MemberSpots a) → SpecifierFormSpots (Specifier-F.Struct tag members)
+      struct : {tag : Option (List ℕ)} {members : List Member} →
+          ((a : Member) → IsIn a members → MemberSpots a) →
+          SpecifierFormSpots (Specifier-F.Struct tag members)
       struct_tag : {tag : List ℕ} → SpecifierFormSpots (Specifier-F.StructTag tag)
-      enum : {tag : Option (List ℕ)} {items : List Item} → ((a : Item) → IsIn a items → ItemSpots a) → SpecifierFormSpots (Specifier-F.Enum tag items)
+      enum : {tag : Option (List ℕ)} {items : List Item} → ((a : Item) → IsIn a items → ItemSpots a) →
+          SpecifierFormSpots (Specifier-F.Enum tag items)
       enum_tag : {tag : List ℕ} → SpecifierFormSpots (Specifier-F.EnumTag tag)
       typedef : {name : List ℕ} → SpecifierFormSpots (Specifier-F.Typedef name)
 
     pub data MemberSpots : Member → Type 0 where
-      member_one : {m : Member} → P m.spot → ((a : Specifier) → IsIn a m.specifiers → SpecifierSpots a) → ((a : MemberDeclarator) → IsIn a m.declarators → FieldSpots a) → MemberSpots m
+      member_one : {m : Member} → P m.spot → ((a : Specifier) → IsIn a m.specifiers → SpecifierSpots a) →
+          ((a : MemberDeclarator) → IsIn a m.declarators → FieldSpots a) → MemberSpots m
 
     -- a declarator of a member
     pub data FieldSpots : MemberDeclarator → Type 0 where
@@ -95,22 +121,35 @@ module _ (P : Spot → Type 0) where
 
     pub data FieldFormSpots : FieldLayer → Type 0 where
       plain : {inner : Declarator} → DeclaratorSpots inner → FieldFormSpots (MemberDeclarator-F.Plain inner)
-      width : {inner : Declarator} {bits : Expr} → DeclaratorSpots inner → ExprSpots bits → FieldFormSpots (MemberDeclarator-F.Field inner bits)
+      width : {inner : Declarator} {bits : Expr} → DeclaratorSpots inner → ExprSpots bits →
+          FieldFormSpots (MemberDeclarator-F.Field inner bits)
       unnamed : {bits : Expr} → ExprSpots bits → FieldFormSpots (MemberDeclarator-F.Unnamed bits)
 
     pub data ItemSpots : Item → Type 0 where
-      item : {i : Item} → P (out-Item i).spot → ((a : Expr) → (out-Item i).value ≡ Some a → ExprSpots a) → ItemSpots i
+      item : {i : Item} → P (out-Item i).spot →
+          ((a : Expr) → (out-Item i).value ≡ Some a → ExprSpots a) → ItemSpots i
 
     pub data DeclaratorSpots : Declarator → Type 0 where
-      declarator : {d : Declarator} → P d.spot → DeclaratorFormSpots (out-DeclaratorForm d.form) → DeclaratorSpots d
+      declarator : {d : Declarator} → P d.spot →
+          DeclaratorFormSpots (out-DeclaratorForm d.form) → DeclaratorSpots d
 
     pub data DeclaratorFormSpots : DeclaratorLayer → Type 0 where
-      star : {qualifiers : List Qualifier} {inner : Option Declarator} → ((a : Declarator) → inner ≡ Some a → DeclaratorSpots a) → DeclaratorFormSpots (DeclaratorForm-F.Star qualifiers inner)
+      star : {qualifiers : List Qualifier} {inner : Option Declarator} →
+          ((a : Declarator) → inner ≡ Some a → DeclaratorSpots a) →
+          DeclaratorFormSpots (DeclaratorForm-F.Star qualifiers inner)
       named : {name : List ℕ} → DeclaratorFormSpots (DeclaratorForm-F.Named name)
-      group : {inner : Declarator} → DeclaratorSpots inner → DeclaratorFormSpots (DeclaratorForm-F.Group inner)
-      array : {inner : Option Declarator} {size : Option Expr} → ((a : Declarator) → inner ≡ Some a → DeclaratorSpots a) → ((a : Expr) → size ≡ Some a → ExprSpots a) → DeclaratorFormSpots (DeclaratorForm-F.ArrayOf inner size)
-      function : {inner : Option Declarator} {parameters : List Parameter} {dots : Bool} → ((a : Declarator) → inner ≡ Some a → DeclaratorSpots a) → ((a : Parameter) → IsIn a parameters → ParameterSpots a)
-          → DeclaratorFormSpots (DeclaratorForm-F.FunctionOf inner parameters dots)
+      group : {inner : Declarator} → DeclaratorSpots inner →
+          DeclaratorFormSpots (DeclaratorForm-F.Group inner)
+      array : {inner : Option Declarator} {size : Option Expr} →
+          ((a : Declarator) → inner ≡ Some a → DeclaratorSpots a) →
+          ((a : Expr) → size ≡ Some a → ExprSpots a) →
+          DeclaratorFormSpots (DeclaratorForm-F.ArrayOf inner size)
+      function : {inner : Option Declarator} {parameters : List Parameter} {dots : Bool} →
+          ((a : Declarator) → inner ≡ Some a → DeclaratorSpots a) →
+          ((a : Parameter) → IsIn a parameters → ParameterSpots a) →
+          DeclaratorFormSpots (DeclaratorForm-F.FunctionOf inner parameters dots)
 
     pub data ParameterSpots : Parameter → Type 0 where
-      parameter : {p : Parameter} → P (out-Parameter p).spot → ((a : Specifier) → IsIn a (out-Parameter p).specifiers → SpecifierSpots a) → ((a : Declarator) → (out-Parameter p).declarator ≡ Some a → DeclaratorSpots a) → ParameterSpots p
+      parameter : {p : Parameter} → P (out-Parameter p).spot →
+          ((a : Specifier) → IsIn a (out-Parameter p).specifiers → SpecifierSpots a) →
+          ((a : Declarator) → (out-Parameter p).declarator ≡ Some a → DeclaratorSpots a) → ParameterSpots p

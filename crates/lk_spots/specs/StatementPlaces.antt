@@ -37,7 +37,8 @@ module _ (P : Spot → Type 0) where
 
     pub data InitFormSpots : Init-F Init Entry InitList → Type 0 where
       value : {e : Expr} → ExprSpots P e → InitFormSpots (Init-F.Expr e)
-      list : {node : InitList} → P (out-InitList node).spot → ((a : Entry) → IsIn a (out-InitList node).entries → EntrySpots a) → InitFormSpots (Init-F.List node)
+      list : {node : InitList} → P (out-InitList node).spot →
+          ((a : Entry) → IsIn a (out-InitList node).entries → EntrySpots a) → InitFormSpots (Init-F.List node)
 
     pub data EntrySpots : Entry → Type 0 where
       entry : {e : Entry} → Each DesignatorSpots e.designators → InitSpots e.init → EntrySpots e
@@ -63,16 +64,23 @@ module _ (P : Spot → Type 0) where
 
     pub data StmtFormSpots : StmtForm-F BlockItem StmtForm Stmt → Type 0 where
       label : {name : List ℕ} {inner : Stmt} → StmtSpots inner → StmtFormSpots (StmtForm-F.Label name inner)
-      case : {value : Expr} {inner : Stmt} → ExprSpots P value → StmtSpots inner → StmtFormSpots (StmtForm-F.Case value inner)
+      case : {value : Expr} {inner : Stmt} → ExprSpots P value → StmtSpots inner →
+          StmtFormSpots (StmtForm-F.Case value inner)
       default : {inner : Stmt} → StmtSpots inner → StmtFormSpots (StmtForm-F.Default inner)
-      block : {items : List BlockItem} → ((a : BlockItem) → IsIn a items → BlockItemSpots a) → StmtFormSpots (StmtForm-F.Block items)
+      block : {items : List BlockItem} → ((a : BlockItem) → IsIn a items → BlockItemSpots a) →
+          StmtFormSpots (StmtForm-F.Block items)
       do_expr : {value : Option Expr} → IfThere (ExprSpots P) value → StmtFormSpots (StmtForm-F.Do value)
-      if_else : {value : Expr} {yes : Stmt} {no : Option Stmt} → ExprSpots P value → StmtSpots yes → ((a : Stmt) → no ≡ Some a → StmtSpots a) → StmtFormSpots (StmtForm-F.If value yes no)
-      switch : {value : Expr} {inner : Stmt} → ExprSpots P value → StmtSpots inner → StmtFormSpots (StmtForm-F.Switch value inner)
-      while : {value : Expr} {inner : Stmt} → ExprSpots P value → StmtSpots inner → StmtFormSpots (StmtForm-F.While value inner)
-      until : {value : Expr} {inner : Stmt} → StmtSpots inner → ExprSpots P value → StmtFormSpots (StmtForm-F.Until inner value)
-      for : {start : ForFirst} {value step : Option Expr} {inner : Stmt} → FirstSpots start → IfThere (ExprSpots P) value → IfThere (ExprSpots P) step → StmtSpots inner
-          → StmtFormSpots (StmtForm-F.For start value step inner)
+      if_else : {value : Expr} {yes : Stmt} {no : Option Stmt} → ExprSpots P value → StmtSpots yes →
+          ((a : Stmt) → no ≡ Some a → StmtSpots a) → StmtFormSpots (StmtForm-F.If value yes no)
+      switch : {value : Expr} {inner : Stmt} → ExprSpots P value → StmtSpots inner →
+          StmtFormSpots (StmtForm-F.Switch value inner)
+      while : {value : Expr} {inner : Stmt} → ExprSpots P value → StmtSpots inner →
+          StmtFormSpots (StmtForm-F.While value inner)
+      until : {value : Expr} {inner : Stmt} → StmtSpots inner → ExprSpots P value →
+          StmtFormSpots (StmtForm-F.Until inner value)
+      for : {start : ForFirst} {value step : Option Expr} {inner : Stmt} → FirstSpots start →
+          IfThere (ExprSpots P) value → IfThere (ExprSpots P) step → StmtSpots inner →
+          StmtFormSpots (StmtForm-F.For start value step inner)
       goto : {name : List ℕ} → StmtFormSpots (StmtForm-F.Goto name)
       continue : StmtFormSpots StmtForm-F.Continue
       break : StmtFormSpots StmtForm-F.Break

@@ -1,4 +1,5 @@
--- What is reported of sources that are accepted, and why others of them make no program: by their typed trees, the program into which these link, its points, and the verdicts of these.
+-- What is reported of sources that are accepted, and why others of them make no program: by their typed
+-- trees, the program into which these link, its points, and the verdicts of these.
 use Rattle.std.specs.Prelude.{ℕ, ◌≡◌, List, [], Some, slice_get}
 use Rattle.lk_base.specs.declared.code.Code.{Code}
 use Rattle.lk_base.specs.declared.code.Code.TheVariants.{TooManyPoints, TooManyLabels}
@@ -25,7 +26,8 @@ IsWhole sources whole = IsProgram sources.externs.items (units_of sources.source
 -- more labels than are analysed: its locations and lock places alone are more, or those of its points
 pub data HasTooManyLabels (whole : Whole) : Type 0 where
   of_places : HasMorePlaces whole 65536 → HasTooManyLabels whole
-  of_points : (points : Program) → IsMadeOf whole points → IsLowered points → HasMoreLabels points 65536 → HasTooManyLabels whole
+  of_points : (points : Program) → IsMadeOf whole points → IsLowered points → HasMoreLabels points 65536 →
+      HasTooManyLabels whole
 
 -- the text is the report of the verdicts that the points of the program have
 pub record IsAnalysed (sources : code.Accepted) (text : List ℕ) (verdicts : List Verdict) : Type 0 where
@@ -47,11 +49,15 @@ pub record IsAtMain (whole : Whole) (code : Code) (refusal : Refusal) : Type 0 w
   pub place : spot_of_main whole ≡ Some refusal.spot
   pub no_name : refusal.name ≡ []
 
--- Why they make no program: their typed trees speak against one another, or are over a bound; that is told at main.
+-- Why they make no program: their typed trees speak against one another, or are over a
+-- bound; that is told at main.
 pub data IsNoProgram (sources : code.Accepted) (refusal : Refusal) : Type 0 where
-  unlinked : IsUnlinked sources.externs.items (units_of sources.sources.items) refusal → IsNoProgram sources refusal
-  too_many_points : (whole : Whole) → IsWhole sources whole → HasMorePoints whole 65536 → IsAtMain whole TooManyPoints refusal → IsNoProgram sources refusal
-  too_many_labels : (whole : Whole) → IsWhole sources whole → (HasMorePoints whole 65536 → ⊥) → HasTooManyLabels whole → IsAtMain whole TooManyLabels refusal → IsNoProgram sources refusal
+  unlinked : IsUnlinked sources.externs.items (units_of sources.sources.items) refusal →
+      IsNoProgram sources refusal
+  too_many_points : (whole : Whole) → IsWhole sources whole → HasMorePoints whole 65536 →
+      IsAtMain whole TooManyPoints refusal → IsNoProgram sources refusal
+  too_many_labels : (whole : Whole) → IsWhole sources whole → (HasMorePoints whole 65536 → ⊥) →
+      HasTooManyLabels whole → IsAtMain whole TooManyLabels refusal → IsNoProgram sources refusal
 
 -- with the name of the file in which its place stands
 pub record IsNoProgramIn (sources : code.Accepted) (file : List ℕ) (refusal : Refusal) : Type 0 where

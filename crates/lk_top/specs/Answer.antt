@@ -35,16 +35,20 @@ use Rattle.lk_top.specs.declared.answer.Answer.TheVariants as answer
 -- the line of a refusal, for the file of its place
 abbrev pub Tells : List (List ℕ) → Refusal → Answer → Type 0
 Tells files refusal (answer.Report text status) = ⊥
-Tells files refusal (answer.Refusal line) = (file : List ℕ) × (slice_get files refusal.spot.file ≡ Some file) × (line.items ≡ refused_line file refusal)
+Tells files refusal (answer.Refusal line) =
+    (file : List ℕ) × (slice_get files refusal.spot.file ≡ Some file)
+    × (line.items ≡ refused_line file refusal)
 Tells files refusal (answer.Unread line) = ⊥
 
 -- of one with this code at main
 abbrev pub TellsAtMain : List (List ℕ) → Whole → Code → Answer → Type 0
-TellsAtMain files whole code shown = (refusal : Refusal) × IsAtMain whole code refusal × Tells files refusal shown
+TellsAtMain files whole code shown =
+    (refusal : Refusal) × IsAtMain whole code refusal × Tells files refusal shown
 
 -- the report of verdicts
 abbrev pub ShowsVerdicts : List (List ℕ) → Points → List Verdict → Answer → Type 0
-ShowsVerdicts files points verdicts (answer.Report text status) = (text.items ≡ report_text files points verdicts) × (status ≡ status_of verdicts)
+ShowsVerdicts files points verdicts (answer.Report text status) =
+    (text.items ≡ report_text files points verdicts) × (status ≡ status_of verdicts)
 ShowsVerdicts files points verdicts (answer.Refusal line) = ⊥
 ShowsVerdicts files points verdicts (answer.Unread line) = ⊥
 
@@ -55,20 +59,30 @@ abbrev pub HasMainIn : List (List ℕ) → Whole → Type 0
 HasMainIn files whole = (spot : Spot) × (spot_of_main whole ≡ Some spot) × (spot.file < length files)
 
 -- what points come to: they have their verdicts, or too many labels
-pub data JudgesPoints (files : List (List ℕ)) (whole : Whole) (points : Points) (shown : Answer) : Type 0 where
-  shows : (verdicts : List Verdict) → HasVerdicts points verdicts → (HasMoreLabels points 65536 → ⊥) → HasNoOtherRaces points verdicts → ShowsVerdicts files points verdicts shown → JudgesPoints files whole points shown
-  too_many : HasMoreLabels points 65536 → TellsAtMain files whole TooManyLabels shown → JudgesPoints files whole points shown
+pub data JudgesPoints (files : List (List ℕ)) (whole : Whole) (points : Points)
+    (shown : Answer) : Type 0 where
+  shows : (verdicts : List Verdict) → HasVerdicts points verdicts → (HasMoreLabels points 65536 → ⊥) →
+      HasNoOtherRaces points verdicts → ShowsVerdicts files points verdicts shown →
+      JudgesPoints files whole points shown
+  too_many : HasMoreLabels points 65536 → TellsAtMain files whole TooManyLabels shown →
+      JudgesPoints files whole points shown
 
 -- what a program comes to: it has points, or too many of them, or of their places
 pub data JudgesWhole (files : List (List ℕ)) (whole : Whole) (shown : Answer) : Type 0 where
-  has_points : (points : Points) → (HasMorePoints whole 65536 → ⊥) → IsMadeOf whole points → IsLowered points → JudgesPoints files whole points shown → JudgesWhole files whole shown
-  too_many_points : HasMorePoints whole 65536 → TellsAtMain files whole TooManyPoints shown → JudgesWhole files whole shown
-  too_many_places : (HasMorePoints whole 65536 → ⊥) → HasMorePlaces whole 65536 → TellsAtMain files whole TooManyLabels shown → JudgesWhole files whole shown
+  has_points : (points : Points) → (HasMorePoints whole 65536 → ⊥) → IsMadeOf whole points →
+      IsLowered points → JudgesPoints files whole points shown → JudgesWhole files whole shown
+  too_many_points : HasMorePoints whole 65536 → TellsAtMain files whole TooManyPoints shown →
+      JudgesWhole files whole shown
+  too_many_places : (HasMorePoints whole 65536 → ⊥) → HasMorePlaces whole 65536 →
+      TellsAtMain files whole TooManyLabels shown → JudgesWhole files whole shown
 
 -- the report of sources that are accepted, or the line of why they make no program
 abbrev pub Analyses : code.Accepted → Answer → Type 0
-Analyses sources (answer.Report text status) = (verdicts : List Verdict) × IsAnalysed sources text.items verdicts × (status ≡ status_of verdicts)
-Analyses sources (answer.Refusal line) = (file : List ℕ) × (refusal : Refusal) × IsNoProgramIn sources file refusal × (line.items ≡ refused_line file refusal)
+Analyses sources (answer.Report text status) =
+    (verdicts : List Verdict) × IsAnalysed sources text.items verdicts × (status ≡ status_of verdicts)
+Analyses sources (answer.Refusal line) =
+    (file : List ℕ) × (refusal : Refusal) × IsNoProgramIn sources file refusal
+    × (line.items ≡ refused_line file refusal)
 Analyses sources (answer.Unread line) = ⊥
 
 -- the line of why files are not read or not accepted; for want of memory there is none
@@ -84,17 +98,24 @@ ShowsFault fault.NoMemory shown = ⊥
 -- ---- files that are read, where these are the names of files so far
 
 abbrev pub Judges : List (List ℕ) → List Source → List Source → Answer → Type 0
-Judges names externs sources (answer.Report text status) = (is_report status ≡ true) × IsReport (Becomes names externs sources) text.items status
+Judges names externs sources (answer.Report text status) =
+    (is_report status ≡ true) × IsReport (Becomes names externs sources) text.items status
 Judges names externs sources (answer.Refusal line) =
-    (file : List ℕ) × (refusal : Refusal) × (line.items ≡ refused_line file refusal) × IsRefusal (Becomes names externs sources) file refusal
+    (file : List ℕ) × (refusal : Refusal) × (line.items ≡ refused_line file refusal)
+    × IsRefusal (Becomes names externs sources) file refusal
 Judges names externs sources (answer.Unread line) = ⊥
 
 -- ---- a command over a shelf
 
 abbrev pub Answers : Check → Shelved → Answer → Type 0
 Answers check shelf (answer.Report text status) =
-    IsAsBefore shelf.faults × (is_report status ≡ true) × ForSome shelf.files (λ held. IsReport (Follows check held) text.items status)
+    IsAsBefore shelf.faults × (is_report status ≡ true)
+    × ForSome shelf.files (λ held. IsReport (Follows check held) text.items status)
 Answers check shelf (answer.Refusal line) =
-    IsAsBefore shelf.faults × ((file : List ℕ) × (refusal : Refusal) × (line.items ≡ refused_line file refusal) × ForSome shelf.files (λ held. IsRefusal (Follows check held) file refusal))
+    IsAsBefore shelf.faults × ((file : List ℕ) × (refusal : Refusal)
+    × (line.items ≡ refused_line file refusal)
+    × ForSome shelf.files (λ held. IsRefusal (Follows check held) file refusal))
 Answers check shelf (answer.Unread line) =
-    HasRisen shelf.faults × ((name : List ℕ) × reading.IsNamed check name × ForSome shelf.bad (λ told. told ≡ name) × ForSome shelf.files (λ held. reading.ComesTo check held name) × (line.items ≡ unread_line name))
+    HasRisen shelf.faults × ((name : List ℕ) × reading.IsNamed check name
+    × ForSome shelf.bad (λ told. told ≡ name)
+    × ForSome shelf.files (λ held. reading.ComesTo check held name) × (line.items ≡ unread_line name))

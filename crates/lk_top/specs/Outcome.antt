@@ -20,18 +20,24 @@ pub data Outcome : Type 0 where
 
 -- what files that are read come to, where these are the names of files so far
 pub data Becomes (names : List (List ℕ)) (externs sources : List Source) : Outcome → Type 0 where
-  refused : (file : List ℕ) (refusal : Refusal) → IsRefused names externs sources file refusal → Becomes names externs sources (Refused file refusal)
-  accepted : (result : code.Accepted) → IsAccepted names externs sources result → Becomes names externs sources (Accepted result)
+  refused : (file : List ℕ) (refusal : Refusal) → IsRefused names externs sources file refusal →
+      Becomes names externs sources (Refused file refusal)
+  accepted : (result : code.Accepted) → IsAccepted names externs sources result →
+      Becomes names externs sources (Accepted result)
 
 -- ---- what a command comes to
 
 -- over the files that are held: a file is not there, or is too long; else what the files become
 pub data Follows (check : Check) (held : Held) : Outcome → Type 0 where
-  missing : (name : List ℕ) → reading.ComesTo check held name → held name ≡ None → Follows check held (Missing name)
-  too_long : (file : List ℕ) → reading.IsTooLong check held file → Follows check held (Refused file (refusal_at (numbered check) file TooLong 1))
-  read : (externs sources : List Source) (outcome : Outcome) → reading.IsRead check held externs sources → Becomes (numbered check) externs sources outcome → Follows check held outcome
+  missing : (name : List ℕ) → reading.ComesTo check held name → held name ≡ None →
+      Follows check held (Missing name)
+  too_long : (file : List ℕ) → reading.IsTooLong check held file →
+      Follows check held (Refused file (refusal_at (numbered check) file TooLong 1))
+  read : (externs sources : List Source) (outcome : Outcome) → reading.IsRead check held externs sources →
+      Becomes (numbered check) externs sources outcome → Follows check held outcome
 
 -- what words come to over these files
 pub data ComesTo (words : List (List ℕ)) (held : Held) : Outcome → Type 0 where
   no_command : command words ≡ None → ComesTo words held Usage
-  checks : (check : Check) (outcome : Outcome) → command words ≡ Some check → Follows check held outcome → ComesTo words held outcome
+  checks : (check : Check) (outcome : Outcome) → command words ≡ Some check → Follows check held outcome →
+      ComesTo words held outcome

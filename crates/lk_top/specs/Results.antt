@@ -44,7 +44,9 @@ pub record IsReport (Gives : Outcome → Type 0) (text : List ℕ) (ends : Statu
   pub analysed : IsAnalysed sources text verdicts
   pub status : ends ≡ status_of verdicts
 
--- a refusal, with the name of the file in which its place stands: of sources, or of the program that accepted sources make
+-- a refusal, with the name of the file in which its place stands: of sources, or of the
+-- program that accepted sources make
 pub data IsRefusal (Gives : Outcome → Type 0) (file : List ℕ) (refusal : Refusal) : Type 0 where
   of_sources : Gives (Refused file refusal) → IsRefusal Gives file refusal
-  of_program : (sources : code.Accepted) → Gives (Accepted sources) → IsNoProgramIn sources file refusal → IsRefusal Gives file refusal
+  of_program : (sources : code.Accepted) → Gives (Accepted sources) → IsNoProgramIn sources file refusal →
+      IsRefusal Gives file refusal

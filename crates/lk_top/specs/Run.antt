@@ -55,7 +55,8 @@ pub record Refuses (words : List (List ℕ)) (held : Held) (err : Sunk) : Type 0
   pub is : IsRefusal (ComesTo words held) file refusal
   pub line : Got err (refused_line file refusal)
 
--- A file of the command can't be read: the shelf's count rose, a told bad name is that file's, the reading of told files comes to it, and the error output has the line with its name.
+-- A file of the command can't be read: the shelf's count rose, a told bad name is that file's, the reading of
+-- told files comes to it, and the error output has the line with its name.
 pub record Misses (words : List (List ℕ)) (shelf : Shelved) (err : Sunk) : Type 0 where
   pub check : Check
   pub command : command words ≡ Some check
@@ -69,20 +70,26 @@ pub record Misses (words : List (List ℕ)) (shelf : Shelved) (err : Sunk) : Typ
 -- the lines that the error output may get where the output did not fail
 pub data Line (words : List (List ℕ)) (shelf : Shelved) : List ℕ → Type 0 where
   usage : command words ≡ None → Line words shelf usage_line
-  refused : (file : List ℕ) (refusal : Refusal) → ForSome shelf.files (λ held. IsRefusal (ComesTo words held) file refusal) → Line words shelf (refused_line file refusal)
-  unread : (check : Check) (name : List ℕ) → command words ≡ Some check → reading.IsNamed check name → HasRisen shelf.faults → Line words shelf (unread_line name)
+  refused : (file : List ℕ) (refusal : Refusal) →
+      ForSome shelf.files (λ held. IsRefusal (ComesTo words held) file refusal) →
+      Line words shelf (refused_line file refusal)
+  unread : (check : Check) (name : List ℕ) → command words ≡ Some check → reading.IsNamed check name →
+      HasRisen shelf.faults → Line words shelf (unread_line name)
   no_memory : Line words shelf no_memory_line
 
 -- The output got a front of the report, or nothing.
 abbrev pub GotReportFront : List (List ℕ) → Option Held → Sunk → Type 0
-GotReportFront words files out = GotNothing out ⊎ ForSome files (λ held. (text : List ℕ) × (ends : Status) × IsReport (ComesTo words held) text ends × GotFront out text)
+GotReportFront words files out =
+    GotNothing out ⊎ ForSome files
+    (λ held. (text : List ℕ) × (ends : Status) × IsReport (ComesTo words held) text ends × GotFront out text)
 
 -- The line of which the error output got a front is that of failed output only where the output's count
 -- rose, and another only where it is as before.
 pub record FailedLine (words : List (List ℕ)) (shelf : Shelved) (out err : Sunk) : Type 0 where
   pub line : List ℕ
   pub front : GotFront err line
-  pub which : ((line ≡ unwritten_line) × HasRisen out.faults) ⊎ (Line words shelf line × IsAsBefore out.faults)
+  pub which : ((line ≡ unwritten_line) × HasRisen out.faults)
+      ⊎ (Line words shelf line × IsAsBefore out.faults)
 
 -- What failed writing leaves.
 pub record Fails (words : List (List ℕ)) (shelf : Shelved) (out err : Sunk) : Type 0 where
@@ -98,17 +105,21 @@ IsOrNoMemory ends wanted = (ends ≡ wanted) ⊎ (ends ≡ status.NoMemory)
 
 -- a refusal of the sources is told, but for want of memory
 abbrev pub AlwaysRefuses : List (List ℕ) → Held → Status → Type 0
-AlwaysRefuses words held ends = (file : List ℕ) (refusal : Refusal) → ComesTo words held (Refused file refusal) → IsOrNoMemory ends status.Refused
+AlwaysRefuses words held ends = (file : List ℕ) (refusal : Refusal) →
+    ComesTo words held (Refused file refusal) → IsOrNoMemory ends status.Refused
 
--- Sources of the subset are reported, but for want of memory: they are accepted, and nothing refuses the program that they make.
+-- Sources of the subset are reported, but for want of memory: they are accepted, and nothing
+-- refuses the program that they make.
 abbrev pub AlwaysReports : List (List ℕ) → Held → Status → Type 0
 AlwaysReports words held ends =
-    (sources : code.Accepted) → ComesTo words held (Accepted sources) → ((file : List ℕ) (refusal : Refusal) → IsRefusal (ComesTo words held) file refusal → ⊥) →
+    (sources : code.Accepted) → ComesTo words held (Accepted sources) →
+    ((file : List ℕ) (refusal : Refusal) → IsRefusal (ComesTo words held) file refusal → ⊥) →
     (is_report ends ≡ true) ⊎ (ends ≡ status.NoMemory)
 
 -- sources that are accepted are reported or refused, but for want of memory
 abbrev pub AlwaysAnswers : List (List ℕ) → Held → Status → Type 0
-AlwaysAnswers words held ends = (sources : code.Accepted) → ComesTo words held (Accepted sources) → (is_report ends ≡ true) ⊎ IsOrNoMemory ends status.Refused
+AlwaysAnswers words held ends = (sources : code.Accepted) → ComesTo words held (Accepted sources) →
+    (is_report ends ≡ true) ⊎ IsOrNoMemory ends status.Refused
 
 -- the output is never written to
 abbrev pub leaves_output : Status → Bool

@@ -57,8 +57,8 @@ fn told(
     Ok(Answer::Report { text, status })
 }
 
-/// What a program of these points comes to. What `count` and `is_table` say of them is asked for soundness: no run has a race at
-/// a location that isn't called suspect.
+/// What a program of these points comes to. What `count` and `is_table` say of them is asked for soundness:
+/// no run has a race at a location that isn't called suspect.
 fn judge_points(
     alloc: Global,
     files: &Files,

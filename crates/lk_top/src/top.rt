@@ -42,8 +42,8 @@ fn publish<S: Sink, E: Sink>(out: &mut S, err: &mut E, text: &[u8], status: Stat
     }
 }
 
-/// Runs the command that the words spell, `check` with its FILEs: reads the files from the shelf, and writes the report
-/// to `out` or a line to `err`.
+/// Runs the command that the words spell, `check` with its FILEs: reads the files from the shelf, and writes
+/// the report to `out` or a line to `err`.
 ///
 /// The status says which, and its clauses when each comes. What is said of the words' outcome is said
 /// where the shelf tells its files.

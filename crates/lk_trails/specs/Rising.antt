@@ -1,4 +1,5 @@
--- The tables of an analysis after its flow, and that they are closed under the rules: lock sets, items and racing items.
+-- The tables of an analysis after its flow, and that they are closed under the rules: lock
+-- sets, items and racing items.
 use Rattle.std.specs.Prelude.{◌≡◌, ℕ, Bool, true}
 use Rattle.lk_facts.specs.Analysis.{held_table}
 use Rattle.lk_facts.specs.Basis.{Basis}
@@ -20,9 +21,11 @@ pub record Tables : Type 0 where
   pub linear : ℕ → Bool
 
 abbrev pub setting_of : Tables → Setting
-setting_of tables = record { after = tables.after; has = tables.has; held = held_table tables.held; locks = tables.item_locks }
+setting_of tables =
+    record { after = tables.after; has = tables.has; held = held_table tables.held; locks = tables.item_locks }
 
--- They are closed under the rules, and stay within what the rules allow: they may have more than the least, and fewer locks than the greatest.
+-- They are closed under the rules, and stay within what the rules allow: they may have more than the least,
+-- and fewer locks than the greatest.
 pub record AreClosedTables (basis : Basis) (tables : Tables) : Type 0 where
   pub lock_sets : AreClosedLockSets basis tables.held
   pub order : (p q : ℕ) → After basis.program p q → tables.after p q ≡ true

@@ -1,5 +1,5 @@
--- Trails: from the first frame of `main` through calls and creations to the frame in which a thread is (LOCKSMITH: what a thread does, and
--- what its creator does afterwards).
+-- Trails: from the first frame of `main` through calls and creations to the frame in which a thread is
+-- (LOCKSMITH: what a thread does, and what its creator does afterwards).
 use Rattle.std.specs.Prelude.{◌≡◌, ℕ, Bool, true, false, List, [], ◌∷◌, ◌++◌, Some, length, slice_get, slice_set}
 use Rattle.lk_facts.specs.Basis.{Basis}
 use Rattle.lk_facts.specs.Doing.{Frees, Runs, Starts}
@@ -73,8 +73,10 @@ module _ (basis : Basis) where
 
   -- each frame of a trail is entered from the one before it
   pub data IsLinked : List Left → Stay → Type 0 where
-    only : (top : Stay) (f : ℕ) → live_at basis.program top.point ≡ true → function_at basis.program top.point ≡ Some f → IsLinked [] top
-    more : (x : Left) (rest : List Left) (top : Stay) → Enters x.at x.created (first_of rest top) → IsLinked rest top → IsLinked (x ∷ rest) top
+    only : (top : Stay) (f : ℕ) → live_at basis.program top.point ≡ true →
+        function_at basis.program top.point ≡ Some f → IsLinked [] top
+    more : (x : Left) (rest : List Left) (top : Stay) → Enters x.at x.created (first_of rest top) →
+        IsLinked rest top → IsLinked (x ∷ rest) top
 
   -- the trail begins in `main`, in which no site was entered
   pub record IsFromMain (t : Trail) : Type 0 where
@@ -101,28 +103,39 @@ module _ (basis : Basis) where
 
   -- the trail of a thread by its own step
   pub data Moves : Act → Trail → Trail → Type 0 where
-    goes : (left : List Left) (p q : ℕ) (c : List ℕ) → RunsNone basis p → IsLiveNext basis.program p q → Moves (onward p) (trail left (stay p c)) (trail left (stay q c))
-    calls : (left : List Left) (top to : Stay) (begins : Begins top false to) → Moves (inward begins.enters.g) (trail left top) (trail (left ++ left_at top false ∷ []) to)
-    returns : (left : List Left) (caller top : Stay) (q : ℕ) → Enters caller false top → IsReturn top.point → IsLiveNext basis.program caller.point q →
+    goes : (left : List Left) (p q : ℕ) (c : List ℕ) → RunsNone basis p → IsLiveNext basis.program p q →
+        Moves (onward p) (trail left (stay p c)) (trail left (stay q c))
+    calls : (left : List Left) (top to : Stay) (begins : Begins top false to) →
+        Moves (inward begins.enters.g) (trail left top) (trail (left ++ left_at top false ∷ []) to)
+    returns : (left : List Left) (caller top : Stay) (q : ℕ) → Enters caller false top → IsReturn top.point →
+        IsLiveNext basis.program caller.point q →
         Moves other (trail (left ++ left_at caller false ∷ []) top) (trail left (stay q caller.context))
 
-  -- The trails of all threads, in the order of these, by a step of the thread t: none moves, and no mutex is freed; its own moves; or it begins another one, and goes on. Of a
-  -- thread the trail has its own frames alone.
+  -- The trails of all threads, in the order of these, by a step of the thread t: none moves, and
+  -- no mutex is freed; its own moves; or it begins another one, and goes on. Of a thread the
+  -- trail has its own frames alone.
   pub data TrailsMove (t : ℕ) (old new : List Trail) : Act → Type 0 where
-    still : new ≡ old → ((own : Trail) (f x : ℕ) → slice_get old t ≡ Some own → Frees basis own.top.point f x → ⊥) → TrailsMove t old new other
-    one : {act : Act} (before after : Trail) → slice_get old t ≡ Some before → Moves act before after → new ≡ slice_set old t after → TrailsMove t old new act
-    creates : (left : List Left) (p q : ℕ) (c : List ℕ) (to : Stay) → slice_get old t ≡ Some (trail left (stay p c)) → IsLiveNext basis.program p q → (begins : Begins (stay p c) true to) →
-        new ≡ slice_set old t (trail left (stay q c)) ++ trail [] to ∷ [] → TrailsMove t old new (inward begins.enters.g)
+    still : new ≡ old → ((own : Trail) (f x : ℕ) → slice_get old t ≡ Some own →
+        Frees basis own.top.point f x → ⊥) → TrailsMove t old new other
+    one : {act : Act} (before after : Trail) → slice_get old t ≡ Some before → Moves act before after →
+        new ≡ slice_set old t after → TrailsMove t old new act
+    creates : (left : List Left) (p q : ℕ) (c : List ℕ) (to : Stay) →
+        slice_get old t ≡ Some (trail left (stay p c)) → IsLiveNext basis.program p q →
+        (begins : Begins (stay p c) true to) →
+        new ≡ slice_set old t (trail left (stay q c)) ++ trail [] to ∷ [] →
+        TrailsMove t old new (inward begins.enters.g)
 
 -- ---- trails that part
 
 module _ (program : Program) where
-  -- The earlier trail has the frames of the later one up to a frame that both left, the earlier one first, by a creation or through one
-  -- below: since then that frame has gone on.
+  -- The earlier trail has the frames of the later one up to a frame that both left, the earlier one first, by
+  -- a creation or through one below: since then that frame has gone on.
   pub data Parts : (earlier later : List Left) (top : Stay) → Type 0 where
-    same : (x : Left) (earlier later : List Left) (top : Stay) → Parts earlier later top → Parts (x ∷ earlier) (x ∷ later) top
-    apart : (x : Left) (earlier later : List Left) (top : Stay) → (first_of later top).context ≡ x.at.context → After program x.at.point (first_of later top).point → HasCreation (x ∷ earlier) →
-        Parts (x ∷ earlier) later top
+    same : (x : Left) (earlier later : List Left) (top : Stay) → Parts earlier later top →
+        Parts (x ∷ earlier) (x ∷ later) top
+    apart : (x : Left) (earlier later : List Left) (top : Stay) →
+        (first_of later top).context ≡ x.at.context → After program x.at.point (first_of later top).point →
+        HasCreation (x ∷ earlier) → Parts (x ∷ earlier) later top
 
   -- one of the two parted from the other
   pub data ArePast (s t : Trail) : Type 0 where
@@ -144,7 +157,9 @@ pub data IsBirth : List Left → Type 0 where
 pub record ArePasts (basis : Basis) (born : List (List Left)) (trails : List Trail) : Type 0 where
   pub many : length born ≡ length trails
   pub births : (t : ℕ) (b : List Left) → slice_get born t ≡ Some b → IsBirth b
-  pub from_main : (t : ℕ) (b : List Left) (own : Trail) → slice_get born t ≡ Some b → slice_get trails t ≡ Some own → IsFromMain basis (whole b own)
+  pub from_main : (t : ℕ) (b : List Left) (own : Trail) → slice_get born t ≡ Some b →
+      slice_get trails t ≡ Some own → IsFromMain basis (whole b own)
   pub own : (t : ℕ) (own : Trail) → slice_get trails t ≡ Some own → HasCreation own.left → ⊥
-  pub past : (t u : ℕ) (b d : List Left) (s v : Trail) → (t ≡ u → ⊥) → slice_get born t ≡ Some b → slice_get trails t ≡ Some s → slice_get born u ≡ Some d → slice_get trails u ≡ Some v →
+  pub past : (t u : ℕ) (b d : List Left) (s v : Trail) → (t ≡ u → ⊥) → slice_get born t ≡ Some b →
+      slice_get trails t ≡ Some s → slice_get born u ≡ Some d → slice_get trails u ≡ Some v →
       ArePast basis.program (whole b s) (whole d v)

@@ -1,5 +1,5 @@
-//! Trails: how control comes to a frame from the first frame of `main`, through calls and creations of threads; what the rules for locks,
-//! items and races say along them.
+//! Trails: how control comes to a frame from the first frame of `main`, through calls and creations of
+//! threads; what the rules for locks, items and races say along them.
 #![tactic(auto)]
 
 mod laws;

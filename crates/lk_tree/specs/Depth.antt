@@ -1,5 +1,6 @@
--- How deep a tree is: each production is a node, one deeper than the deepest node directly inside it. Specifiers, parameters, designators, entries and declarators with their
--- initialisers are no nodes of their own; members, items and type names are.
+-- How deep a tree is: each production is a node, one deeper than the deepest node directly inside it.
+-- Specifiers, parameters, designators, entries and declarators with their initialisers are no nodes of their
+-- own; members, items and type names are.
 use Rattle.std.specs.Prelude.{ℕ, ◌+◌, max, List, [], ◌∷◌, Option, Some, None}
 use Rattle.lk_tree.specs.declared.expression.DeclaratorForm.TheOpen.{DeclaratorForm-F, ExprForm-F, MemberDeclarator-F, Specifier-F, Declarator-F, Expr-F, Item-F, Member-F, Parameter-F, TypeName-F}
 use Rattle.lk_tree.specs.declared.expression.DeclaratorForm.TheFolds.{fold-Specifier, fold-Declarator, fold-Expr}
@@ -103,13 +104,19 @@ abbrev pub of_type_name : TypeName-F ℕ ℕ ℕ ℕ ℕ ℕ ℕ ℕ ℕ ℕ →
 of_type_name node = 1 + max (deepest node.specifiers) (of_part node.declarator)
 
 unfoldable pub expr_depth : Expr → ℕ
-expr_depth = fold-Expr ℕ ℕ ℕ ℕ ℕ ℕ ℕ ℕ ℕ ℕ in_declarator in_expr of_member_declarator of_specifier of_declarator of_expr of_item of_member of_parameter of_type_name
+expr_depth =
+    fold-Expr ℕ ℕ ℕ ℕ ℕ ℕ ℕ ℕ ℕ ℕ in_declarator in_expr of_member_declarator of_specifier of_declarator
+    of_expr of_item of_member of_parameter of_type_name
 
 unfoldable pub declarator_depth : Declarator → ℕ
-declarator_depth = fold-Declarator ℕ ℕ ℕ ℕ ℕ ℕ ℕ ℕ ℕ ℕ in_declarator in_expr of_member_declarator of_specifier of_declarator of_expr of_item of_member of_parameter of_type_name
+declarator_depth =
+    fold-Declarator ℕ ℕ ℕ ℕ ℕ ℕ ℕ ℕ ℕ ℕ in_declarator in_expr of_member_declarator of_specifier of_declarator
+    of_expr of_item of_member of_parameter of_type_name
 
 unfoldable pub specifier_depth : Specifier → ℕ
-specifier_depth = fold-Specifier ℕ ℕ ℕ ℕ ℕ ℕ ℕ ℕ ℕ ℕ in_declarator in_expr of_member_declarator of_specifier of_declarator of_expr of_item of_member of_parameter of_type_name
+specifier_depth =
+    fold-Specifier ℕ ℕ ℕ ℕ ℕ ℕ ℕ ℕ ℕ ℕ in_declarator in_expr of_member_declarator of_specifier of_declarator
+    of_expr of_item of_member of_parameter of_type_name
 
 -- ---- initialisers and declarations
 
@@ -134,7 +141,8 @@ abbrev pub init_declarator_depth : InitDeclarator → ℕ
 init_declarator_depth d = max (declarator_depth d.declarator) (of_optional init_depth d.init)
 
 abbrev pub declare_depth : Declare → ℕ
-declare_depth node = 1 + max (deepest_of specifier_depth node.specifiers) (deepest_of init_declarator_depth node.declarators)
+declare_depth node =
+    1 + max (deepest_of specifier_depth node.specifiers) (deepest_of init_declarator_depth node.declarators)
 
 -- ---- statements and units
 
@@ -156,7 +164,8 @@ in_stmt (StmtForm-F.If value taken other) = max (expr_depth value) (max taken (o
 in_stmt (StmtForm-F.Switch value inner) = max (expr_depth value) inner
 in_stmt (StmtForm-F.While value inner) = max (expr_depth value) inner
 in_stmt (StmtForm-F.Until inner value) = max inner (expr_depth value)
-in_stmt (StmtForm-F.For start value step inner) = max (first_depth start) (max (of_optional expr_depth value) (max (of_optional expr_depth step) inner))
+in_stmt (StmtForm-F.For start value step inner) =
+    max (first_depth start) (max (of_optional expr_depth value) (max (of_optional expr_depth step) inner))
 in_stmt (StmtForm-F.Goto name) = 0
 in_stmt StmtForm-F.Continue = 0
 in_stmt StmtForm-F.Break = 0
@@ -169,7 +178,9 @@ unfoldable pub stmt_depth : Stmt → ℕ
 stmt_depth = fold-Stmt ℕ ℕ ℕ of_block_item in_stmt of_stmt
 
 abbrev pub decl_depth : Decl → ℕ
-decl_depth (decl.Function node) = 1 + max (deepest_of specifier_depth node.specifiers) (max (declarator_depth node.declarator) (stmt_depth node.body))
+decl_depth (decl.Function node) =
+    1 + max (deepest_of specifier_depth node.specifiers)
+    (max (declarator_depth node.declarator) (stmt_depth node.body))
 decl_depth (decl.Declare node) = declare_depth node
 decl_depth (decl.Empty node) = 1
 

@@ -1,4 +1,5 @@
--- The ordinals of a tree: a walk numbers each node before the nodes inside it, and those in the order of the text. Members, items, type names and parameters are numbered too.
+-- The ordinals of a tree: a walk numbers each node before the nodes inside it, and those in the order of the
+-- text. Members, items, type names and parameters are numbered too.
 use Rattle.std.specs.Prelude.{ℕ, ◌+◌, List, [], ◌∷◌, Option, Some, None}
 use Rattle.lk_tree.specs.declared.expression.DeclaratorForm.TheOpen.{DeclaratorForm-F, ExprForm-F, MemberDeclarator-F, Specifier-F, Declarator-F, Expr-F, Item-F, Member-F, Parameter-F, TypeName-F}
 use Rattle.lk_tree.specs.declared.expression.DeclaratorForm.TheFolds.{fold-Specifier, fold-Declarator, fold-Expr}
@@ -58,8 +59,10 @@ two make a b n = let x = a n in let y = b x.1 in (make x.0 y.0, y.1)
 abbrev pub three : {A B C D : Type 0} → (A → B → C → D) → Numbered A → Numbered B → Numbered C → Numbered D
 three make a b c n = let x = a n in let y = b x.1 in let z = c y.1 in (make x.0 y.0 z.0, z.1)
 
-abbrev pub four : {A B C D E : Type 0} → (A → B → C → D → E) → Numbered A → Numbered B → Numbered C → Numbered D → Numbered E
-four make a b c d n = let w = a n in let x = b w.1 in let y = c x.1 in let z = d y.1 in (make w.0 x.0 y.0 z.0, z.1)
+abbrev pub four : {A B C D E : Type 0} → (A → B → C → D → E) → Numbered A → Numbered B → Numbered C →
+    Numbered D → Numbered E
+four make a b c d n = let w = a n in let x = b w.1 in let y = c x.1 in let z = d y.1 in
+    (make w.0 x.0 y.0 z.0, z.1)
 
 abbrev pub list : {A : Type 0} → List (Numbered A) → Numbered (List A)
 list [] n = ([], n)
@@ -80,41 +83,72 @@ optional_of number (Some a) n = let x = number a n in (Some x.0, x.1)
 -- ---- expressions and declarators
 
 abbrev pub DeclaratorFormLayer : Type 0
-DeclaratorFormLayer = DeclaratorForm-F (Numbered DeclaratorForm) (Numbered ExprForm) (Numbered MemberDeclarator) (Numbered Specifier) (Numbered Declarator) (Numbered Expr) (Numbered Item) (Numbered Member) (Numbered Parameter) (Numbered TypeName)
+DeclaratorFormLayer =
+    DeclaratorForm-F (Numbered DeclaratorForm) (Numbered ExprForm) (Numbered MemberDeclarator)
+    (Numbered Specifier) (Numbered Declarator) (Numbered Expr) (Numbered Item) (Numbered Member)
+    (Numbered Parameter) (Numbered TypeName)
 
 abbrev pub ExprFormLayer : Type 0
-ExprFormLayer = ExprForm-F (Numbered DeclaratorForm) (Numbered ExprForm) (Numbered MemberDeclarator) (Numbered Specifier) (Numbered Declarator) (Numbered Expr) (Numbered Item) (Numbered Member) (Numbered Parameter) (Numbered TypeName)
+ExprFormLayer =
+    ExprForm-F (Numbered DeclaratorForm) (Numbered ExprForm) (Numbered MemberDeclarator) (Numbered Specifier)
+    (Numbered Declarator) (Numbered Expr) (Numbered Item) (Numbered Member) (Numbered Parameter)
+    (Numbered TypeName)
 
 abbrev pub MemberDeclaratorLayer : Type 0
-MemberDeclaratorLayer = MemberDeclarator-F (Numbered DeclaratorForm) (Numbered ExprForm) (Numbered MemberDeclarator) (Numbered Specifier) (Numbered Declarator) (Numbered Expr) (Numbered Item) (Numbered Member) (Numbered Parameter) (Numbered TypeName)
+MemberDeclaratorLayer =
+    MemberDeclarator-F (Numbered DeclaratorForm) (Numbered ExprForm) (Numbered MemberDeclarator)
+    (Numbered Specifier) (Numbered Declarator) (Numbered Expr) (Numbered Item) (Numbered Member)
+    (Numbered Parameter) (Numbered TypeName)
 
 abbrev pub SpecifierLayer : Type 0
-SpecifierLayer = Specifier-F (Numbered DeclaratorForm) (Numbered ExprForm) (Numbered MemberDeclarator) (Numbered Specifier) (Numbered Declarator) (Numbered Expr) (Numbered Item) (Numbered Member) (Numbered Parameter) (Numbered TypeName)
+SpecifierLayer =
+    Specifier-F (Numbered DeclaratorForm) (Numbered ExprForm) (Numbered MemberDeclarator) (Numbered Specifier)
+    (Numbered Declarator) (Numbered Expr) (Numbered Item) (Numbered Member) (Numbered Parameter)
+    (Numbered TypeName)
 
 abbrev pub DeclaratorLayer : Type 0
-DeclaratorLayer = Declarator-F (Numbered DeclaratorForm) (Numbered ExprForm) (Numbered MemberDeclarator) (Numbered Specifier) (Numbered Declarator) (Numbered Expr) (Numbered Item) (Numbered Member) (Numbered Parameter) (Numbered TypeName)
+DeclaratorLayer =
+    Declarator-F (Numbered DeclaratorForm) (Numbered ExprForm) (Numbered MemberDeclarator)
+    (Numbered Specifier) (Numbered Declarator) (Numbered Expr) (Numbered Item) (Numbered Member)
+    (Numbered Parameter) (Numbered TypeName)
 
 abbrev pub ExprLayer : Type 0
-ExprLayer = Expr-F (Numbered DeclaratorForm) (Numbered ExprForm) (Numbered MemberDeclarator) (Numbered Specifier) (Numbered Declarator) (Numbered Expr) (Numbered Item) (Numbered Member) (Numbered Parameter) (Numbered TypeName)
+ExprLayer =
+    Expr-F (Numbered DeclaratorForm) (Numbered ExprForm) (Numbered MemberDeclarator) (Numbered Specifier)
+    (Numbered Declarator) (Numbered Expr) (Numbered Item) (Numbered Member) (Numbered Parameter)
+    (Numbered TypeName)
 
 abbrev pub ItemLayer : Type 0
-ItemLayer = Item-F (Numbered DeclaratorForm) (Numbered ExprForm) (Numbered MemberDeclarator) (Numbered Specifier) (Numbered Declarator) (Numbered Expr) (Numbered Item) (Numbered Member) (Numbered Parameter) (Numbered TypeName)
+ItemLayer =
+    Item-F (Numbered DeclaratorForm) (Numbered ExprForm) (Numbered MemberDeclarator) (Numbered Specifier)
+    (Numbered Declarator) (Numbered Expr) (Numbered Item) (Numbered Member) (Numbered Parameter)
+    (Numbered TypeName)
 
 abbrev pub MemberLayer : Type 0
-MemberLayer = Member-F (Numbered DeclaratorForm) (Numbered ExprForm) (Numbered MemberDeclarator) (Numbered Specifier) (Numbered Declarator) (Numbered Expr) (Numbered Item) (Numbered Member) (Numbered Parameter) (Numbered TypeName)
+MemberLayer =
+    Member-F (Numbered DeclaratorForm) (Numbered ExprForm) (Numbered MemberDeclarator) (Numbered Specifier)
+    (Numbered Declarator) (Numbered Expr) (Numbered Item) (Numbered Member) (Numbered Parameter)
+    (Numbered TypeName)
 
 abbrev pub ParameterLayer : Type 0
-ParameterLayer = Parameter-F (Numbered DeclaratorForm) (Numbered ExprForm) (Numbered MemberDeclarator) (Numbered Specifier) (Numbered Declarator) (Numbered Expr) (Numbered Item) (Numbered Member) (Numbered Parameter) (Numbered TypeName)
+ParameterLayer =
+    Parameter-F (Numbered DeclaratorForm) (Numbered ExprForm) (Numbered MemberDeclarator) (Numbered Specifier)
+    (Numbered Declarator) (Numbered Expr) (Numbered Item) (Numbered Member) (Numbered Parameter)
+    (Numbered TypeName)
 
 abbrev pub TypeNameLayer : Type 0
-TypeNameLayer = TypeName-F (Numbered DeclaratorForm) (Numbered ExprForm) (Numbered MemberDeclarator) (Numbered Specifier) (Numbered Declarator) (Numbered Expr) (Numbered Item) (Numbered Member) (Numbered Parameter) (Numbered TypeName)
+TypeNameLayer =
+    TypeName-F (Numbered DeclaratorForm) (Numbered ExprForm) (Numbered MemberDeclarator) (Numbered Specifier)
+    (Numbered Declarator) (Numbered Expr) (Numbered Item) (Numbered Member) (Numbered Parameter)
+    (Numbered TypeName)
 
 abbrev pub in_declarator : DeclaratorFormLayer → Numbered DeclaratorForm
 in_declarator (DeclaratorForm-F.Star qualifiers inner) = one (d.Star qualifiers) (optional inner)
 in_declarator (DeclaratorForm-F.Named name) = plain (d.Named name)
 in_declarator (DeclaratorForm-F.Group inner) = one d.Group inner
 in_declarator (DeclaratorForm-F.ArrayOf inner size) = two d.ArrayOf (optional inner) (optional size)
-in_declarator (DeclaratorForm-F.FunctionOf inner parameters dots) = two (λ inner parameters. d.FunctionOf inner parameters dots) (optional inner) (list parameters)
+in_declarator (DeclaratorForm-F.FunctionOf inner parameters dots) =
+    two (λ inner parameters. d.FunctionOf inner parameters dots) (optional inner) (list parameters)
 
 abbrev pub in_expr : ExprFormLayer → Numbered ExprForm
 in_expr (ExprForm-F.Comma left right) = two e.Comma left right
@@ -160,31 +194,54 @@ abbrev pub of_expr : ExprLayer → Numbered Expr
 of_expr node n = one (λ form. record { spot = node.spot; ordinal = n; form = form }) node.form (n + 1)
 
 abbrev pub of_item : ItemLayer → Numbered Item
-of_item node n = one (λ value. roll-Item (record { spot = node.spot; ordinal = n; name = node.name; value = value })) (optional node.value) (n + 1)
+of_item node n =
+    one (λ value. roll-Item (record { spot = node.spot; ordinal = n; name = node.name; value = value }))
+    (optional node.value) (n + 1)
 
 abbrev pub of_member : MemberLayer → Numbered Member
 of_member node n =
-    two (λ specifiers declarators. record { spot = node.spot; ordinal = n; specifiers = specifiers; declarators = declarators }) (list node.specifiers) (list node.declarators) (n + 1)
+    two (λ specifiers declarators. record {
+      spot = node.spot;
+      ordinal = n;
+      specifiers = specifiers;
+      declarators = declarators;
+    }) (list node.specifiers) (list node.declarators) (n + 1)
 
 abbrev pub of_parameter : ParameterLayer → Numbered Parameter
 of_parameter node n =
-    two (λ specifiers inner. roll-Parameter (record { spot = node.spot; ordinal = n; specifiers = specifiers; declarator = inner })) (list node.specifiers) (optional node.declarator) (n + 1)
+    two (λ specifiers inner. roll-Parameter
+    (record { spot = node.spot; ordinal = n; specifiers = specifiers; declarator = inner }))
+    (list node.specifiers) (optional node.declarator) (n + 1)
 
 abbrev pub of_type_name : TypeNameLayer → Numbered TypeName
 of_type_name node n =
-    two (λ specifiers inner. roll-TypeName (record { spot = node.spot; ordinal = n; specifiers = specifiers; declarator = inner })) (list node.specifiers) (optional node.declarator) (n + 1)
+    two (λ specifiers inner. roll-TypeName
+    (record { spot = node.spot; ordinal = n; specifiers = specifiers; declarator = inner }))
+    (list node.specifiers) (optional node.declarator) (n + 1)
 
 unfoldable pub expr : Expr → Numbered Expr
-expr = fold-Expr (Numbered DeclaratorForm) (Numbered ExprForm) (Numbered MemberDeclarator) (Numbered Specifier) (Numbered Declarator) (Numbered Expr) (Numbered Item) (Numbered Member) (Numbered Parameter) (Numbered TypeName)
-    in_declarator in_expr of_member_declarator of_specifier of_declarator of_expr of_item of_member of_parameter of_type_name
+expr =
+    fold-Expr (Numbered DeclaratorForm) (Numbered ExprForm) (Numbered MemberDeclarator) (Numbered Specifier)
+    (Numbered Declarator) (Numbered Expr) (Numbered Item) (Numbered Member) (Numbered Parameter)
+    (Numbered TypeName)
+    in_declarator in_expr of_member_declarator of_specifier of_declarator of_expr of_item of_member
+    of_parameter of_type_name
 
 unfoldable pub declarator : Declarator → Numbered Declarator
-declarator = fold-Declarator (Numbered DeclaratorForm) (Numbered ExprForm) (Numbered MemberDeclarator) (Numbered Specifier) (Numbered Declarator) (Numbered Expr) (Numbered Item) (Numbered Member) (Numbered Parameter) (Numbered TypeName)
-    in_declarator in_expr of_member_declarator of_specifier of_declarator of_expr of_item of_member of_parameter of_type_name
+declarator =
+    fold-Declarator (Numbered DeclaratorForm) (Numbered ExprForm) (Numbered MemberDeclarator)
+    (Numbered Specifier) (Numbered Declarator) (Numbered Expr) (Numbered Item) (Numbered Member)
+    (Numbered Parameter) (Numbered TypeName)
+    in_declarator in_expr of_member_declarator of_specifier of_declarator of_expr of_item of_member
+    of_parameter of_type_name
 
 unfoldable pub specifier : Specifier → Numbered Specifier
-specifier = fold-Specifier (Numbered DeclaratorForm) (Numbered ExprForm) (Numbered MemberDeclarator) (Numbered Specifier) (Numbered Declarator) (Numbered Expr) (Numbered Item) (Numbered Member) (Numbered Parameter) (Numbered TypeName)
-    in_declarator in_expr of_member_declarator of_specifier of_declarator of_expr of_item of_member of_parameter of_type_name
+specifier =
+    fold-Specifier (Numbered DeclaratorForm) (Numbered ExprForm) (Numbered MemberDeclarator)
+    (Numbered Specifier) (Numbered Declarator) (Numbered Expr) (Numbered Item) (Numbered Member)
+    (Numbered Parameter) (Numbered TypeName)
+    in_declarator in_expr of_member_declarator of_specifier of_declarator of_expr of_item of_member
+    of_parameter of_type_name
 
 -- ---- initialisers and declarations
 
@@ -197,16 +254,22 @@ of_init (Init-F.Expr value) = one init.Expr (expr value)
 of_init (Init-F.List entries) = one init.List entries
 
 abbrev pub of_entry : Entry-F (Numbered Init) (Numbered Entry) (Numbered InitList) → Numbered Entry
-of_entry entry = two (λ designators value. record { designators = designators; init = value }) (list_of of_designator entry.designators) entry.init
+of_entry entry =
+    two (λ designators value. record { designators = designators; init = value })
+    (list_of of_designator entry.designators) entry.init
 
 abbrev pub of_list : InitList-F (Numbered Init) (Numbered Entry) (Numbered InitList) → Numbered InitList
-of_list node n = one (λ entries. roll-InitList (record { spot = node.spot; ordinal = n; entries = entries })) (list node.entries) (n + 1)
+of_list node n =
+    one (λ entries. roll-InitList (record { spot = node.spot; ordinal = n; entries = entries }))
+    (list node.entries) (n + 1)
 
 unfoldable pub initialiser : Init → Numbered Init
 initialiser = fold-Init (Numbered Init) (Numbered Entry) (Numbered InitList) of_init of_entry of_list
 
 abbrev pub of_init_declarator : InitDeclarator → Numbered InitDeclarator
-of_init_declarator d = two (λ inner value. record { declarator = inner; init = value }) (declarator d.declarator) (optional_of initialiser d.init)
+of_init_declarator d =
+    two (λ inner value. record { declarator = inner; init = value }) (declarator d.declarator)
+    (optional_of initialiser d.init)
 
 abbrev pub declare : Declare → Numbered Declare
 declare node n =
@@ -219,7 +282,8 @@ abbrev pub of_first : ForFirst → Numbered ForFirst
 of_first (first.Expr value) = one first.Expr (optional_of expr value)
 of_first (first.Declare node) = one first.Declare (declare node)
 
-abbrev pub of_block_item : BlockItem-F (Numbered BlockItem) (Numbered StmtForm) (Numbered Stmt) → Numbered BlockItem
+abbrev pub of_block_item : BlockItem-F (Numbered BlockItem) (Numbered StmtForm) (Numbered Stmt) →
+    Numbered BlockItem
 of_block_item (BlockItem-F.Declare node) = one item.Declare (declare node)
 of_block_item (BlockItem-F.Stmt inner) = one item.Stmt inner
 
@@ -248,7 +312,8 @@ statement = fold-Stmt (Numbered BlockItem) (Numbered StmtForm) (Numbered Stmt) o
 
 abbrev pub of_decl : Decl → Numbered Decl
 of_decl (decl.Function node) n =
-    three (λ specifiers inner body. decl.Function (record { spot = node.spot; ordinal = n; specifiers = specifiers; declarator = inner; body = body }))
+    three (λ specifiers inner body. decl.Function
+    (record { spot = node.spot; ordinal = n; specifiers = specifiers; declarator = inner; body = body }))
     (list_of specifier node.specifiers) (declarator node.declarator) (statement node.body) (n + 1)
 of_decl (decl.Declare node) n = one decl.Declare (declare node) n
 of_decl (decl.Empty node) n = (decl.Empty (record { spot = node.spot; ordinal = n }), n + 1)

@@ -1,7 +1,8 @@
 //! Expressions, and the declarators and types that lead back to them.
 //!
-//! Each variant is a production of the grammar, with its parts in the order of the text. `spot` is the place of the
-//! first token; `ordinal` is the node's number in a walk of the whole tree, parents first, parts in order.
+//! Each variant is a production of the grammar, with its parts in the order of the text. `spot` is
+//! the place of the first token; `ordinal` is the node's number in a walk of the whole tree,
+//! parents first, parts in order.
 
 use crate::operators::{AssignOperator, BinaryOperator, PrefixOperator, StepOperator};
 use crate::specifiers::{Qualifier, Storage, TypeWord};

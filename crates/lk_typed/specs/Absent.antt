@@ -18,8 +18,10 @@ Path = List CellStep
 pub data IsCell (fields : ℕ → List Ty) : Ty → Path → Type 0 where
   scalar : {t : Ty} → is_scalar t ≡ true → IsCell fields t []
   lock : {t : Ty} → is_lock t ≡ true → IsCell fields t []
-  element : {t : Ty} {n i : ℕ} {path : Path} → i < n → IsCell fields t path → IsCell fields (Array t n) (Index i ∷ path)
-  member : {s k : ℕ} {t : Ty} {path : Path} → slice_get (fields s) k ≡ Some t → IsCell fields t path → IsCell fields (Struct s) (Field k ∷ path)
+  element : {t : Ty} {n i : ℕ} {path : Path} → i < n → IsCell fields t path →
+      IsCell fields (Array t n) (Index i ∷ path)
+  member : {s k : ℕ} {t : Ty} {path : Path} → slice_get (fields s) k ≡ Some t → IsCell fields t path →
+      IsCell fields (Struct s) (Field k ∷ path)
 
 -- ---- paths
 
@@ -65,7 +67,8 @@ cells_named (one ∷ others) = cells_of_value one.path one.value ++ cells_named 
 
 abbrev pub those_alike : Path → List Path → List Path
 those_alike path [] = []
-those_alike path (one ∷ others) = if are_alike path one then one ∷ those_alike path others else those_alike path others
+those_alike path (one ∷ others) =
+    if are_alike path one then one ∷ those_alike path others else those_alike path others
 
 -- ---- the cells that it doesn't name
 
@@ -77,11 +80,15 @@ module _ (fields : ℕ → List Ty) (t : Ty) (parts : List LocalPart) where
   -- those of one place: the first of them, and the cells of the place that are named
   pub record AreAbsentCells (cells : AbsentCells) : Type 0 where
     pub absent : IsAbsent cells.first
-    pub first : (path : Path) → IsAbsent path → are_alike cells.first path ≡ true → IsPathBefore path cells.first → ⊥
+    pub first : (path : Path) → IsAbsent path → are_alike cells.first path ≡ true →
+        IsPathBefore path cells.first → ⊥
     pub named : cells.named ≡ those_alike cells.first (cells_named parts)
 
   -- each place with an absent cell stands there once, in the order of places
   pub record AreAllAbsent (absent : List AbsentCells) : Type 0 where
     pub each : (i : ℕ) (cells : AbsentCells) → slice_get absent i ≡ Some cells → AreAbsentCells cells
-    pub all : (path : Path) → IsAbsent path → (i : ℕ) × (cells : AbsentCells) × (slice_get absent i ≡ Some cells) × (are_alike cells.first path ≡ true)
-    pub in_order : (i j : ℕ) (a b : AbsentCells) → i < j → slice_get absent i ≡ Some a → slice_get absent j ≡ Some b → IsPlaceBefore a.first b.first
+    pub all : (path : Path) → IsAbsent path →
+        (i : ℕ) × (cells : AbsentCells) × (slice_get absent i ≡ Some cells)
+        × (are_alike cells.first path ≡ true)
+    pub in_order : (i j : ℕ) (a b : AbsentCells) → i < j → slice_get absent i ≡ Some a →
+        slice_get absent j ≡ Some b → IsPlaceBefore a.first b.first

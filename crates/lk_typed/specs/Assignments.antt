@@ -15,7 +15,8 @@ use Rattle.lk_typed.specs.Operators.{is_condition, is_scalar, must_be, result_of
 
 -- ---- what asks for a value
 
--- an expression whose value is converted to a type without a cast: by assignment, as an argument, a result or an initialiser (C99 6.5.16.1, 6.5.2.2, 7; 6.8.6.4, 3; 6.7.8, 11)
+-- an expression whose value is converted to a type without a cast: by assignment, as an argument, a result or
+-- an initialiser (C99 6.5.16.1, 6.5.2.2, 7; 6.8.6.4, 3; 6.7.8, 11)
 abbrev pub given_codes : Ty → Typing → List Code
 given_codes target e = conversion_codes target (value e)
 
@@ -27,7 +28,8 @@ condition_codes e = must_be is_condition (value e).type
 abbrev pub integer_codes : Typing → List Code
 integer_codes e = must_be is_integer (value e).type
 
--- an expression statement, and the parts of a for that aren't its condition: the value is dropped; a mutex is no value (C99 6.8.3, 2)
+-- an expression statement, and the parts of a for that aren't its condition: the value is dropped; a
+-- mutex is no value (C99 6.8.3, 2)
 abbrev pub dropped_codes : Typing → List Code
 dropped_codes e = if_so (is_lock e.type) MutexValue
 
@@ -63,7 +65,9 @@ plain_codes left right = if is_function left.type then [] else given_codes left.
 
 -- `op=` computes on two values, and converts back (C99 6.5.16.2)
 abbrev pub computed_codes : List Members → BinaryOperator → Ty → Typing → Typing → List Code
-computed_codes structs o target a b = or_behind (must_be is_scalar a.type ++ must_be is_scalar b.type) (back_codes target (result_of structs (row_of o) a b))
+computed_codes structs o target a b =
+    or_behind (must_be is_scalar a.type ++ must_be is_scalar b.type)
+    (back_codes target (result_of structs (row_of o) a b))
 
 abbrev pub right_codes : List Members → Option BinaryOperator → Typing → Typing → List Code
 right_codes structs None left right = plain_codes left right
@@ -71,7 +75,9 @@ right_codes structs (Some o) left right = computed_codes structs o left.type (va
 
 -- the left side is a place (C99 6.5.16, 2)
 abbrev pub assign_rule : List Members → AssignOperator → Typing → Typing → Verdict
-assign_rule structs o left right = unless (if_so (not left.is_place) NotAPlace ++ right_codes structs (operator_of o) left right) (value_of_type left.type)
+assign_rule structs o left right =
+    unless (if_so (not left.is_place) NotAPlace ++ right_codes structs (operator_of o) left right)
+    (value_of_type left.type)
 
 -- ---- casts
 

@@ -1,4 +1,5 @@
--- How large a type may be: code 32. Its nodes are those of its walk (lk_types, Walks), here from the type as a tree.
+-- How large a type may be: code 32. Its nodes are those of its walk (lk_types, Walks),
+-- here from the type as a tree.
 use Rattle.std.specs.Prelude.{ℕ, zero, suc, Bool, true, false, ◌||◌, List, [], ◌∷◌, map, fold, if◌then◌else◌}
 use Rattle.lk_types.specs.declared.size.TypeSize.{TypeSize}
 use Rattle.lk_types.specs.Sizes.{start_size, with_part, is_too_large}

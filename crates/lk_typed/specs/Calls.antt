@@ -1,4 +1,5 @@
--- Calls (C99 6.5.2.2), with what the library's functions ask of their arguments: attributes, start routines, formats and sizes of allocations.
+-- Calls (C99 6.5.2.2), with what the library's functions ask of their arguments: attributes, start routines,
+-- formats and sizes of allocations.
 use Rattle.std.specs.Prelude.{ℕ, Bool, true, false, not, ◌&&◌, ◌||◌, Option, Some, None, List, [], ◌∷◌, ◌++◌, map, codes, nat_eq, if◌then◌else◌}
 use Rattle.lk_base.specs.declared.kind.Kind.TheVariants as kind
 use Rattle.lk_base.specs.declared.code.Code.{Code}
@@ -23,7 +24,8 @@ pub record Argument : Type 0 where
 -- the name of a function of the program with the type of a start routine
 abbrev pub is_routine : Env → Name → Meaning → Bool
 is_routine env name (AnObject t is_static) = false
-is_routine env name (AFunction t) = is_same t routine_type && not (is_library name) && not (is_extern env name)
+is_routine env name (AFunction t) =
+    is_same t routine_type && not (is_library name) && not (is_extern env name)
 is_routine env name (ATypedef t) = false
 is_routine env name (AnEnumerator n) = false
 is_routine env name (AnInitialiserWord t) = false
@@ -40,25 +42,31 @@ passed_whole_codes t = if_so (is_struct t) StructValue ++ if_so (is_lock t) Mute
 
 abbrev pub argument_codes : Env → Passing → Argument → List Code
 argument_codes env (Converted t) a = given_codes t a.typing
-argument_codes env (NullFor t code) a = if_so (not (value a.typing).is_null) code ++ passed_whole_codes a.typing.type
-argument_codes env Routine a = if_so (not (names_routine env a.look.routine)) StartRoutine ++ passed_whole_codes a.typing.type
+argument_codes env (NullFor t code) a =
+    if_so (not (value a.typing).is_null) code ++ passed_whole_codes a.typing.type
+argument_codes env Routine a =
+    if_so (not (names_routine env a.look.routine)) StartRoutine ++ passed_whole_codes a.typing.type
 argument_codes env Size a = given_codes size_type a.typing
 
 -- an argument behind those that have a parameter gets the promotions: a scalar (C99 6.5.2.2, 7)
 abbrev pub further_codes : Argument → List Code
-further_codes a = if is_struct a.typing.type then StructValue ∷ [] else must_be is_scalar (value a.typing).type
+further_codes a =
+    if is_struct a.typing.type then StructValue ∷ [] else must_be is_scalar (value a.typing).type
 
 -- as many arguments as parameters, or where `...` ends them as many at least (C99 6.5.2.2, 2)
 abbrev pub arguments_codes : Env → Bool → List Passing → List Argument → List Code
 arguments_codes env dots [] [] = []
-arguments_codes env dots [] (a ∷ others) = (if dots then further_codes a else Mismatch ∷ []) ++ arguments_codes env dots [] others
+arguments_codes env dots [] (a ∷ others) =
+    (if dots then further_codes a else Mismatch ∷ []) ++ arguments_codes env dots [] others
 arguments_codes env dots (pass ∷ passes) [] = Mismatch ∷ []
-arguments_codes env dots (pass ∷ passes) (a ∷ others) = argument_codes env pass a ++ arguments_codes env dots passes others
+arguments_codes env dots (pass ∷ passes) (a ∷ others) =
+    argument_codes env pass a ++ arguments_codes env dots passes others
 
 -- ---- formats: no % may lead to n (C99 7.19.6.1)
 
 pub data Scanned : Type 0 where
-  -- outside a conversion specification; directly behind its %; behind further flags, digits, points and lengths of it
+  -- outside a conversion specification; directly behind its %; behind further flags,
+  -- digits, points and lengths of it
   Plain : Scanned
   BehindPercent : Scanned
   BehindFlags : Scanned
@@ -69,8 +77,11 @@ is_flag byte = is_one_of (map (λ flag. flag ∷ []) (codes "-+ #0123456789.*hlj
 
 abbrev pub behind_flag : Scanned → ℕ → Option Scanned
 behind_flag Plain byte = Some (if nat_eq byte 37 then BehindPercent else Plain)
-behind_flag BehindPercent byte = if nat_eq byte 110 then None else Some (if is_flag byte then BehindFlags else Plain)
-behind_flag BehindFlags byte = if nat_eq byte 110 then None else Some (if nat_eq byte 37 then BehindPercent else if is_flag byte then BehindFlags else Plain)
+behind_flag BehindPercent byte =
+    if nat_eq byte 110 then None else Some (if is_flag byte then BehindFlags else Plain)
+behind_flag BehindFlags byte =
+    if nat_eq byte 110 then None
+    else Some (if nat_eq byte 37 then BehindPercent else if is_flag byte then BehindFlags else Plain)
 
 abbrev pub goes_on : Option Scanned → (Scanned → Bool) → Bool
 goes_on None next = false
@@ -88,7 +99,8 @@ is_format bytes = is_format_from bytes Plain
 -- a pointer to char, signed char or unsigned char
 abbrev pub is_byte_pointer : Ty → Bool
 is_byte_pointer t =
-    holds_of (target_of t) (λ target. holds_of (kind_of target) (λ k. is_same_kind k kind.Char || is_same_kind k kind.SChar || is_same_kind k kind.UChar))
+    holds_of (target_of t) (λ target. holds_of (kind_of target)
+    (λ k. is_same_kind k kind.Char || is_same_kind k kind.SChar || is_same_kind k kind.UChar))
 
 abbrev pub counts_bytes : Role → Bool
 counts_bytes AsOperand = false
@@ -96,7 +108,8 @@ counts_bytes (ConvertedTo t) = is_byte_pointer t
 counts_bytes AsFunction = false
 counts_bytes AsRoutine = false
 
--- a sizeof; its product with what holds none; or no sizeof, where the call is directly converted to a pointer to bytes
+-- a sizeof; its product with what holds none; or no sizeof, where the call is directly
+-- converted to a pointer to bytes
 abbrev pub is_size : Role → Look → Bool
 is_size role look = look.is_sizeof || look.is_product || not look.holds_sizeof && counts_bytes role
 
@@ -148,7 +161,9 @@ asks_of (Some f) = f.asks
 abbrev pub call_of : Env → Option LibraryFunction → Typing → Option Signature → List Argument → Verdict
 call_of env known f None arguments = Broken (must_be is_function_pointer (value f).type)
 call_of env known f (Some signature) arguments =
-    unless (arguments_codes env signature.dots (passes_by known (Some signature)) arguments ++ asked env.role (asks_of known) arguments) (value_of_type signature.result)
+    unless (arguments_codes env signature.dots (passes_by known (Some signature)) arguments ++
+    asked env.role (asks_of known) arguments) (value_of_type signature.result)
 
 abbrev pub call_rule : Env → Argument → List Argument → Verdict
-call_rule env f arguments = call_of env (library_called f.look.word) f.typing (signature_of f.typing) arguments
+call_rule env f arguments =
+    call_of env (library_called f.look.word) f.typing (signature_of f.typing) arguments

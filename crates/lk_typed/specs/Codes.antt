@@ -24,7 +24,8 @@ named_code integer_and_pointer different_pointers of_struct of_lock =
     else if of_lock then MutexValue
     else Mismatch
 
--- the code of an operand, by whether it is a mutex or condition variable, and whether it is of a type that is taken
+-- the code of an operand, by whether it is a mutex or condition variable, and whether
+-- it is of a type that is taken
 abbrev pub operand_code : Bool → Bool → Option Code
 operand_code is_lock is_taken = if is_lock then Some MutexValue else if is_taken then None else Some Mismatch
 

@@ -1,5 +1,6 @@
--- Integer constant expressions: what the operators make of constants (C99 6.6). An operand that is no constant makes the whole none, evaluated or not; arithmetic that isn't
--- evaluated may be undefined (6.6, 3 and 4).
+-- Integer constant expressions: what the operators make of constants (C99 6.6). An operand
+-- that is no constant makes the whole none, evaluated or not; arithmetic that isn't evaluated
+-- may be undefined (6.6, 3 and 4).
 use Rattle.std.specs.Prelude.{Bool, not, Ok, Err, ℤ, if◌then◌else◌}
 use Rattle.std.specs.Bool.{beq}
 use Rattle.lk_base.specs.declared.kind.Kind.{Kind}
@@ -47,7 +48,8 @@ unary_constant op k a = on_value a (λ x. computed (unary_outcome op k (convert 
 abbrev pub truth_of : Constant → Constant
 truth_of a = on_value a (λ x. Known (truth (not (is_zero x))))
 
--- && or ||: where the first operand has the truth value that decides (false of &&, true of ||), the second isn't evaluated (C99 6.5.13, 4; 6.5.14, 4)
+-- && or ||: where the first operand has the truth value that decides (false of &&, true of ||), the second
+-- isn't evaluated (C99 6.5.13, 4; 6.5.14, 4)
 abbrev pub decided_by : Bool → Bool → Constant → Constant
 decided_by decides first b = if beq decides first then beside b (Known (truth decides)) else truth_of b
 

@@ -1,4 +1,5 @@
--- How a value converts to a type: by assignment, argument, result, initialiser or cast (C99 6.3, 6.5.4, 6.5.16.1). A value is what `value` of Addresses gives.
+-- How a value converts to a type: by assignment, argument, result, initialiser or cast
+-- (C99 6.3, 6.5.4, 6.5.16.1). A value is what `value` of Addresses gives.
 use Rattle.std.specs.Prelude.{Bool, false, not, ◌&&◌, ◌||◌, List, [], ◌++◌, if◌then◌else◌}
 use Rattle.lk_base.specs.declared.kind.Kind.{Kind}
 use Rattle.lk_base.specs.declared.kind.Kind.TheVariants as kind
@@ -34,7 +35,8 @@ are_void_and_object a b = is_void_pointer a && is_object_pointer b || is_void_po
 
 -- ---- conversions that C and the profile have
 
--- each line is one of them: integers (6.3.1); a pointer to _Bool (6.3.1.2); a null pointer constant (6.3.2.3, 3); equal pointers; void * (6.3.2.3, 1); thread ids (POSIX, pthread_t)
+-- each line is one of them: integers (6.3.1); a pointer to _Bool (6.3.1.2); a null pointer constant
+-- (6.3.2.3, 3); equal pointers; void * (6.3.2.3, 1); thread ids (POSIX, pthread_t)
 abbrev pub converts : Ty → Typing → Bool
 converts target v =
     is_integer target && is_integer v.type
@@ -46,17 +48,22 @@ converts target v =
 
 -- ---- the codes of the others
 
--- 34: between an integer kind, as a target other than _Bool, and a pointer; other than from a null pointer constant (C99 6.3.2.3, 5 and 6)
+-- 34: between an integer kind, as a target other than _Bool, and a pointer; other than from a null pointer
+-- constant (C99 6.3.2.3, 5 and 6)
 abbrev pub is_integer_and_pointer : Ty → Typing → Bool
-is_integer_and_pointer target v = not v.is_null && (is_integer target && not (is_bool target) && is_pointer v.type || is_pointer target && is_integer v.type)
+is_integer_and_pointer target v =
+    not v.is_null && (is_integer target && not (is_bool target) && is_pointer v.type || is_pointer target && is_integer v.type)
 
 -- two different pointer types neither of which is void *
 abbrev pub are_two_pointers : Ty → Ty → Bool
-are_two_pointers target t = is_pointer target && is_pointer t && not (is_same target t) && not (is_void_pointer target) && not (is_void_pointer t)
+are_two_pointers target t =
+    is_pointer target && is_pointer t && not (is_same target t) && not (is_void_pointer target)
+    && not (is_void_pointer t)
 
 -- a function pointer beside anything but its own type
 abbrev pub is_function_pointer_alone : Ty → Ty → Bool
-is_function_pointer_alone target t = (is_function_pointer target || is_function_pointer t) && not (is_same target t)
+is_function_pointer_alone target t =
+    (is_function_pointer target || is_function_pointer t) && not (is_same target t)
 
 -- 35 (C99 6.3.2.3, 7 and 8)
 abbrev pub are_different_pointers : Ty → Ty → Bool
@@ -88,7 +95,8 @@ converted_constant k (Known a) = Known (convert k a)
 abbrev pub converted_address : Typing → Address
 converted_address v = if v.is_null then NullAddress else v.address
 
--- a value that was converted: an integer constant expression stays one among integers (C99 6.6, 6); cast to void *, one of value 0 is a null pointer constant (C99 6.3.2.3, 3)
+-- a value that was converted: an integer constant expression stays one among integers (C99 6.6, 6); cast to
+-- void *, one of value 0 is a null pointer constant (C99 6.3.2.3, 3)
 abbrev pub converted : Ty → Typing → Typing
 converted Void v = value_of_type Void
 converted (Int k) v = integer k (converted_constant k v.constant)
@@ -96,7 +104,13 @@ converted ThreadId v = value_of_type ThreadId
 converted Mutex v = value_of_type Mutex
 converted Cond v = value_of_type Cond
 converted (Pointer t) v =
-    record { type = Pointer t; is_place = false; constant = NotConstant; is_null = is_void t && is_null_value v.constant; address = converted_address v }
+    record {
+      type = Pointer t;
+      is_place = false;
+      constant = NotConstant;
+      is_null = is_void t && is_null_value v.constant;
+      address = converted_address v;
+    }
 converted (Array t n) v = value_of_type (Array t n)
 converted (Struct s) v = value_of_type (Struct s)
 converted (Function result params dots) v = value_of_type (Function result params dots)

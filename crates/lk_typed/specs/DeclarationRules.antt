@@ -1,4 +1,5 @@
--- The rules of declarations as wholes: specifiers (C99 6.7, 6.7.1, 6.7.2), declared names (6.7, 6.9.2), and main (5.1.2.2.1).
+-- The rules of declarations as wholes: specifiers (C99 6.7, 6.7.1, 6.7.2), declared names
+-- (6.7, 6.9.2), and main (5.1.2.2.1).
 use Rattle.std.specs.Prelude.{ℕ, ◌&&◌, ◌||◌, ◌++◌, ◌+◌, Bool, true, false, not, Option, Some, None, List, [], ◌∷◌, codes, nat_le, nat_eq, is_some, if◌then◌else◌}
 use Rattle.lk_base.specs.declared.code.Code.TheVariants.{Mismatch, Incomplete, OwnVararg}
 use Rattle.lk_tree.specs.declared.specifiers.Storage.{Storage}
@@ -59,7 +60,8 @@ pub data Holder : Type 0 where
   -- of a member, a parameter or a type name
   InType : Holder
 
--- how many of typedef, extern and static may stand there (C99 6.7.1, 2; 6.7.2.1, 6.7.5.3, 2, 6.7.6), and that a definition is no typedef (6.9.1, 4)
+-- how many of typedef, extern and static may stand there (C99 6.7.1, 2; 6.7.2.1, 6.7.5.3, 2, 6.7.6), and that
+-- a definition is no typedef (6.9.1, 4)
 abbrev pub may_have : Holder → List Storage → Bool
 may_have InDeclaration ss = nat_le (count_of is_linking ss) 1
 may_have InDefinition ss = nat_le (count_of is_linking ss) 1 && not (has is_typedef ss)
@@ -67,7 +69,8 @@ may_have InType ss = nat_eq (count_of is_linking ss) 0
 
 -- 22 of specifiers: words or a type in none of the combinations, or storage classes that can't stand there
 abbrev pub specifier_rules : Holder → SpecifierTold → List Breach
-specifier_rules holder told = unless (is_some (named_type told.words told.types) && may_have holder told.storages) Mismatch
+specifier_rules holder told =
+    unless (is_some (named_type told.words told.types) && may_have holder told.storages) Mismatch
 
 -- the type that specifiers name, missing where they break a rule
 abbrev pub type_in : Holder → SpecifierTold → Option Ty
@@ -100,10 +103,14 @@ abbrev pub linkage_of_meant : Option Declared → Linkage
 linkage_of_meant None = linkage.External
 linkage_of_meant (Some d) = or_external d.linkage
 
--- the linkage of a name without typedef and extern (C99 6.2.2, 3, 5 and 6): a function without static is as with extern
+-- the linkage of a name without typedef and extern (C99 6.2.2, 3, 5 and 6): a function
+-- without static is as with extern
 abbrev pub file_linkage : Env → Scope → Bool → Bool → Name → Linkage
-file_linkage env AtFile static is_function name = if static then linkage.Internal else if is_function then linkage_of_meant (look_up env name) else linkage.External
-file_linkage env InBlock static is_function name = if is_function then linkage_of_meant (look_up env name) else linkage.None
+file_linkage env AtFile static is_function name =
+    if static then linkage.Internal else if is_function then linkage_of_meant (look_up env name)
+    else linkage.External
+file_linkage env InBlock static is_function name =
+    if is_function then linkage_of_meant (look_up env name) else linkage.None
 
 -- the linkage of a name (C99 6.2.2, 3 to 6): with extern that of a declaration in scope which has one
 abbrev pub linkage_of : Env → Scope → List Storage → Bool → Name → Linkage
@@ -114,7 +121,8 @@ linkage_of env scope ss is_function name =
 
 -- what a declaration defines (C99 6.9.1, 6.9.2)
 abbrev pub defines_of : Scope → List Storage → Bool → Given → Defines
-defines_of scope ss is_function Bare = if is_function || has is_extern ss || has is_typedef ss then defines.Nothing else defines.Tentative
+defines_of scope ss is_function Bare =
+    if is_function || has is_extern ss || has is_typedef ss then defines.Nothing else defines.Tentative
 defines_of scope ss is_function Initialised = defines.Whole
 defines_of scope ss is_function Defined = defines.Whole
 
@@ -125,9 +133,11 @@ is_static_object InBlock ss = has is_static ss || has is_extern ss
 
 abbrev pub meaning_of : Scope → List Storage → Option Ty → Meaning
 meaning_of scope ss None = AFaultyName
-meaning_of scope ss (Some t) = if has is_typedef ss then ATypedef t else if is_function t then AFunction t else AnObject t (is_static_object scope ss)
+meaning_of scope ss (Some t) = if has is_typedef ss then ATypedef t else if is_function t then AFunction t
+    else AnObject t (is_static_object scope ss)
 
--- 22 of an initialiser where none may stand: of a typedef, a function, or an extern in a block (C99 6.7.8, 3 and 5)
+-- 22 of an initialiser where none may stand: of a typedef, a function, or an extern in
+-- a block (C99 6.7.8, 3 and 5)
 abbrev pub may_be_given : Scope → List Storage → Ty → Given → Bool
 may_be_given scope ss t Bare = true
 may_be_given AtFile ss t Initialised = not (has is_typedef ss || is_function t)
@@ -139,13 +149,15 @@ abbrev pub may_be_static : Scope → List Storage → Ty → Bool
 may_be_static AtFile ss t = true
 may_be_static InBlock ss t = not (has is_static ss && is_function t)
 
--- an object whose storage is here wants a complete type (C99 6.7, 7): with an initialiser behind extern too (6.9.2, 1)
+-- an object whose storage is here wants a complete type (C99 6.7, 7): with an initialiser
+-- behind extern too (6.9.2, 1)
 abbrev pub wants_type : List Storage → Ty → Given → Bool
 wants_type ss t Bare = not (has is_typedef ss || has is_extern ss || is_function t)
 wants_type ss t Initialised = not (has is_typedef ss || is_function t)
 wants_type ss t Defined = not (has is_typedef ss || is_function t)
 
--- where the type is to be complete: a tentative definition of external linkage may have a struct that is completed later, `at_end` is the environment behind the source (C99 6.9.2, 2 and 3)
+-- where the type is to be complete: a tentative definition of external linkage may have a struct that is
+-- completed later, `at_end` is the environment behind the source (C99 6.9.2, 2 and 3)
 abbrev pub env_for : Env → Env → Scope → List Storage → Given → Env
 env_for env at_end AtFile ss Bare = if has is_static ss then env else at_end
 env_for env at_end AtFile ss Initialised = env
@@ -159,7 +171,9 @@ has_size_later t Initialised = is_array t
 has_size_later t Defined = false
 
 abbrev pub is_complete_object : Env → Env → Scope → List Storage → Ty → Given → Bool
-is_complete_object env at_end scope ss t given = not (wants_type ss t given) || has_size_later t given || is_complete (env_for env at_end scope ss given).structs t
+is_complete_object env at_end scope ss t given =
+    not (wants_type ss t given) || has_size_later t given
+    || is_complete (env_for env at_end scope ss given).structs t
 
 -- `main` has one of its two types (C99 5.1.2.2.1, 1), where it has external linkage
 abbrev pub arguments : Tys
@@ -176,7 +190,8 @@ may_be_main name linkage.None t = true
 -- the rules of a declared name besides 21, which Redeclared has
 abbrev pub named_rules : Env → Env → Scope → List Storage → Name → Ty → Given → List Breach
 named_rules env at_end scope ss name t given =
-    unless (may_be_given scope ss t given && may_be_static scope ss t && may_be_main name (linkage_of env scope ss (is_function t) name) t) Mismatch ++
+    unless (may_be_given scope ss t given && may_be_static scope ss t
+    && may_be_main name (linkage_of env scope ss (is_function t) name) t) Mismatch ++
     unless (is_complete_object env at_end scope ss t given) Incomplete
 
 -- 40 of a definition with `...`: at the Function

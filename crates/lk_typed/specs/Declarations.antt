@@ -1,4 +1,5 @@
--- What declarations add (C99 6.7, 6.2.2, 6.2.7, 6.9.1, 6.9.2): each declared name stands from the end of its declarator on, so in its own initialiser too (6.2.1, 7).
+-- What declarations add (C99 6.7, 6.2.2, 6.2.7, 6.9.1, 6.9.2): each declared name stands from the end of its
+-- declarator on, so in its own initialiser too (6.2.1, 7).
 use Rattle.std.specs.Prelude.{ℕ, Bool, true, false, Option, Some, None, List, [], ◌∷◌, nat_eq, if◌then◌else◌}
 use Rattle.lk_tree.specs.declared.declaration.Declare.{Declare}
 use Rattle.lk_tree.specs.declared.declaration.Init.{Init}
@@ -21,7 +22,8 @@ abbrev pub sized : ℕ → ℕ → ℕ
 sized n m = if nat_eq n 0 then m else n
 
 abbrev mutual
-  -- the type of two declarations of one name (C99 6.2.7, 3): an array in it has the size that either of them gives
+  -- the type of two declarations of one name (C99 6.2.7, 3): an array in it has the
+  -- size that either of them gives
   pub composite : Ty → Ty → Ty
   composite Void old = Void
   composite (Int k) old = Int k
@@ -29,10 +31,13 @@ abbrev mutual
   composite Mutex old = Mutex
   composite Cond old = Cond
   composite (Pointer t) old = with_optional (Pointer t) (λ u. Pointer (composite t u)) (target_of old)
-  composite (Array t n) old = with_optional (Array t n) (λ other. Array (composite t other.0) (sized n other.1)) (array_of old)
+  composite (Array t n) old =
+      with_optional (Array t n) (λ other. Array (composite t other.0) (sized n other.1)) (array_of old)
   composite (Struct s) old = Struct s
   composite (Function result params dots) old =
-      with_optional (Function result params dots) (λ other. Function (composite result other.result) (composites params other.params) dots) (function_of old)
+      with_optional (Function result params dots)
+      (λ other. Function (composite result other.result) (composites params other.params) dots)
+      (function_of old)
   composite (Opaque n) old = Opaque n
 
   pub composites : Tys → Tys → Tys
@@ -47,7 +52,9 @@ composite_if_equal t (Some old) = if is_redeclarable t old then composite t old 
 -- the type of an object or function with linkage that is declared before (C99 6.2.7, 4)
 abbrev pub old_type : Option Declared → Option Ty
 old_type None = None
-old_type (Some old) = if is_linked_alike old.linkage old.linkage then or_else (object_type old.meaning) (function_type old.meaning) else None
+old_type (Some old) =
+    if is_linked_alike old.linkage old.linkage
+    then or_else (object_type old.meaning) (function_type old.meaning) else None
 
 abbrev pub given_by : Option Init → Given
 given_by None = Bare
@@ -77,7 +84,8 @@ completed init t = unless_broken (given_rules (elements_given init t)) (sized_by
 -- a name with linkage has the composite type (C99 6.2.7, 4)
 abbrev pub type_with_old : Env → Name → Linkage → Option Ty → Option Ty
 type_with_old env name reach None = None
-type_with_old env name reach (Some t) = Some (composite_if_equal t (if is_linked_alike reach reach then old_type (look_up env name) else None))
+type_with_old env name reach (Some t) =
+    Some (composite_if_equal t (if is_linked_alike reach reach then old_type (look_up env name) else None))
 
 abbrev pub is_function_type : Option Ty → Bool
 is_function_type None = false
@@ -96,7 +104,8 @@ abbrev pub type_of_name : Env → Scope → List Storage → Option Named → Op
 type_of_name env scope ss None t = t
 type_of_name env scope ss (Some named) t = composite_type env scope ss named.name t
 
--- a declared name (C99 6.2.2, 6.2.4), with the size that its initialiser gives; its declaration is faulty where its type is missing
+-- a declared name (C99 6.2.2, 6.2.4), with the size that its initialiser gives; its declaration is
+-- faulty where its type is missing
 abbrev pub declared_as : Env → Scope → List Storage → Given → Option Init → Name → ℕ → Option Ty → Declared
 declared_as env scope ss given init name n t =
     record {
@@ -110,9 +119,11 @@ declared_as env scope ss given init name n t =
 abbrev pub one_name : Declared → Additions
 one_name d = record { declared = d ∷ []; tags = []; structs = [] }
 
-abbrev pub named_additions : Env → Scope → List Storage → Given → Option Init → Option Named → Option Ty → Additions
+abbrev pub named_additions : Env → Scope → List Storage → Given → Option Init → Option Named →
+    Option Ty → Additions
 named_additions env scope ss given init None t = nothing
-named_additions env scope ss given init (Some named) t = one_name (declared_as env scope ss given init named.name named.ordinal t)
+named_additions env scope ss given init (Some named) t =
+    one_name (declared_as env scope ss given init named.name named.ordinal t)
 
 abbrev pub initialiser_adds : Env → Option Init → Additions
 initialiser_adds env None = nothing
@@ -133,7 +144,8 @@ declarator_adds scope told env d =
 
 abbrev pub declarators_add : Scope → SpecifierTold → Env → List InitDeclarator → Additions
 declarators_add scope told env [] = nothing
-declarators_add scope told env (d ∷ ds) = let a = declarator_adds scope told env d in both a (declarators_add scope told (extend env a) ds)
+declarators_add scope told env (d ∷ ds) = let a = declarator_adds scope told env d in
+    both a (declarators_add scope told (extend env a) ds)
 
 abbrev pub is_alone : List InitDeclarator → Bool
 is_alone [] = true

@@ -1,4 +1,5 @@
--- What a declarator makes of the type on its left, and the rules that it may break (C99 6.7.5). A type is missing where something on the left is faulty.
+-- What a declarator makes of the type on its left, and the rules that it may break (C99 6.7.5). A type is
+-- missing where something on the left is faulty.
 use Rattle.std.specs.Prelude.{ℕ, ◌*◌, ◌++◌, Bool, true, false, not, ◌&&◌, ◌||◌, Option, Some, None, List, [], ◌∷◌, nat_lt, if◌then◌else◌, ℤ, pos, int_le, unsigned_abs}
 use Rattle.lk_base.specs.declared.code.Code.{Code}
 use Rattle.lk_base.specs.declared.code.Code.TheVariants.{Mismatch, Incomplete, VariableArray, OwnVararg, StructValue, MutexValue}
@@ -21,7 +22,8 @@ of_type (Some t) rule = rule t
 
 -- ---- arrays (C99 6.7.5.2)
 
--- what stands between the brackets of an array, if anything does: what constant it is (C99 6.6), missing where it has no type
+-- what stands between the brackets of an array, if anything does: what constant it is (C99 6.6),
+-- missing where it has no type
 abbrev pub Size : Type 0
 Size = Option (Option Constant)
 
@@ -63,7 +65,8 @@ has_size may_be_absent element (Some (Some c)) = is_size_of element (known_value
 -- the rules of `declarator[size]`: 25 of the element (C99 6.7.5.2, 1), 31 of the size
 abbrev pub array_rules : Env → Bool → Option Ty → Size → List Breach
 array_rules env may_be_absent element size =
-    of_type element (λ t. unless (is_complete env.structs t) Incomplete) ++ unless (has_size may_be_absent element size) VariableArray
+    of_type element (λ t. unless (is_complete env.structs t) Incomplete) ++
+    unless (has_size may_be_absent element size) VariableArray
 
 abbrev pub array_of_size : Option ℤ → Ty → Option Ty
 array_of_size None t = None
@@ -90,12 +93,15 @@ pointer_rules target = of_type target (λ t. unless (not (has_dots t)) OwnVararg
 
 -- ---- functions (C99 6.7.5.3)
 
--- the rules of `declarator(parameters)`: 22 where it returns a function or an array (C99 6.7.5.3, 1); 41 and 45 where it returns a struct or a lock
+-- the rules of `declarator(parameters)`: 22 where it returns a function or an array (C99 6.7.5.3, 1); 41
+-- and 45 where it returns a struct or a lock
 abbrev pub function_rules : Option Ty → List Breach
 function_rules result =
-    of_type result (λ t. unless (not (is_function t || is_array t)) Mismatch ++ unless (not (is_struct t)) StructValue ++ unless (not (is_lock t)) MutexValue)
+    of_type result (λ t. unless (not (is_function t || is_array t)) Mismatch ++
+    unless (not (is_struct t)) StructValue ++ unless (not (is_lock t)) MutexValue)
 
--- the type of a parameter as it is written, turned into a pointer where it is an array or a function (C99 6.7.5.3, 7 and 8)
+-- the type of a parameter as it is written, turned into a pointer where it is an array or a
+-- function (C99 6.7.5.3, 7 and 8)
 abbrev pub adjusted : Ty → Ty
 adjusted Void = Void
 adjusted (Int k) = Int k
@@ -108,7 +114,9 @@ adjusted (Struct s) = Struct s
 adjusted (Function result params dots) = Pointer (Function result params dots)
 adjusted (Opaque n) = Opaque n
 
--- the rules of a parameter: 40 of a function with `...`, 41 of a struct, 45 of a lock; 25 of void stands at its name, or here where it has none
+-- the rules of a parameter: 40 of a function with `...`, 41 of a struct, 45 of a lock; 25 of void stands at
+-- its name, or here where it has none
 abbrev pub parameter_rules : Bool → Option Ty → List Breach
 parameter_rules is_named t =
-    of_type t (λ t. unless (not (has_dots t)) OwnVararg ++ unless (not (is_struct t)) StructValue ++ unless (not (is_lock t)) MutexValue ++ unless (is_named || not (is_void t)) Incomplete)
+    of_type t (λ t. unless (not (has_dots t)) OwnVararg ++ unless (not (is_struct t)) StructValue ++
+    unless (not (is_lock t)) MutexValue ++ unless (is_named || not (is_void t)) Incomplete)

@@ -6,7 +6,8 @@ use Rattle.lk_types.specs.declared.c_type.CType.TheVariants.{Void, Int, ThreadId
 use Rattle.lk_typed.specs.DeclaratorRules.{elements}
 use Rattle.lk_typed.specs.Meaning.{meaning}
 
--- no type has 2 ^ 64 elements: one that is declared has 1,048,576 at most (code 31), and a text has fewer than it could have bytes
+-- no type has 2 ^ 64 elements: one that is declared has 1,048,576 at most (code 31), and a text has
+-- fewer than it could have bytes
 abbrev pub HasFewElements : Table → Type 0
 HasFewElements table = (t : ℕ) → IsKnown table t → elements (meaning table t) < 2 ^ 64
 

@@ -1,4 +1,5 @@
--- The names that a source declares, and the entities that they are: functions and objects of static storage (C99 6.2.2, 6.2.4, 3).
+-- The names that a source declares, and the entities that they are: functions and objects of static
+-- storage (C99 6.2.2, 6.2.4, 3).
 use Rattle.std.specs.Prelude.{ℕ, ◌≡◌, ◌↔◌, ◌⊎◌, ◌<◌, true, false, Option, Some, None, List, [], ◌∷◌, slice_get}
 use Rattle.lk_base.specs.declared.spot.Spot.{Spot}
 use Rattle.lk_tree.specs.declared.declaration.Declare.{Declare}
@@ -30,7 +31,8 @@ use Rattle.lk_typed.specs.declared.unit.Body.{Body}
 
 -- ---- declared names
 
--- a name that a declaration or a definition declares: what it stands for behind its declarator, its place, and the type that is declared, with the size that its initialiser gives
+-- a name that a declaration or a definition declares: what it stands for behind its declarator, its place,
+-- and the type that is declared, with the size that its initialiser gives
 pub record NameDeclared : Type 0 where
   pub is : Declared
   pub spot : Spot
@@ -40,28 +42,42 @@ abbrev pub specifiers_of : Env → Declare → SpecifierTold
 specifiers_of env node = specifiers_found node.specifiers env (is_alone node.declarators)
 
 -- a declarator stands among others of a declaration, behind those before it
-pub data StandsAmong (scope : Scope) (told : SpecifierTold) : Env → List InitDeclarator → Env → InitDeclarator → Type 0 where
-  first : {env : Env} {d : InitDeclarator} {ds : List InitDeclarator} → StandsAmong scope told env (d ∷ ds) env d
-  later : {env env' : Env} {d e : InitDeclarator} {ds : List InitDeclarator} → StandsAmong scope told (extend env (declarator_adds scope told env d)) ds env' e → StandsAmong scope told env (d ∷ ds) env' e
+pub data StandsAmong (scope : Scope) (told : SpecifierTold) : Env → List InitDeclarator → Env →
+    InitDeclarator → Type 0 where
+  first : {env : Env} {d : InitDeclarator} {ds : List InitDeclarator} →
+      StandsAmong scope told env (d ∷ ds) env d
+  later : {env env' : Env} {d e : InitDeclarator} {ds : List InitDeclarator} →
+      StandsAmong scope told (extend env (declarator_adds scope told env d)) ds env' e →
+      StandsAmong scope told env (d ∷ ds) env' e
 
 abbrev pub IsDeclaratorOf : Scope → Env → Declare → Env → InitDeclarator → Type 0
-IsDeclaratorOf scope env node env' d = StandsAmong scope (specifiers_of env node) (extend env (specifiers_of env node).additions) node.declarators env' d
+IsDeclaratorOf scope env node env' d =
+    StandsAmong scope (specifiers_of env node) (extend env (specifiers_of env node).additions)
+    node.declarators env' d
 
 -- the environment behind the declarator of a definition, with its name, and its type
 abbrev pub behind_name : Env → Definition → Env
-behind_name env node = let told = specifiers_found node.specifiers env false in behind_declarator told (extend env told.additions) node
+behind_name env node = let told = specifiers_found node.specifiers env false in
+    behind_declarator told (extend env told.additions) node
 
 abbrev pub defined_type : Env → Definition → Option Ty
 defined_type env node =
-    let told = specifiers_found node.specifiers env false in type_made (extend env told.additions) false (type_in InDefinition told) (declarator_found node.declarator)
+    let told = specifiers_found node.specifiers env false in
+    type_made (extend env told.additions) false (type_in InDefinition told)
+    (declarator_found node.declarator)
 
 -- a node declares a name
 pub data DeclaresName (env : Env) : Node → NameDeclared → Type 0 where
-  in_declaration : {scope : Scope} {node : Declare} {env' : Env} {d : InitDeclarator} {named : Named} {is : Declared} {t : Ty} → IsDeclaratorOf scope env node env' d →
-      (declarator_found d.declarator).name ≡ Some named → look_up (extend env' (name_adds scope (specifiers_of env node) env' d)) named.name ≡ Some is →
-      type_declared scope (specifiers_of env node) env' d ≡ Some t → DeclaresName env (ADeclaration scope node) (record { is = is; spot = named.spot; type = t })
-  by_definition : {node : Definition} {named : Named} {is : Declared} {t : Ty} → (declarator_found node.declarator).name ≡ Some named →
-      look_up (behind_name env node) named.name ≡ Some is → defined_type env node ≡ Some t → DeclaresName env (ADefinition node) (record { is = is; spot = named.spot; type = t })
+  in_declaration : {scope : Scope} {node : Declare} {env' : Env} {d : InitDeclarator} {named : Named}
+      {is : Declared} {t : Ty} → IsDeclaratorOf scope env node env' d →
+      (declarator_found d.declarator).name ≡ Some named →
+      look_up (extend env' (name_adds scope (specifiers_of env node) env' d)) named.name ≡ Some is →
+      type_declared scope (specifiers_of env node) env' d ≡ Some t →
+      DeclaresName env (ADeclaration scope node) (record { is = is; spot = named.spot; type = t })
+  by_definition : {node : Definition} {named : Named} {is : Declared} {t : Ty} →
+      (declarator_found node.declarator).name ≡ Some named →
+      look_up (behind_name env node) named.name ≡ Some is → defined_type env node ≡ Some t →
+      DeclaresName env (ADefinition node) (record { is = is; spot = named.spot; type = t })
 
 -- ---- what is an entity: a function, and an object of static storage (C99 6.2.4, 3)
 
@@ -74,14 +90,18 @@ entity_kind (AnEnumerator z) = None
 entity_kind (AnInitialiserWord t) = None
 entity_kind AFaultyName = None
 
--- two declarations are of one entity: they are one, or have one name, of external or of internal linkage (C99 6.2.2, 2)
+-- two declarations are of one entity: they are one, or have one name, of external or of
+-- internal linkage (C99 6.2.2, 2)
 abbrev pub AreOfOne : NameDeclared → NameDeclared → Type 0
-AreOfOne a b = (a.is.ordinal ≡ b.is.ordinal) ⊎ ((is_linked_alike a.is.linkage b.is.linkage ≡ true) × (a.is.name ≡ b.is.name))
+AreOfOne a b =
+    (a.is.ordinal ≡ b.is.ordinal)
+    ⊎ ((is_linked_alike a.is.linkage b.is.linkage ≡ true) × (a.is.name ≡ b.is.name))
 
 -- the composite of the types that declarations give, behind that of those before them (C99 6.2.7, 3 and 4)
 pub data HaveComposite (types : List CType) : Option Ty → List Declaration → Ty → Type 0 where
   no_more : {t : Ty} → HaveComposite types (Some t) [] t
-  next : {before : Option Ty} {is : Declaration} {others : List Declaration} {t whole : Ty} → Means types is.ty t → HaveComposite types (Some (composite_if_equal t before)) others whole →
+  next : {before : Option Ty} {is : Declaration} {others : List Declaration} {t whole : Ty} →
+      Means types is.ty t → HaveComposite types (Some (composite_if_equal t before)) others whole →
       HaveComposite types before (is ∷ others) whole
 
 pub record IsDeclarationOf (types : List CType) (n : NameDeclared) (is : Declaration) : Type 0 where
@@ -93,7 +113,9 @@ pub record IsDeclarationOf (types : List CType) (n : NameDeclared) (is : Declara
 -- `externs` are the names that --externs lists
 module _ (externs : List Name) (unit : Unit) where
   abbrev pub StandsIn : Env → Node → Env → Node → Type 0
-  StandsIn = stands.Stands (parts (at_end externs unit)) (breaches (at_end externs unit)) (hiding (at_end externs unit)) mark_of
+  StandsIn =
+      stands.Stands (parts (at_end externs unit)) (breaches (at_end externs unit))
+      (hiding (at_end externs unit)) mark_of
 
   -- a name that stands for a function or an object of static storage
   pub record IsEntityName (env : Env) (node : Node) (n : NameDeclared) : Type 0 where
@@ -115,7 +137,8 @@ module _ (externs : List Name) (unit : Unit) where
   -- a name without linkage is a `static` object of a block: it has the body in which it stands
   pub data HasBody (bodies : List Body) (env : Env) (node : Node) (n : NameDeclared) : Option ℕ → Type 0 where
     none : is_linked_alike n.is.linkage n.is.linkage ≡ true → HasBody bodies env node n None
-    in_block : {b : ℕ} → is_linked_alike n.is.linkage n.is.linkage ≡ false → StandsInBody bodies env node b → HasBody bodies env node n (Some b)
+    in_block : {b : ℕ} → is_linked_alike n.is.linkage n.is.linkage ≡ false → StandsInBody bodies env node b →
+        HasBody bodies env node n (Some b)
 
   -- a name stands as an expression, for the entity (C99 6.5.1); in sizeof and where control never comes too
   pub record IsUseOf (entity : Entity) (use_ : Use) : Type 0 where
@@ -132,10 +155,13 @@ module _ (externs : List Name) (unit : Unit) where
 
   pub data IsFirstUse (entity : Entity) : Option Use → Type 0 where
     unused : ((other : Use) → IsUseOf entity other → ⊥) → IsFirstUse entity None
-    used : {use_ : Use} → IsUseOf entity use_ → ((other : Use) → IsUseOf entity other → other.ordinal < use_.ordinal → ⊥) → IsFirstUse entity (Some use_)
+    used : {use_ : Use} → IsUseOf entity use_ →
+        ((other : Use) → IsUseOf entity other → other.ordinal < use_.ordinal → ⊥) →
+        IsFirstUse entity (Some use_)
 
   -- what an entity keeps, by its first declaration
-  pub record IsEntityOf (types : List CType) (bodies : List Body) (env : Env) (node : Node) (n : NameDeclared) (entity : Entity) : Type 0 where
+  pub record IsEntityOf (types : List CType) (bodies : List Body) (env : Env) (node : Node) (n : NameDeclared)
+      (entity : Entity) : Type 0 where
     pub name : entity.name ≡ n.is.name
     pub linkage : entity.linkage ≡ n.is.linkage
     pub kind : entity_kind n.is.meaning ≡ Some entity.kind
@@ -161,11 +187,18 @@ module _ (externs : List Name) (unit : Unit) where
       pub of : IsDeclarationOf types n is
 
     pub record AreEntities : Type 0 where
-      pub all : (env : Env) (node : Node) (n : NameDeclared) → IsEntityName env node n → (e k : ℕ) × Declares e k n
-      pub none_else : (e k : ℕ) (is : Declaration) → IsDeclaration e k is → (env : Env) × (node : Node) × (n : NameDeclared) × IsEntityName env node n × IsDeclarationOf types n is
-      pub one : (e k f j : ℕ) (env around : Env) (node other : Node) (n m : NameDeclared) → IsEntityName env node n → IsEntityName around other m →
-          Declares e k n → Declares f j m → (e ≡ f) ↔ AreOfOne n m
+      pub all : (env : Env) (node : Node) (n : NameDeclared) → IsEntityName env node n →
+          (e k : ℕ) × Declares e k n
+      pub none_else : (e k : ℕ) (is : Declaration) → IsDeclaration e k is →
+          (env : Env) × (node : Node) × (n : NameDeclared) × IsEntityName env node n
+          × IsDeclarationOf types n is
+      pub one : (e k f j : ℕ) (env around : Env) (node other : Node) (n m : NameDeclared) →
+          IsEntityName env node n → IsEntityName around other m → Declares e k n → Declares f j m →
+          (e ≡ f) ↔ AreOfOne n m
       pub first : (e : ℕ) (entity : Entity) → slice_get entities e ≡ Some entity →
-          (env : Env) × (node : Node) × (n : NameDeclared) × IsEntityName env node n × Declares e 0 n × IsEntityOf types bodies env node n entity
-      pub entities_rise : (e f : ℕ) (a b : Declaration) → e < f → IsDeclaration e 0 a → IsDeclaration f 0 b → a.ordinal < b.ordinal
-      pub declarations_rise : (e k j : ℕ) (a b : Declaration) → k < j → IsDeclaration e k a → IsDeclaration e j b → a.ordinal < b.ordinal
+          (env : Env) × (node : Node) × (n : NameDeclared) × IsEntityName env node n × Declares e 0 n
+          × IsEntityOf types bodies env node n entity
+      pub entities_rise : (e f : ℕ) (a b : Declaration) → e < f → IsDeclaration e 0 a → IsDeclaration f 0 b →
+          a.ordinal < b.ordinal
+      pub declarations_rise : (e k j : ℕ) (a b : Declaration) → k < j → IsDeclaration e k a →
+          IsDeclaration e j b → a.ordinal < b.ordinal

@@ -1,5 +1,6 @@
--- What a node of the tree is given from outside: the names, tags and structs in scope (C99 6.2.1, 6.2.3), and what the node stands as; and what a node adds for those
--- after it. A node never makes an environment: it says what it adds, so a block gives its environment back by itself.
+-- What a node of the tree is given from outside: the names, tags and structs in scope (C99 6.2.1, 6.2.3), and
+-- what the node stands as; and what a node adds for those after it. A node never makes an environment: it
+-- says what it adds, so a block gives its environment back by itself.
 use Rattle.std.specs.Prelude.{ℕ, suc, Bool, true, false, Option, Some, None, List, [], ◌∷◌, ◌++◌, ℤ, length, drop, slice_get, slice_set, nat_eq, unwrap_or, if◌then◌else◌}
 use Rattle.std.specs.Cmp.Lexicographic.{pointwise}
 use Rattle.lk_typed.specs.declared.entity.Linkage.{Linkage}
@@ -123,7 +124,8 @@ nothing = record { declared = []; tags = []; structs = [] }
 
 -- the additions of a node and then those of a later one
 abbrev pub both : Additions → Additions → Additions
-both a b = record { declared = a.declared ++ b.declared; tags = a.tags ++ b.tags; structs = a.structs ++ b.structs }
+both a b =
+    record { declared = a.declared ++ b.declared; tags = a.tags ++ b.tags; structs = a.structs ++ b.structs }
 
 -- what is left of additions where their scope ends: the structs, so that no number stands for two
 abbrev pub past_scope : Additions → Additions
@@ -199,4 +201,5 @@ field_of fields name = latest (λ field. is_name field.name name) fields
 -- the number of that member
 abbrev pub number_of_field : List Field → Name → ℕ
 number_of_field [] name = 0
-number_of_field (field ∷ others) name = if is_name field.name name then 0 else suc (number_of_field others name)
+number_of_field (field ∷ others) name =
+    if is_name field.name name then 0 else suc (number_of_field others name)

@@ -1,5 +1,6 @@
--- The rule of each form of expression, over what was found of its parts; and what is found of an expression itself. The two equations that tie the knot,
--- of an expression and of a type name, belong to the fold over the whole tree.
+-- The rule of each form of expression, over what was found of its parts; and what is found of an
+-- expression itself. The two equations that tie the knot, of an expression and of a type name, belong to
+-- the fold over the whole tree.
 use Rattle.std.specs.Prelude.{ℕ, Bool, true, false, ◌&&◌, ◌||◌, not, Option, Some, None, List, [], ◌∷◌}
 use Rattle.lk_base.specs.declared.code.Code.{Code}
 use Rattle.lk_tree.specs.declared.expression.DeclaratorForm.TheOpen.{ExprForm-F}
@@ -21,7 +22,8 @@ use Rattle.lk_typed.specs.Forms.{Placed, in_place, found_at, placed, each_part, 
 
 -- what a product is, of a sizeof and something without one
 abbrev pub is_sizeof_product : Judged → Judged → Bool
-is_sizeof_product a b = a.look.is_sizeof && not b.look.holds_sizeof || b.look.is_sizeof && not a.look.holds_sizeof
+is_sizeof_product a b =
+    a.look.is_sizeof && not b.look.holds_sizeof || b.look.is_sizeof && not a.look.holds_sizeof
 
 abbrev pub is_product_by : BinaryOperator → Judged → Judged → Bool
 is_product_by binary.Multiply a b = is_sizeof_product a b
@@ -92,44 +94,60 @@ module _ {D X M S G I B P : Type 0} where
   -- how a form is written, in the environment of its node
   abbrev pub look_of : Env → ExprForm-F D X M S G Judged I B P Named → Look
   look_of env (ExprForm-F.Comma left right) = plain_look (left.look.holds_sizeof || right.look.holds_sizeof)
-  look_of env (ExprForm-F.Assign op left right) = plain_look (left.look.holds_sizeof || right.look.holds_sizeof)
-  look_of env (ExprForm-F.Choice condition taken other) = plain_look (condition.look.holds_sizeof || taken.look.holds_sizeof || other.look.holds_sizeof)
+  look_of env (ExprForm-F.Assign op left right) =
+      plain_look (left.look.holds_sizeof || right.look.holds_sizeof)
+  look_of env (ExprForm-F.Choice condition taken other) =
+      plain_look (condition.look.holds_sizeof || taken.look.holds_sizeof || other.look.holds_sizeof)
   look_of env (ExprForm-F.Binary op left right) =
-      record (plain_look (left.look.holds_sizeof || right.look.holds_sizeof)) { is_product = is_product_by op left right }
+      record (plain_look (left.look.holds_sizeof || right.look.holds_sizeof))
+      { is_product = is_product_by op left right }
   look_of env (ExprForm-F.Cast type operand) = plain_look (type.holds_sizeof || operand.look.holds_sizeof)
   look_of env (ExprForm-F.Pre op operand) = plain_look operand.look.holds_sizeof
-  look_of env (ExprForm-F.Prefix op operand) = record (plain_look operand.look.holds_sizeof) { routine = routine_behind op operand.look.routine }
+  look_of env (ExprForm-F.Prefix op operand) =
+      record (plain_look operand.look.holds_sizeof) { routine = routine_behind op operand.look.routine }
   look_of env (ExprForm-F.SizeofExpr operand) = sizeof_look
   look_of env (ExprForm-F.SizeofType type) = sizeof_look
   look_of env (ExprForm-F.Index array inner) = plain_look (array.look.holds_sizeof || inner.look.holds_sizeof)
-  look_of env (ExprForm-F.Call function arguments) = plain_look (function.look.holds_sizeof || any_holds_sizeof arguments)
+  look_of env (ExprForm-F.Call function arguments) =
+      plain_look (function.look.holds_sizeof || any_holds_sizeof arguments)
   look_of env (ExprForm-F.Member object member) = plain_look object.look.holds_sizeof
   look_of env (ExprForm-F.Arrow pointer member) = plain_look pointer.look.holds_sizeof
   look_of env (ExprForm-F.Post op operand) = plain_look operand.look.holds_sizeof
-  look_of env (ExprForm-F.Word word) = record (plain_look false) { word = look_up env word; routine = look_up env word }
+  look_of env (ExprForm-F.Word word) =
+      record (plain_look false) { word = look_up env word; routine = look_up env word }
   look_of env (ExprForm-F.Number kind number) = plain_look false
   look_of env (ExprForm-F.Char number) = plain_look false
   look_of env (ExprForm-F.Text bytes) = record (plain_look false) { text = Some bytes }
-  look_of env (ExprForm-F.Paren inner) = record (plain_look inner.look.holds_sizeof) { word = inner.look.word; routine = inner.look.routine }
+  look_of env (ExprForm-F.Paren inner) =
+      record (plain_look inner.look.holds_sizeof) { word = inner.look.word; routine = inner.look.routine }
 
   -- ---- the rules, each where all parts have a type; `env` is the environment behind the parts, `n` the number of the node
 
   abbrev pub rule : Env → ℕ → ExprForm-F D X M S G Judged I B P Named → Verdict
-  rule env n (ExprForm-F.Comma left right) = with_two left.typing right.typing (λ a b. comma_rule (value a) (value b))
-  rule env n (ExprForm-F.Assign op left right) = with_two left.typing right.typing (assign_rule env.structs op)
+  rule env n (ExprForm-F.Comma left right) =
+      with_two left.typing right.typing (λ a b. comma_rule (value a) (value b))
+  rule env n (ExprForm-F.Assign op left right) =
+      with_two left.typing right.typing (assign_rule env.structs op)
   rule env n (ExprForm-F.Choice condition taken other) =
-      with_one condition.typing (λ c. with_two taken.typing other.typing (λ a b. choice_rule (value c) (value a) (value b)))
-  rule env n (ExprForm-F.Binary op left right) = with_two left.typing right.typing (λ a b. binary_rule env.structs op (value a) (value b))
-  rule env n (ExprForm-F.Cast type operand) = with_type type.type (λ target. with_one operand.typing (cast_rule target))
+      with_one condition.typing
+      (λ c. with_two taken.typing other.typing (λ a b. choice_rule (value c) (value a) (value b)))
+  rule env n (ExprForm-F.Binary op left right) =
+      with_two left.typing right.typing (λ a b. binary_rule env.structs op (value a) (value b))
+  rule env n (ExprForm-F.Cast type operand) =
+      with_type type.type (λ target. with_one operand.typing (cast_rule target))
   rule env n (ExprForm-F.Pre op operand) = with_one operand.typing (step_rule env.structs)
   rule env n (ExprForm-F.Prefix op operand) = with_one operand.typing (prefix_rule op)
-  rule env n (ExprForm-F.SizeofExpr operand) = with_one operand.typing (λ e. sizeof_rule env.structs env.in_size e.type)
+  rule env n (ExprForm-F.SizeofExpr operand) =
+      with_one operand.typing (λ e. sizeof_rule env.structs env.in_size e.type)
   rule env n (ExprForm-F.SizeofType type) = with_type type.type (sizeof_rule env.structs env.in_size)
-  rule env n (ExprForm-F.Index array inner) = with_two array.typing inner.typing (λ a i. index_rule env.structs (value a) (value i))
+  rule env n (ExprForm-F.Index array inner) =
+      with_two array.typing inner.typing (λ a i. index_rule env.structs (value a) (value i))
   rule env n (ExprForm-F.Call function arguments) =
-      with_one function.typing (λ f. with_arguments (arguments_of arguments) (call_rule env (record { typing = f; look = function.look })))
+      with_one function.typing
+      (λ f. with_arguments (arguments_of arguments) (call_rule env (record { typing = f; look = function.look })))
   rule env n (ExprForm-F.Member object member) = with_one object.typing (λ e. dot_rule env.structs e member)
-  rule env n (ExprForm-F.Arrow pointer member) = with_one pointer.typing (λ e. arrow_rule env.structs (value e) member)
+  rule env n (ExprForm-F.Arrow pointer member) =
+      with_one pointer.typing (λ e. arrow_rule env.structs (value e) member)
   rule env n (ExprForm-F.Post op operand) = with_one operand.typing (step_rule env.structs)
   rule env n (ExprForm-F.Word word) = word_rule env word
   rule env n (ExprForm-F.Number kind number) = number_rule kind number
@@ -140,22 +158,28 @@ module _ {D X M S G I B P : Type 0} where
   -- ---- what is found of an expression in an environment
 
   -- what is found of its parts, each in its own environment
-  abbrev pub found_in : {E T : Type 0} → (E → Env → Judged) → (T → Env → Named) → Env → ExprForm-F D X M S G E I B P T → ExprForm-F D X M S G Judged I B P Named
+  abbrev pub found_in : {E T : Type 0} → (E → Env → Judged) → (T → Env → Named) → Env →
+      ExprForm-F D X M S G E I B P T → ExprForm-F D X M S G Judged I B P Named
   found_in judge name env form = each_part (found_at judge) (found_at name) (placed judge name env form)
 
-  abbrev pub verdict : {E T : Type 0} → (E → Env → Judged) → (T → Env → Named) → Env → ℕ → ExprForm-F D X M S G E I B P T → Verdict
-  verdict judge name env n form = let found = found_in judge name env form in rule (extend env (additions_of found)) n found
+  abbrev pub verdict : {E T : Type 0} → (E → Env → Judged) → (T → Env → Named) → Env → ℕ →
+      ExprForm-F D X M S G E I B P T → Verdict
+  verdict judge name env n form = let found = found_in judge name env form in
+      rule (extend env (additions_of found)) n found
 
-  abbrev pub judged : {E T : Type 0} → (E → Env → Judged) → (T → Env → Named) → Env → ℕ → ExprForm-F D X M S G E I B P T → Judged
+  abbrev pub judged : {E T : Type 0} → (E → Env → Judged) → (T → Env → Named) → Env → ℕ →
+      ExprForm-F D X M S G E I B P T → Judged
   judged judge name env n form =
       let found = found_in judge name env form in
       record { typing = typing_of (verdict judge name env n form); look = look_of env found; adds = additions_of found }
 
   -- the codes that hold at the node itself
-  abbrev pub codes_at : {E T : Type 0} → (E → Env → Judged) → (T → Env → Named) → Env → ℕ → ExprForm-F D X M S G E I B P T → List Code
+  abbrev pub codes_at : {E T : Type 0} → (E → Env → Judged) → (T → Env → Named) → Env → ℕ →
+      ExprForm-F D X M S G E I B P T → List Code
   codes_at judge name env n form = codes_of (verdict judge name env n form)
 
   -- the parts of the node, each with its environment
-  abbrev pub parts : {E T A : Type 0} → (E → A) → (T → A) → (E → Env → Judged) → (T → Env → Named) → Env → ExprForm-F D X M S G E I B P T → List (Placed A)
+  abbrev pub parts : {E T A : Type 0} → (E → A) → (T → A) → (E → Env → Judged) → (T → Env → Named) → Env →
+      ExprForm-F D X M S G E I B P T → List (Placed A)
   parts from_expr from_name judge name env form =
       parts_in (in_place from_expr) (in_place from_name) (placed judge name env form)

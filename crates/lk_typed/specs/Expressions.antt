@@ -1,5 +1,5 @@
--- What is found of each expression, declarator, specifier and type name of a tree in an environment: one fold, in which the rules of expressions and the layers of
--- declarations tell one another.
+-- What is found of each expression, declarator, specifier and type name of a tree in an environment: one
+-- fold, in which the rules of expressions and the layers of declarations tell one another.
 use Rattle.std.specs.Prelude.{ℕ, Bool, false, Option, Some, None, List, [], ◌∷◌, map, length, is_some}
 use Rattle.lk_base.specs.declared.code.Code.{Code}
 use Rattle.lk_base.specs.declared.code.Code.TheVariants.{Mismatch}
@@ -36,48 +36,75 @@ use Rattle.lk_typed.specs.Words.{told_name}
 
 -- what a type name tells an expression
 abbrev pub named : TypeNameTeller → Env → Named
-named told env = record { type = (told env).type; holds_sizeof = (told env).holds_sizeof; adds = (told env).additions }
+named told env =
+    record { type = (told env).type; holds_sizeof = (told env).holds_sizeof; adds = (told env).additions }
 
 abbrev DeclaratorFormTeller : Type 0
 DeclaratorFormTeller = layers.Placed DeclaratorLayer
 
-abbrev in_expr : ExprForm-F DeclaratorFormTeller FormTeller MemberDeclaratorTeller SpecifierTeller DeclaratorLayer ExprTeller ItemTeller MemberTeller ParameterTeller TypeNameTeller → FormTeller
+abbrev in_expr : ExprForm-F DeclaratorFormTeller FormTeller MemberDeclaratorTeller SpecifierTeller
+    DeclaratorLayer ExprTeller ItemTeller MemberTeller ParameterTeller TypeNameTeller → FormTeller
 in_expr form n env = rules.judged (λ judge inside. judge inside) named env n form
 
-abbrev of_expr : Expr-F DeclaratorFormTeller FormTeller MemberDeclaratorTeller SpecifierTeller DeclaratorLayer ExprTeller ItemTeller MemberTeller ParameterTeller TypeNameTeller → ExprTeller
+abbrev of_expr : Expr-F DeclaratorFormTeller FormTeller MemberDeclaratorTeller SpecifierTeller DeclaratorLayer
+    ExprTeller ItemTeller MemberTeller ParameterTeller TypeNameTeller → ExprTeller
 of_expr node = node.form node.ordinal
 
 unfoldable pub expression : Expr → ExprTeller
-expression = fold-Expr DeclaratorFormTeller FormTeller MemberDeclaratorTeller SpecifierTeller DeclaratorLayer ExprTeller ItemTeller MemberTeller ParameterTeller TypeNameTeller
-    in_declarator in_expr of_member_declarator of_specifier of_declarator of_expr of_item of_member of_parameter of_type_name
+expression =
+    fold-Expr DeclaratorFormTeller FormTeller MemberDeclaratorTeller SpecifierTeller DeclaratorLayer
+    ExprTeller ItemTeller MemberTeller ParameterTeller TypeNameTeller
+    in_declarator in_expr of_member_declarator of_specifier of_declarator of_expr of_item of_member
+    of_parameter of_type_name
 
 unfoldable pub declarator_layer : Declarator → DeclaratorLayer
-declarator_layer = fold-Declarator DeclaratorFormTeller FormTeller MemberDeclaratorTeller SpecifierTeller DeclaratorLayer ExprTeller ItemTeller MemberTeller ParameterTeller TypeNameTeller
-    in_declarator in_expr of_member_declarator of_specifier of_declarator of_expr of_item of_member of_parameter of_type_name
+declarator_layer =
+    fold-Declarator DeclaratorFormTeller FormTeller MemberDeclaratorTeller SpecifierTeller DeclaratorLayer
+    ExprTeller ItemTeller MemberTeller ParameterTeller TypeNameTeller
+    in_declarator in_expr of_member_declarator of_specifier of_declarator of_expr of_item of_member
+    of_parameter of_type_name
 
 unfoldable pub specifier_found : Specifier → SpecifierTeller
-specifier_found = fold-Specifier DeclaratorFormTeller FormTeller MemberDeclaratorTeller SpecifierTeller DeclaratorLayer ExprTeller ItemTeller MemberTeller ParameterTeller TypeNameTeller
-    in_declarator in_expr of_member_declarator of_specifier of_declarator of_expr of_item of_member of_parameter of_type_name
+specifier_found =
+    fold-Specifier DeclaratorFormTeller FormTeller MemberDeclaratorTeller SpecifierTeller DeclaratorLayer
+    ExprTeller ItemTeller MemberTeller ParameterTeller TypeNameTeller
+    in_declarator in_expr of_member_declarator of_specifier of_declarator of_expr of_item of_member
+    of_parameter of_type_name
 
 unfoldable pub member_found : Member → MemberTeller
-member_found = fold-Member DeclaratorFormTeller FormTeller MemberDeclaratorTeller SpecifierTeller DeclaratorLayer ExprTeller ItemTeller MemberTeller ParameterTeller TypeNameTeller
-    in_declarator in_expr of_member_declarator of_specifier of_declarator of_expr of_item of_member of_parameter of_type_name
+member_found =
+    fold-Member DeclaratorFormTeller FormTeller MemberDeclaratorTeller SpecifierTeller DeclaratorLayer
+    ExprTeller ItemTeller MemberTeller ParameterTeller TypeNameTeller
+    in_declarator in_expr of_member_declarator of_specifier of_declarator of_expr of_item of_member
+    of_parameter of_type_name
 
 unfoldable pub member_declarator_found : MemberDeclarator → MemberDeclaratorTeller
-member_declarator_found = fold-MemberDeclarator DeclaratorFormTeller FormTeller MemberDeclaratorTeller SpecifierTeller DeclaratorLayer ExprTeller ItemTeller MemberTeller ParameterTeller TypeNameTeller
-    in_declarator in_expr of_member_declarator of_specifier of_declarator of_expr of_item of_member of_parameter of_type_name
+member_declarator_found =
+    fold-MemberDeclarator DeclaratorFormTeller FormTeller MemberDeclaratorTeller SpecifierTeller
+    DeclaratorLayer ExprTeller ItemTeller MemberTeller ParameterTeller TypeNameTeller
+    in_declarator in_expr of_member_declarator of_specifier of_declarator of_expr of_item of_member
+    of_parameter of_type_name
 
 unfoldable pub item_found : Item → ItemTeller
-item_found = fold-Item DeclaratorFormTeller FormTeller MemberDeclaratorTeller SpecifierTeller DeclaratorLayer ExprTeller ItemTeller MemberTeller ParameterTeller TypeNameTeller
-    in_declarator in_expr of_member_declarator of_specifier of_declarator of_expr of_item of_member of_parameter of_type_name
+item_found =
+    fold-Item DeclaratorFormTeller FormTeller MemberDeclaratorTeller SpecifierTeller DeclaratorLayer
+    ExprTeller ItemTeller MemberTeller ParameterTeller TypeNameTeller
+    in_declarator in_expr of_member_declarator of_specifier of_declarator of_expr of_item of_member
+    of_parameter of_type_name
 
 unfoldable pub parameter_found : Parameter → ParameterTeller
-parameter_found = fold-Parameter DeclaratorFormTeller FormTeller MemberDeclaratorTeller SpecifierTeller DeclaratorLayer ExprTeller ItemTeller MemberTeller ParameterTeller TypeNameTeller
-    in_declarator in_expr of_member_declarator of_specifier of_declarator of_expr of_item of_member of_parameter of_type_name
+parameter_found =
+    fold-Parameter DeclaratorFormTeller FormTeller MemberDeclaratorTeller SpecifierTeller DeclaratorLayer
+    ExprTeller ItemTeller MemberTeller ParameterTeller TypeNameTeller
+    in_declarator in_expr of_member_declarator of_specifier of_declarator of_expr of_item of_member
+    of_parameter of_type_name
 
 unfoldable pub type_found : TypeName → TypeNameTeller
-type_found = fold-TypeName DeclaratorFormTeller FormTeller MemberDeclaratorTeller SpecifierTeller DeclaratorLayer ExprTeller ItemTeller MemberTeller ParameterTeller TypeNameTeller
-    in_declarator in_expr of_member_declarator of_specifier of_declarator of_expr of_item of_member of_parameter of_type_name
+type_found =
+    fold-TypeName DeclaratorFormTeller FormTeller MemberDeclaratorTeller SpecifierTeller DeclaratorLayer
+    ExprTeller ItemTeller MemberTeller ParameterTeller TypeNameTeller
+    in_declarator in_expr of_member_declarator of_specifier of_declarator of_expr of_item of_member
+    of_parameter of_type_name
 
 -- specifiers, each behind those before it
 abbrev pub specifiers_found : List Specifier → SpecifierTeller
@@ -97,7 +124,8 @@ pub data Plainly : Type 0 where
   AText : List ℕ → Plainly
   AnotherForm : Plainly
 
-abbrev pub plainly : ExprForm-F DeclaratorForm ExprForm MemberDeclarator Specifier Declarator Expr Item Member Parameter TypeName → Plainly
+abbrev pub plainly : ExprForm-F DeclaratorForm ExprForm MemberDeclarator Specifier Declarator Expr Item Member
+    Parameter TypeName → Plainly
 plainly (ExprForm-F.Comma left right) = AnotherForm
 plainly (ExprForm-F.Assign op left right) = AnotherForm
 plainly (ExprForm-F.Choice condition taken other) = AnotherForm
@@ -128,13 +156,15 @@ breach_at (AText bytes) code = breach code
 breach_at AnotherForm code = breach code
 
 abbrev pub expr_breaches : Expr → Env → List Breach
-expr_breaches e env = map (breach_at (written e)) (rules.codes_at expression name_of env e.ordinal (out-ExprForm e.form))
+expr_breaches e env =
+    map (breach_at (written e)) (rules.codes_at expression name_of env e.ordinal (out-ExprForm e.form))
 
 abbrev pub at_pair : (Env × Node) → Placed
 at_pair (env, node) = at env node
 
 abbrev pub expr_parts : Expr → Env → List Placed
-expr_parts e env = map at_pair (rules.parts AnExpression ATypeName expression name_of env (out-ExprForm e.form))
+expr_parts e env =
+    map at_pair (rules.parts AnExpression ATypeName expression name_of env (out-ExprForm e.form))
 
 -- ---- what declarations and statements ask of an expression
 
@@ -198,12 +228,19 @@ expr_word e env = word_in (written e) env
 
 -- an initialiser word has no value that converts: 22
 abbrev seen_word : Ty → Seen
-seen_word lock = record { type = lock; text = None; word = Some lock; conversion = breach Mismatch ∷ []; is_constant = false }
+seen_word lock =
+    record { type = lock; text = None; word = Some lock; conversion = breach Mismatch ∷ []; is_constant = false }
 
 abbrev seen_typed : Option ℕ → Ty → Option Typing → Option Seen
 seen_typed bytes target None = None
 seen_typed bytes target (Some typing) =
-    Some (record { type = (value typing).type; text = bytes; word = None; conversion = map breach (given_codes target typing); is_constant = is_static_value (value typing) })
+    Some (record {
+      type = (value typing).type;
+      text = bytes;
+      word = None;
+      conversion = map breach (given_codes target typing);
+      is_constant = is_static_value (value typing);
+    })
 
 abbrev seen_or_word : Option Ty → Option Seen → Option Seen
 seen_or_word None seen = seen
@@ -211,4 +248,6 @@ seen_or_word (Some lock) seen = Some (seen_word lock)
 
 -- what it is as the initialiser of an object of a type
 abbrev pub expr_seen : Expr → Ty → Env → Option Seen
-expr_seen e target env = seen_or_word (expr_word e env) (seen_typed (expr_text e) target (expression e (converted_to env target)).typing)
+expr_seen e target env =
+    seen_or_word (expr_word e env)
+    (seen_typed (expr_text e) target (expression e (converted_to env target)).typing)

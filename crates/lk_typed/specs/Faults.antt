@@ -23,7 +23,9 @@ pub record Fault : Type 0 where
 
 -- places are compared by file number, then line, then column
 abbrev pub StandsBefore : Spot → Spot → Type 0
-StandsBefore a b = (a.file < b.file) ⊎ ((a.file ≡ b.file) × (a.line < b.line)) ⊎ ((a.file ≡ b.file) × (a.line ≡ b.line) × (a.col < b.col))
+StandsBefore a b =
+    (a.file < b.file) ⊎ ((a.file ≡ b.file) × (a.line < b.line))
+    ⊎ ((a.file ≡ b.file) × (a.line ≡ b.line) × (a.col < b.col))
 
 -- faults are compared by place, then the number of the code, then the number of the node
 abbrev pub IsBefore : Fault → Fault → Type 0

@@ -1,5 +1,6 @@
--- The forms of expressions: which environment each part of one stands in, what the parts add, and the rule of each form (C99 6.5). Over E and T, which stand for the
--- expressions and type names inside: trees, or what was found of them; `judge` and `name` say what is found of one in an environment.
+-- The forms of expressions: which environment each part of one stands in, what the parts add, and the rule of
+-- each form (C99 6.5). Over E and T, which stand for the expressions and type names inside: trees, or what
+-- was found of them; `judge` and `name` say what is found of one in an environment.
 use Rattle.std.specs.Prelude.{Option, Some, None, List, [], ◌∷◌, map, if◌then◌else◌}
 use Rattle.lk_tree.specs.declared.expression.DeclaratorForm.TheOpen.{ExprForm-F}
 use Rattle.lk_tree.specs.declared.operators.BinaryOperator.{BinaryOperator}
@@ -30,7 +31,8 @@ behind env found = extend env found.adds
 
 -- ---- what a part stands as
 
--- the right side of an assignment is converted to the type of the left one; that of `op=` isn't converted directly
+-- the right side of an assignment is converted to the type of the left one; that of
+-- `op=` isn't converted directly
 abbrev pub as_right : Option BinaryOperator → Option Typing → Env → Env
 as_right None None env = as_operand env
 as_right None (Some left) env = if is_function left.type then as_operand env else converted_to env left.type
@@ -40,7 +42,8 @@ abbrev pub as_cast : Option Ty → Env → Env
 as_cast None env = as_operand env
 as_cast (Some target) env = converted_to env target
 
--- & and parentheses round the name of a start routine, and parentheses round the function of a call; no other operator passes on what its node stands as
+-- & and parentheses round the name of a start routine, and parentheses round the function of a call; no other
+-- operator passes on what its node stands as
 abbrev pub role_in_address : Role → Role
 role_in_address AsOperand = AsOperand
 role_in_address (ConvertedTo t) = AsOperand
@@ -75,34 +78,44 @@ passes_of f (Some typing) = passes_by (library_called f.look.word) (signature_of
 -- ---- the environments of the parts: each stands behind those before it
 
 -- arguments, in their order
-abbrev pub placed_arguments : {E : Type 0} → (E → Env → Judged) → Env → List Passing → List E → List (Placed E)
+abbrev pub placed_arguments : {E : Type 0} → (E → Env → Judged) → Env → List Passing →
+    List E → List (Placed E)
 placed_arguments judge env passes [] = []
-placed_arguments judge env [] (a ∷ others) = (as_operand env, a) ∷ placed_arguments judge (behind env (judge a (as_operand env))) [] others
+placed_arguments judge env [] (a ∷ others) =
+    (as_operand env, a) ∷ placed_arguments judge (behind env (judge a (as_operand env))) [] others
 placed_arguments judge env (pass ∷ passes) (a ∷ others) =
     (as_passed pass env, a) ∷ placed_arguments judge (behind env (judge a (as_passed pass env))) passes others
 
 module _ {D X M S G I B P : Type 0} where
-  abbrev pub placed : {E T : Type 0} → (E → Env → Judged) → (T → Env → Named) → Env → ExprForm-F D X M S G E I B P T → ExprForm-F D X M S G (Placed E) I B P (Placed T)
+  abbrev pub placed : {E T : Type 0} → (E → Env → Judged) → (T → Env → Named) → Env →
+      ExprForm-F D X M S G E I B P T → ExprForm-F D X M S G (Placed E) I B P (Placed T)
   placed judge name env (ExprForm-F.Comma left right) =
       ExprForm-F.Comma (as_operand env, left) (as_operand (behind env (judge left (as_operand env))), right)
   placed judge name env (ExprForm-F.Assign op left right) =
-      let found = judge left (as_operand env) in ExprForm-F.Assign op (as_operand env, left) (as_right (operator_of op) found.typing (behind env found), right)
+      let found = judge left (as_operand env) in
+      ExprForm-F.Assign op (as_operand env, left)
+      (as_right (operator_of op) found.typing (behind env found), right)
   placed judge name env (ExprForm-F.Choice condition taken other) =
       let second = as_operand (behind env (judge condition (as_operand env))) in
-      ExprForm-F.Choice (as_operand env, condition) (second, taken) (behind second (judge taken second), other)
+      ExprForm-F.Choice (as_operand env, condition) (second, taken)
+      (behind second (judge taken second), other)
   placed judge name env (ExprForm-F.Binary op left right) =
-      ExprForm-F.Binary op (as_operand env, left) (as_operand (behind env (judge left (as_operand env))), right)
+      ExprForm-F.Binary op (as_operand env, left)
+      (as_operand (behind env (judge left (as_operand env))), right)
   placed judge name env (ExprForm-F.Cast type operand) =
-      let found = name type (as_operand env) in ExprForm-F.Cast (as_operand env, type) (as_cast found.type (extend env found.adds), operand)
+      let found = name type (as_operand env) in
+      ExprForm-F.Cast (as_operand env, type) (as_cast found.type (extend env found.adds), operand)
   placed judge name env (ExprForm-F.Pre op operand) = ExprForm-F.Pre op (as_operand env, operand)
-  placed judge name env (ExprForm-F.Prefix op operand) = ExprForm-F.Prefix op (record env { role = role_in_prefix op env.role }, operand)
+  placed judge name env (ExprForm-F.Prefix op operand) =
+      ExprForm-F.Prefix op (record env { role = role_in_prefix op env.role }, operand)
   placed judge name env (ExprForm-F.SizeofExpr operand) = ExprForm-F.SizeofExpr (as_operand env, operand)
   placed judge name env (ExprForm-F.SizeofType type) = ExprForm-F.SizeofType (as_operand env, type)
   placed judge name env (ExprForm-F.Index array inner) =
       ExprForm-F.Index (as_operand env, array) (as_operand (behind env (judge array (as_operand env))), inner)
   placed judge name env (ExprForm-F.Call function arguments) =
       let found = judge function (as_function env) in
-      ExprForm-F.Call (as_function env, function) (placed_arguments judge (behind env found) (passes_of found found.typing) arguments)
+      ExprForm-F.Call (as_function env, function)
+      (placed_arguments judge (behind env found) (passes_of found found.typing) arguments)
   placed judge name env (ExprForm-F.Member object member) = ExprForm-F.Member (as_operand env, object) member
   placed judge name env (ExprForm-F.Arrow pointer member) = ExprForm-F.Arrow (as_operand env, pointer) member
   placed judge name env (ExprForm-F.Post op operand) = ExprForm-F.Post op (as_operand env, operand)
@@ -110,14 +123,17 @@ module _ {D X M S G I B P : Type 0} where
   placed judge name env (ExprForm-F.Number kind number) = ExprForm-F.Number kind number
   placed judge name env (ExprForm-F.Char number) = ExprForm-F.Char number
   placed judge name env (ExprForm-F.Text bytes) = ExprForm-F.Text bytes
-  placed judge name env (ExprForm-F.Paren inner) = ExprForm-F.Paren (record env { role = role_in_parentheses env.role }, inner)
+  placed judge name env (ExprForm-F.Paren inner) =
+      ExprForm-F.Paren (record env { role = role_in_parentheses env.role }, inner)
 
   -- ---- something done to each part
 
-  abbrev pub each_part : {E T E' T' : Type 0} → (E → E') → (T → T') → ExprForm-F D X M S G E I B P T → ExprForm-F D X M S G E' I B P T'
+  abbrev pub each_part : {E T E' T' : Type 0} → (E → E') → (T → T') → ExprForm-F D X M S G E I B P T →
+      ExprForm-F D X M S G E' I B P T'
   each_part f g (ExprForm-F.Comma left right) = ExprForm-F.Comma (f left) (f right)
   each_part f g (ExprForm-F.Assign op left right) = ExprForm-F.Assign op (f left) (f right)
-  each_part f g (ExprForm-F.Choice condition taken other) = ExprForm-F.Choice (f condition) (f taken) (f other)
+  each_part f g (ExprForm-F.Choice condition taken other) =
+      ExprForm-F.Choice (f condition) (f taken) (f other)
   each_part f g (ExprForm-F.Binary op left right) = ExprForm-F.Binary op (f left) (f right)
   each_part f g (ExprForm-F.Cast type operand) = ExprForm-F.Cast (g type) (f operand)
   each_part f g (ExprForm-F.Pre op operand) = ExprForm-F.Pre op (f operand)

@@ -1,4 +1,5 @@
--- The rules of what specifiers stand in: declarations, definitions, members, enumerators, parameters and type names (C99 6.7, 6.7.2).
+-- The rules of what specifiers stand in: declarations, definitions, members, enumerators, parameters and
+-- type names (C99 6.7, 6.7.2).
 use Rattle.std.specs.Prelude.{◌||◌, ◌++◌, Bool, true, false, Option, Some, None, List, [], ◌∷◌, if◌then◌else◌, ℤ, pos, ◌+ℤ◌}
 use Rattle.lk_base.specs.declared.code.Code.TheVariants.{Incomplete, NotConstant, BitField}
 use Rattle.lk_tree.specs.declared.declaration.Declare.{Declare}
@@ -33,7 +34,9 @@ abbrev pub enum_rules : Env → Name → Option Tag → List Breach
 enum_rules env name None = breach Incomplete ∷ []
 enum_rules env name (Some tag) = tag_rules env NamesEnum name
 
-abbrev pub one_tag_rules : Env → Bool → Specifier-F DeclaratorForm ExprForm MemberDeclarator Specifier Declarator Expr Item Member Parameter TypeName → List Breach
+abbrev pub one_tag_rules : Env → Bool →
+    Specifier-F DeclaratorForm ExprForm MemberDeclarator Specifier Declarator Expr Item Member Parameter
+    TypeName → List Breach
 one_tag_rules env alone (Specifier-F.Storage word) = []
 one_tag_rules env alone Specifier-F.Inline = []
 one_tag_rules env alone (Specifier-F.Qualifier word) = []
@@ -46,11 +49,14 @@ one_tag_rules env alone (Specifier-F.Typedef name) = []
 
 abbrev pub tags_rules : Bool → Env → List Specifier → List Breach
 tags_rules alone env [] = []
-tags_rules alone env (s ∷ ss) = one_tag_rules env alone (out-Specifier s) ++ tags_rules alone (extend env (specifiers_found (s ∷ []) env alone).additions) ss
+tags_rules alone env (s ∷ ss) =
+    one_tag_rules env alone (out-Specifier s) ++
+    tags_rules alone (extend env (specifiers_found (s ∷ []) env alone).additions) ss
 
 -- 21, 22 and 25 of specifiers
 abbrev pub all_specifier_rules : Holder → Bool → Env → List Specifier → List Breach
-all_specifier_rules holder alone env ss = tags_rules alone env ss ++ specifier_rules holder (specifiers_found ss env alone)
+all_specifier_rules holder alone env ss =
+    tags_rules alone env ss ++ specifier_rules holder (specifiers_found ss env alone)
 
 -- ---- declarations
 
@@ -61,7 +67,8 @@ declaration_rules env node = all_specifier_rules InDeclaration (is_alone node.de
 -- ---- members, enumerators, parameters and type names
 
 -- 30: a bit-field (C99 6.7.2.1, 8)
-abbrev pub is_bit_field : MemberDeclarator-F DeclaratorForm ExprForm MemberDeclarator Specifier Declarator Expr Item Member Parameter TypeName → Bool
+abbrev pub is_bit_field : MemberDeclarator-F DeclaratorForm ExprForm MemberDeclarator Specifier Declarator
+    Expr Item Member Parameter TypeName → Bool
 is_bit_field (MemberDeclarator-F.Plain inner) = false
 is_bit_field (MemberDeclarator-F.Field inner width) = true
 is_bit_field (MemberDeclarator-F.Unnamed width) = true
@@ -75,7 +82,8 @@ member_node_rules env m =
     all_specifier_rules InType false env m.specifiers ++
     (if has_bit_field m.declarators then breach BitField ∷ [] else [])
 
--- 24 of an enumerator's value: it isn't constant, or int doesn't hold it (C99 6.7.2.2, 2); None: none is known for the enumerator before
+-- 24 of an enumerator's value: it isn't constant, or int doesn't hold it (C99 6.7.2.2, 2); None: none is
+-- known for the enumerator before
 abbrev pub fits_int : Option ℤ → List Breach
 fits_int None = breach NotConstant ∷ []
 fits_int (Some z) = []

@@ -1,4 +1,5 @@
--- What an initialiser gives to the parts of an object, in the order of the entries (C99 6.7.8, 10 to 22). Each inner struct and array has braces of its own, or is an array that a text initialises.
+-- What an initialiser gives to the parts of an object, in the order of the entries (C99 6.7.8, 10 to 22).
+-- Each inner struct and array has braces of its own, or is an array that a text initialises.
 use Rattle.std.specs.Prelude.{ℕ, suc, ◌≡◌, ◌++◌, true, false, Option, Some, None, List, [], ◌∷◌, length, nat_lt, if◌then◌else◌}
 use Rattle.lk_base.specs.declared.cell.CellStep.{CellStep}
 use Rattle.lk_base.specs.declared.cell.CellStep.TheVariants as to
@@ -25,7 +26,8 @@ pub data Beginning : Type 0 where
   -- the state of an initialiser word (POSIX, pthread_mutex_init)
   TheWord : Beginning
 
--- a part that an initialiser names: a scalar, a mutex or condition variable, or an array that a text initialises
+-- a part that an initialiser names: a scalar, a mutex or condition variable, or an
+-- array that a text initialises
 pub record PartGiven : Type 0 where
   pub path : List CellStep
   pub type : Ty
@@ -52,22 +54,35 @@ abbrev only : List CellStep → Ty → Beginning → List PartGiven
 only path t begins = record { path = path; type = t; begins = begins } ∷ []
 
 mutual
-  -- the parts of the object of type t, to which `path` leads, that its initialiser names; the initialiser stands in `env`
+  -- the parts of the object of type t, to which `path` leads, that its initialiser names;
+  -- the initialiser stands in `env`
   pub data AreGiven : Env → Ty → List CellStep → Init → List PartGiven → Type 0 where
-    word : {env : Env} {t lock : Ty} {path : List CellStep} {init : Init} {e : Expr} → out-Init init ≡ Init-F.Expr e → expr_word e env ≡ Some lock → AreGiven env t path init (only path t TheWord)
-    value : {env : Env} {t : Ty} {path : List CellStep} {init : Init} {e : Expr} → out-Init init ≡ Init-F.Expr e → expr_word e env ≡ None → is_array t ≡ false →
+    word : {env : Env} {t lock : Ty} {path : List CellStep} {init : Init} {e : Expr} →
+        out-Init init ≡ Init-F.Expr e → expr_word e env ≡ Some lock →
+        AreGiven env t path init (only path t TheWord)
+    value : {env : Env} {t : Ty} {path : List CellStep} {init : Init} {e : Expr} →
+        out-Init init ≡ Init-F.Expr e → expr_word e env ≡ None → is_array t ≡ false →
         AreGiven env t path init (only path t (AValue (converted_to env t, e)))
-    text : {env : Env} {element : Ty} {n : ℕ} {path : List CellStep} {init : Init} {e : Expr} {bytes : List ℕ} → out-Init init ≡ Init-F.Expr e → written e ≡ AText bytes →
-        AreGiven env (Array element n) path init (only path (Array element n) (TheBytes e.spot e.ordinal (bytes_given n bytes)))
-    braced_text : {env : Env} {t : Ty} {path : List CellStep} {init : Init} {list : InitList} {entry : Entry} {given : List PartGiven} → out-Init init ≡ Init-F.List list →
-        (out-InitList list).entries ≡ entry ∷ [] → is_text_for t (text_alone (entry ∷ [])) ≡ true → AreGiven env t path entry.init given → AreGiven env t path init given
-    list : {env : Env} {t : Ty} {path : List CellStep} {init : Init} {list : InitList} {given : List PartGiven} → out-Init init ≡ Init-F.List list →
-        is_text_for t (text_alone (out-InitList list).entries) ≡ false → AreGivenByEntries env t path 0 (out-InitList list).entries given → AreGiven env t path init given
+    text : {env : Env} {element : Ty} {n : ℕ} {path : List CellStep} {init : Init} {e : Expr}
+        {bytes : List ℕ} → out-Init init ≡ Init-F.Expr e → written e ≡ AText bytes →
+        AreGiven env (Array element n) path init
+        (only path (Array element n) (TheBytes e.spot e.ordinal (bytes_given n bytes)))
+    braced_text : {env : Env} {t : Ty} {path : List CellStep} {init : Init} {list : InitList} {entry : Entry}
+        {given : List PartGiven} → out-Init init ≡ Init-F.List list →
+        (out-InitList list).entries ≡ entry ∷ [] → is_text_for t (text_alone (entry ∷ [])) ≡ true →
+        AreGiven env t path entry.init given → AreGiven env t path init given
+    list : {env : Env} {t : Ty} {path : List CellStep} {init : Init} {list : InitList}
+        {given : List PartGiven} → out-Init init ≡ Init-F.List list →
+        is_text_for t (text_alone (out-InitList list).entries) ≡ false →
+        AreGivenByEntries env t path 0 (out-InitList list).entries given → AreGiven env t path init given
 
   -- those that the entries name, the first of which is the entry k of the list
   pub data AreGivenByEntries : Env → Ty → List CellStep → ℕ → List Entry → List PartGiven → Type 0 where
     no_more : {env : Env} {t : Ty} {path : List CellStep} {k : ℕ} → AreGivenByEntries env t path k [] []
-    next : {env : Env} {t u : Ty} {path : List CellStep} {k : ℕ} {step : CellStep} {entry : Entry} {entries : List Entry} {given others : List PartGiven} →
-        step_to t k ≡ Some step → entry_type (fields_in env) t k ≡ Some u → AreGiven (extend env (designators_add env entry.designators)) u (path ++ step ∷ []) entry.init given →
-        AreGivenByEntries (extend (extend env (designators_add env entry.designators)) (init_adds entry.init (extend env (designators_add env entry.designators)))) t path (suc k) entries others →
-        AreGivenByEntries env t path k (entry ∷ entries) (given ++ others)
+    next : {env : Env} {t u : Ty} {path : List CellStep} {k : ℕ} {step : CellStep} {entry : Entry}
+        {entries : List Entry} {given others : List PartGiven} → step_to t k ≡ Some step →
+        entry_type (fields_in env) t k ≡ Some u →
+        AreGiven (extend env (designators_add env entry.designators)) u (path ++ step ∷ []) entry.init given →
+        AreGivenByEntries (extend (extend env (designators_add env entry.designators))
+        (init_adds entry.init (extend env (designators_add env entry.designators)))) t path
+        (suc k) entries others → AreGivenByEntries env t path k (entry ∷ entries) (given ++ others)

@@ -1,5 +1,5 @@
--- The rules of initialisers (C99 6.7.8). Each inner struct and each inner array has braces of its own, or is an array that a text initialises; so an entry of a list
--- initialises one element or one member, in order.
+-- The rules of initialisers (C99 6.7.8). Each inner struct and each inner array has braces of its own, or is
+-- an array that a text initialises; so an entry of a list initialises one element or one member, in order.
 use Rattle.std.specs.Prelude.{ℕ, ◌||◌, ◌++◌, Bool, true, false, not, Option, Some, None, List, [], ◌∷◌, nat_eq, nat_le, suc, length, slice_get, if◌then◌else◌}
 use Rattle.lk_base.specs.declared.kind.Kind.{Kind}
 use Rattle.lk_base.specs.declared.kind.Kind.TheVariants as kind
@@ -66,21 +66,25 @@ without_braces object outermost = if object.is_inner then breach BadInitialiser 
 
 -- a struct: 41 of a struct's value, 22 of any other one
 abbrev pub struct_rules : Object → Seen → List Breach
-struct_rules object seen = without_braces object (if is_struct seen.type then breach StructValue ∷ [] else breach Mismatch ∷ [])
+struct_rules object seen =
+    without_braces object (if is_struct seen.type then breach StructValue ∷ [] else breach Mismatch ∷ [])
 
--- the text and its zero fit into an array, where the zero may be left out (C99 6.7.8, 14); an array without a size has room
+-- the text and its zero fit into an array, where the zero may be left out (C99 6.7.8, 14); an
+-- array without a size has room
 abbrev pub text_rules : ℕ → ℕ → List Breach
 text_rules n bytes = unless (nat_eq n 0 || nat_le bytes n) BadInitialiser
 
 abbrev pub array_by : Object → Ty → ℕ → Option ℕ → List Breach
 array_by object element n None = without_braces object (breach Mismatch ∷ [])
-array_by object element n (Some bytes) = if is_character_type element then text_rules n bytes else without_braces object (breach Mismatch ∷ [])
+array_by object element n (Some bytes) =
+    if is_character_type element then text_rules n bytes else without_braces object (breach Mismatch ∷ [])
 
 -- a mutex or condition variable: by its own word alone (POSIX, pthread_mutex_init)
 abbrev pub lock_rules : Ty → Seen → List Breach
 lock_rules lock seen = unless (holds_of seen.word (is_same lock)) MutexValue
 
--- an object that holds a value: the codes of the conversion (C99 6.7.8, 11), and 24 of a static one (6.7.8, 4)
+-- an object that holds a value: the codes of the conversion (C99 6.7.8, 11),
+-- and 24 of a static one (6.7.8, 4)
 abbrev pub scalar_rules : Object → Seen → List Breach
 scalar_rules object seen = seen.conversion ++ unless (not object.is_static || seen.is_constant) NotConstant
 
@@ -114,7 +118,8 @@ abbrev pub is_text : Ty → Option ℕ → Bool
 is_text element None = false
 is_text element (Some bytes) = is_character_type element
 
--- whether a list that is a text alone initialises an object of this type, as the text would without the braces (C99 6.7.8, 14)
+-- whether a list that is a text alone initialises an object of this type, as the text would
+-- without the braces (C99 6.7.8, 14)
 abbrev pub is_text_for : Ty → Option ℕ → Bool
 is_text_for Void text = false
 is_text_for (Int k) text = false
@@ -134,7 +139,8 @@ count_rules entries n = unless (nat_eq n 0 || nat_le entries n) BadInitialiser
 abbrev pub list_of_array : Ty → ℕ → Braces → List Breach
 list_of_array element n braces = if is_text element braces.text then [] else count_rules braces.entries n
 
--- what a list in braces may initialise, where `fields` has the members of a complete struct: 27 round a scalar, a mutex or a condition variable
+-- what a list in braces may initialise, where `fields` has the members of a complete struct: 27 round a
+-- scalar, a mutex or a condition variable
 abbrev pub by_list : (ℕ → List Ty) → Braces → Ty → List Breach
 by_list fields braces Void = []
 by_list fields braces (Int k) = breach BadInitialiser ∷ []
@@ -149,9 +155,11 @@ by_list fields braces (Opaque n) = []
 
 -- the rules of a list: they hold at it
 abbrev pub list_rules : (ℕ → List Ty) → Object → Braces → List Breach
-list_rules fields object braces = if braces.has_designator then breach BadInitialiser ∷ [] else by_list fields braces object.type
+list_rules fields object braces =
+    if braces.has_designator then breach BadInitialiser ∷ [] else by_list fields braces object.type
 
--- the type of the object that an entry initialises, if there is one: the element, or the member with this number
+-- the type of the object that an entry initialises, if there is one: the element,
+-- or the member with this number
 abbrev pub entry_type : (ℕ → List Ty) → Ty → ℕ → Option Ty
 entry_type fields Void k = None
 entry_type fields (Int j) k = None

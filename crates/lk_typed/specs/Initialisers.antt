@@ -1,4 +1,5 @@
--- Initialisers as nodes (C99 6.7.8): what each entry of a list initialises, which codes hold, and the size that an initialiser gives.
+-- Initialisers as nodes (C99 6.7.8): what each entry of a list initialises, which codes hold, and the
+-- size that an initialiser gives.
 use Rattle.std.specs.Prelude.{ℕ, ◌++◌, ◌||◌, suc, Bool, true, false, Option, Some, None, List, [], ◌∷◌, length, nat_eq, if◌then◌else◌}
 use Rattle.lk_tree.specs.declared.declaration.Designator.{Designator}
 use Rattle.lk_tree.specs.declared.declaration.Designator.TheVariants as designator
@@ -36,7 +37,8 @@ text_alone (e ∷ []) = text_of (out-Init e.init)
 text_alone (e ∷ other ∷ es) = None
 
 abbrev pub braces_of : List Entry → Braces
-braces_of entries = record { entries = length entries; has_designator = has_designator entries; text = text_alone entries }
+braces_of entries =
+    record { entries = length entries; has_designator = has_designator entries; text = text_alone entries }
 
 -- ---- parts
 
@@ -44,10 +46,13 @@ abbrev pub inner_object : Object → Option Ty → Option Object
 inner_object object None = None
 inner_object object (Some t) = Some (record object { type = t; is_inner = true })
 
--- what the entry with this number initialises: a text that is all of the list the array itself, where it may; else the element or member
+-- what the entry with this number initialises: a text that is all of the list the array itself, where it
+-- may; else the element or member
 abbrev pub entry_object : Env → Option Object → Option ℕ → ℕ → Option Object
 entry_object env None text k = None
-entry_object env (Some object) text k = if is_text_for object.type text then Some object else inner_object object (entry_type (fields_in env) object.type k)
+entry_object env (Some object) text k =
+    if is_text_for object.type text then Some object
+    else inner_object object (entry_type (fields_in env) object.type k)
 
 abbrev pub designator_part : Env → Designator → List Placed
 designator_part env (designator.Member name) = []
@@ -63,7 +68,8 @@ designators_add env (d ∷ ds) = let a = designator_adds env d in both a (design
 
 abbrev pub designator_parts : Env → List Designator → List Placed
 designator_parts env [] = []
-designator_parts env (d ∷ ds) = designator_part env d ++ designator_parts (extend env (designator_adds env d)) ds
+designator_parts env (d ∷ ds) =
+    designator_part env d ++ designator_parts (extend env (designator_adds env d)) ds
 
 -- what adds something to the environment in which it stands
 abbrev pub Adder : Type 0
@@ -87,12 +93,14 @@ of_list node = in_turn node.entries
 unfoldable pub init_adds : Init → Adder
 init_adds = fold-Init Adder Adder Adder of_init of_entry of_list
 
--- the entries of a list, each with what it initialises; `text` has the bytes of the text that is all of the list
+-- the entries of a list, each with what it initialises; `text` has the bytes of the
+-- text that is all of the list
 abbrev pub entries_in_turn : Option Object → Option ℕ → Env → ℕ → List Entry → List Placed
 entries_in_turn object text env k [] = []
 entries_in_turn object text env k (e ∷ es) =
     let behind = extend env (designators_add env e.designators) in
-    designator_parts env e.designators ++ at behind (AnInitialiser (entry_object behind object text k) e.init) ∷
+    designator_parts env e.designators ++
+    at behind (AnInitialiser (entry_object behind object text k) e.init) ∷
     entries_in_turn object text (extend behind (init_adds e.init behind)) (suc k) es
 
 -- an expression that initialises an object is converted to its type
@@ -106,14 +114,17 @@ unless_word None parts = parts
 unless_word (Some lock) parts = []
 
 abbrev pub parts_of_init : Option Object → Env → Init-F Init Entry InitList → List Placed
-parts_of_init object env (Init-F.Expr e) = unless_word (expr_word e env) (at (as_initialiser object env) (AnExpression e) ∷ [])
-parts_of_init object env (Init-F.List list) = entries_in_turn object (text_alone (out-InitList list).entries) env 0 (out-InitList list).entries
+parts_of_init object env (Init-F.Expr e) =
+    unless_word (expr_word e env) (at (as_initialiser object env) (AnExpression e) ∷ [])
+parts_of_init object env (Init-F.List list) =
+    entries_in_turn object (text_alone (out-InitList list).entries) env 0 (out-InitList list).entries
 
 -- ---- rules
 
 abbrev pub rules_of_init : Object → Env → Init-F Init Entry InitList → List Breach
 rules_of_init object env (Init-F.Expr e) = expression_rules object (expr_seen e object.type env)
-rules_of_init object env (Init-F.List list) = list_rules (fields_in env) object (braces_of (out-InitList list).entries)
+rules_of_init object env (Init-F.List list) =
+    list_rules (fields_in env) object (braces_of (out-InitList list).entries)
 
 abbrev pub initialiser_rules : Option Object → Env → Init → List Breach
 initialiser_rules None env init = []

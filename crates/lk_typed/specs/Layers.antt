@@ -17,11 +17,20 @@ Placed A = Spot → ℕ → A
 -- ---- declarators (C99 6.7.5)
 
 abbrev pub bare : DeclaratorTold
-bare = record { name = None; additions = λ env. nothing; type = λ span t. t; is_large = λ span t. false; parameters = λ env. nothing; holds_sizeof = λ env. false }
+bare =
+    record {
+      name = None;
+      additions = λ env. nothing;
+      type = λ span t. t;
+      is_large = λ span t. false;
+      parameters = λ env. nothing;
+      holds_sizeof = λ env. false;
+    }
 
 -- the span of a declarator that begins in this environment
 abbrev pub span_of : Env → Bool → DeclaratorTold → Span
-span_of env may_be_absent d = record { env = env; behind = extend env (d.additions env); may_be_absent = may_be_absent }
+span_of env may_be_absent d =
+    record { env = env; behind = extend env (d.additions env); may_be_absent = may_be_absent }
 
 -- the type that a declarator makes, behind the type on its left
 abbrev pub type_made : Env → Bool → Option Ty → DeclaratorTold → Option Ty
@@ -36,7 +45,8 @@ abbrev pub type_through : Maker → DeclaratorTold → Span → Option Ty → Op
 type_through make inner span t = inner.type span (within_bounds span.behind (make span t))
 
 abbrev pub is_large_through : Maker → DeclaratorTold → Span → Option Ty → Bool
-is_large_through make inner span t = is_over span.behind (make span t) || inner.is_large span (within_bounds span.behind (make span t))
+is_large_through make inner span t =
+    is_over span.behind (make span t) || inner.is_large span (within_bounds span.behind (make span t))
 
 abbrev pub pointer_made : Option Ty → Option Ty
 pointer_made t = unless_broken (pointer_rules t) (some_type Pointer t)
@@ -48,12 +58,14 @@ pointer_told inner =
 
 -- the elements are asked where the declarator begins
 abbrev pub array_by : Span → Size → Option Ty → Option Ty
-array_by span n t = unless_broken (array_rules span.env span.may_be_absent t n) (then_type t (array_made span.env.structs n))
+array_by span n t =
+    unless_broken (array_rules span.env span.may_be_absent t n) (then_type t (array_made span.env.structs n))
 
 -- `declarator[size]`: the size stands behind the declarator inside
 abbrev pub array_told : DeclaratorTold → (Env → Size) → (Env → Additions) → (Env → Bool) → DeclaratorTold
 array_told inner size added holds =
-    let make = λ (span : Span) (t : Option Ty). array_by span (size (extend span.env (inner.additions span.env))) t in
+    let make =
+    λ (span : Span) (t : Option Ty). array_by span (size (extend span.env (inner.additions span.env))) t in
     record {
       name = inner.name;
       additions = λ env. let a = inner.additions env in both a (added (extend env a));
@@ -88,12 +100,18 @@ each_parameter [] env = no_parameter
 each_parameter (p ∷ ps) env =
     let first = p env in
     let others = each_parameter ps (extend env first.additions) in
-    record { additions = both first.additions others.additions; types = one_more first.type others.types; holds_sizeof = first.holds_sizeof || others.holds_sizeof }
+    record {
+      additions = both first.additions others.additions;
+      types = one_more first.type others.types;
+      holds_sizeof = first.holds_sizeof || others.holds_sizeof;
+    }
 
 -- `(void)` is no parameter (C99 6.7.5.3, 10)
 abbrev pub unless_void : ParameterTeller → Bool → Env → ParametersTold
 unless_void p dots env =
-    if (p env).is_bare_void && not dots then record no_parameter { additions = (p env).additions; holds_sizeof = (p env).holds_sizeof } else each_parameter (p ∷ []) env
+    if (p env).is_bare_void && not dots
+    then record no_parameter { additions = (p env).additions; holds_sizeof = (p env).holds_sizeof }
+    else each_parameter (p ∷ []) env
 
 abbrev pub parameters_of : List ParameterTeller → Bool → Env → ParametersTold
 parameters_of [] dots env = no_parameter
@@ -110,14 +128,19 @@ function_by dots types t = unless_broken (function_rules t) (then_type t (functi
 -- `declarator(parameters)`, where the declarator may be the name itself, perhaps in parentheses
 abbrev pub function_told : DeclaratorTold → Bool → List ParameterTeller → Bool → DeclaratorTold
 function_told inner is_beside ps dots =
-    let make = λ (span : Span) (t : Option Ty). function_by dots (parameters_of ps dots (enter (extend span.env (inner.additions span.env)))).types t in
+    let make =
+    λ (span : Span) (t : Option Ty). function_by dots
+    (parameters_of ps dots (enter (extend span.env (inner.additions span.env)))).types t in
     record {
       name = inner.name;
-      additions = λ env. let a = inner.additions env in both a (past_scope (parameters_of ps dots (enter (extend env a))).additions);
+      additions = λ env. let a = inner.additions env in
+          both a (past_scope (parameters_of ps dots (enter (extend env a))).additions);
       type = type_through make inner;
       is_large = is_large_through make inner;
       parameters = if is_beside then (λ env. (parameters_of ps dots env).additions) else inner.parameters;
-      holds_sizeof = λ env. inner.holds_sizeof env || (parameters_of ps dots (enter (extend env (inner.additions env)))).holds_sizeof;
+      holds_sizeof =
+          λ env. inner.holds_sizeof env
+          || (parameters_of ps dots (enter (extend env (inner.additions env)))).holds_sizeof;
     }
 
 -- a declarator with the question whether it is the name alone, perhaps in parentheses
@@ -132,13 +155,15 @@ abbrev pub inner_of : Option DeclaratorLayer → DeclaratorLayer
 inner_of told = with_optional (layer bare false) (λ inner. inner) told
 
 abbrev pub named_told : Name → Placed DeclaratorTold
-named_told name spot ordinal = record bare { name = Some (record { name = name; spot = spot; ordinal = ordinal }) }
+named_told name spot ordinal =
+    record bare { name = Some (record { name = name; spot = spot; ordinal = ordinal }) }
 
 abbrev pub pointer_layer : Option DeclaratorLayer → DeclaratorLayer
 pointer_layer inner = layer (pointer_told (inner_of inner).told) false
 
 abbrev pub function_layer : Option DeclaratorLayer → List ParameterTeller → Bool → DeclaratorLayer
-function_layer inner ps dots = layer (function_told (inner_of inner).told (inner_of inner).is_name ps dots) false
+function_layer inner ps dots =
+    layer (function_told (inner_of inner).told (inner_of inner).is_name ps dots) false
 
 -- ---- a declarator behind its specifiers
 
@@ -177,7 +202,9 @@ has_name (Some named) = true
 -- a parameter's type, adjusted, unless a rule is broken or it is over a bound; void with a name is 25 there
 abbrev pub parameter_type : Env → Option Named → Option Ty → Option Ty
 parameter_type env named None = None
-parameter_type env named (Some t) = if is_void t then None else unless_broken (parameter_rules (has_name named) (Some t)) (within_bounds env (Some (adjusted t)))
+parameter_type env named (Some t) =
+    if is_void t then None else unless_broken (parameter_rules (has_name named) (Some t))
+    (within_bounds env (Some (adjusted t)))
 
 abbrev pub is_void_type : Option Ty → Bool
 is_void_type None = false
@@ -207,7 +234,8 @@ abbrev pub MemberDeclaratorTeller : Type 0
 MemberDeclaratorTeller = Env → Option Ty → List Field → MemberTold
 
 abbrev pub faulty_member : Additions → Bool → MemberTold
-faulty_member additions holds = record { additions = additions; fields = []; sound = false; holds_sizeof = holds }
+faulty_member additions holds =
+    record { additions = additions; fields = []; sound = false; holds_sizeof = holds }
 
 -- the fields of a member that breaks these rules
 abbrev pub field_unless : List Breach → Name → Ty → MemberTold → MemberTold
@@ -219,16 +247,20 @@ abbrev pub field_told : Env → List Field → Option Named → Option Ty → Me
 field_told env before None t faulty = faulty
 field_told env before (Some named) None faulty = faulty
 field_told env before (Some named) (Some t) faulty =
-    if is_broken env.structs t then faulty else field_unless (member_rules env before named.name t ++ large_struct_rules env before t) named.name t faulty
+    if is_broken env.structs t then faulty
+    else field_unless (member_rules env before named.name t ++ large_struct_rules env before t)
+    named.name t faulty
 
 abbrev pub plain_member : DeclaratorLayer → MemberDeclaratorTeller
 plain_member inner env t before =
     let d = inner.told in
-    field_told (extend env (d.additions env)) before d.name (type_made env false t d) (faulty_member (d.additions env) (d.holds_sizeof env))
+    field_told (extend env (d.additions env)) before d.name (type_made env false t d)
+    (faulty_member (d.additions env) (d.holds_sizeof env))
 
 abbrev pub declarators_in_turn : List MemberDeclaratorTeller → MemberDeclaratorTeller
 declarators_in_turn [] env t before = no_member
-declarators_in_turn (d ∷ ds) env t before = let first = d env t before in then_member first (declarators_in_turn ds (extend env first.additions) t (before ++ first.fields))
+declarators_in_turn (d ∷ ds) env t before = let first = d env t before in
+    then_member first (declarators_in_turn ds (extend env first.additions) t (before ++ first.fields))
 
 abbrev pub member_told : List SpecifierTeller → List MemberDeclaratorTeller → MemberTeller
 member_told ss ds env before =
@@ -239,4 +271,5 @@ member_told ss ds env before =
 -- ---- enumerators
 
 abbrev pub item_told : Name → ℕ → Additions → Option ℤ → Bool → ItemTold
-item_told name n added value holds = record { additions = both added (declares name n (enumerator value)); value = value; holds_sizeof = holds }
+item_told name n added value holds =
+    record { additions = both added (declares name n (enumerator value)); value = value; holds_sizeof = holds }

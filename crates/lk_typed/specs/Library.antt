@@ -1,4 +1,5 @@
--- The library as one table: each function's type, and how each of its arguments is passed (POSIX, pthread.h; C99 7.19, 7.20); and the other predeclared names.
+-- The library as one table: each function's type, and how each of its arguments is passed (POSIX, pthread.h;
+-- C99 7.19, 7.20); and the other predeclared names.
 use Rattle.std.specs.Prelude.{Bool, true, false, Option, List, [], ◌∷◌, ◌++◌, map, codes}
 use Rattle.lk_base.specs.declared.code.Code.{Code}
 use Rattle.lk_base.specs.declared.code.Code.TheVariants.{Attribute, JoinResult}
@@ -51,7 +52,8 @@ abbrev pub type_of_function : LibraryFunction → Ty
 type_of_function f = Function f.result (types_of (map passed_type f.passes)) f.dots
 
 abbrev row : Name → Ty → List Passing → LibraryFunction
-row name result passes = record { name = name; result = result; passes = passes; dots = false; asks = NothingMore }
+row name result passes =
+    record { name = name; result = result; passes = passes; dots = false; asks = NothingMore }
 
 abbrev mutex_pointer : Passing
 mutex_pointer = Converted (Pointer Mutex)
@@ -64,7 +66,8 @@ text_pointer = Converted (Pointer char)
 
 unfoldable pub library : List LibraryFunction
 library =
-    row (codes "pthread_create") int (Converted (Pointer ThreadId) ∷ NullFor (Pointer (Opaque 0)) Attribute ∷ Routine ∷ Converted void_pointer ∷ [])
+    row (codes "pthread_create") int
+    (Converted (Pointer ThreadId) ∷ NullFor (Pointer (Opaque 0)) Attribute ∷ Routine ∷ Converted void_pointer ∷ [])
     ∷ row (codes "pthread_join") int (Converted ThreadId ∷ NullFor (Pointer void_pointer) JoinResult ∷ [])
     ∷ row (codes "pthread_detach") int (Converted ThreadId ∷ [])
     ∷ row (codes "pthread_exit") Void (Converted void_pointer ∷ [])
@@ -100,7 +103,8 @@ library_function name = latest (λ f. is_name f.name name) library
 -- ---- the declarations with which each source begins, in its file scope
 
 abbrev declared : Linkage → Defines → Name → Meaning → Declared
-declared reach defined name meaning = record { name = name; meaning = meaning; linkage = reach; defines = defined; ordinal = 0 }
+declared reach defined name meaning =
+    record { name = name; meaning = meaning; linkage = reach; defines = defined; ordinal = 0 }
 
 abbrev pub predeclared_types : List Declared
 predeclared_types =
@@ -117,4 +121,6 @@ predeclared_types =
 
 -- a library function has external linkage, and what it does is its body
 unfoldable pub predeclared_names : List Declared
-predeclared_names = predeclared_types ++ map (λ f. declared linkage.External defines.Whole f.name (AFunction (type_of_function f))) library
+predeclared_names =
+    predeclared_types ++ map
+    (λ f. declared linkage.External defines.Whole f.name (AFunction (type_of_function f))) library

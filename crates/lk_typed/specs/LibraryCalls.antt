@@ -1,5 +1,6 @@
--- Which call of the typed tree a call of each library function is, by those of its arguments that compute something (POSIX, pthread.h; C99 7.19, 7.20). `pthread_create`, `malloc`,
--- `calloc` and `printf` have rules of their own.
+-- Which call of the typed tree a call of each library function is, by those of its arguments that
+-- compute something (POSIX, pthread.h; C99 7.19, 7.20). `pthread_create`, `malloc`, `calloc` and
+-- `printf` have rules of their own.
 use Rattle.std.specs.Prelude.{Some, None, List, [], ◌∷◌, codes}
 use Rattle.std.specs.List.{Contains}
 use Rattle.lk_typed.specs.Env.{Name}
@@ -59,7 +60,8 @@ pub data Made : Making → List TypedExpr → OpenLibraryCall → Type 0 where
   none : {call : OpenLibraryCall} → Made (of_none call) [] call
   one : {f : TypedExpr → OpenLibraryCall} (a : TypedExpr) → Made (of_one f) (a ∷ []) (f a)
   two : {f : TypedExpr → TypedExpr → OpenLibraryCall} (a b : TypedExpr) → Made (of_two f) (a ∷ b ∷ []) (f a b)
-  all : {f : List TypedExpr → OpenLibraryCall} (arguments : List TypedExpr) → Made (of_all f) arguments (f arguments)
+  all : {f : List TypedExpr → OpenLibraryCall} (arguments : List TypedExpr) →
+      Made (of_all f) arguments (f arguments)
 
 -- a call of the function with this name, by its arguments
 pub record IsCallBy (name : Name) (arguments : List TypedExpr) (call : OpenLibraryCall) : Type 0 where

@@ -1,4 +1,5 @@
--- What the declaration of a local gives it (C99 6.7.8): the parts that its initialiser names, and the cells that it doesn't name.
+-- What the declaration of a local gives it (C99 6.7.8): the parts that its initialiser names, and
+-- the cells that it doesn't name.
 use Rattle.std.specs.Prelude.{ℕ, ◌≡◌, ◌⊎◌, true, false, Some, None, List, [], ◌∷◌}
 use Rattle.lk_base.specs.declared.spot.Spot.{Spot}
 use Rattle.lk_tree.specs.declared.declaration.Declare.{Declare}
@@ -30,8 +31,10 @@ module _ (tables : Tables) where
   -- ---- parts
 
   pub data IsLocalValue (t : Ty) : Beginning → LocalValue → Type 0 where
-    expression : {p : InPlace} {e : TypedExpr} → IsConverted tables false p t e → IsLocalValue t (AValue p) (value.Expr e)
-    bytes : {spot : Spot} {ordinal : ℕ} {bytes : List ℕ} → IsLocalValue t (TheBytes spot ordinal bytes) (value.Text spot ordinal bytes)
+    expression : {p : InPlace} {e : TypedExpr} → IsConverted tables false p t e →
+        IsLocalValue t (AValue p) (value.Expr e)
+    bytes : {spot : Spot} {ordinal : ℕ} {bytes : List ℕ} →
+        IsLocalValue t (TheBytes spot ordinal bytes) (value.Text spot ordinal bytes)
     word : IsLocalValue t TheWord value.Ready
 
   pub record IsLocalPart (given : PartGiven) (is : LocalPart) : Type 0 where
@@ -41,7 +44,8 @@ module _ (tables : Tables) where
 
   pub data AreLocalParts : List PartGiven → List LocalPart → Type 0 where
     no_more : AreLocalParts [] []
-    next : {given : PartGiven} {others : List PartGiven} {is : LocalPart} {rest : List LocalPart} → IsLocalPart given is → AreLocalParts others rest → AreLocalParts (given ∷ others) (is ∷ rest)
+    next : {given : PartGiven} {others : List PartGiven} {is : LocalPart} {rest : List LocalPart} →
+        IsLocalPart given is → AreLocalParts others rest → AreLocalParts (given ∷ others) (is ∷ rest)
 
   -- ---- objects
 
@@ -58,13 +62,19 @@ module _ (tables : Tables) where
 
   pub data AreLocalInits (told : SpecifierTold) : Env → List InitDeclarator → List LocalInit → Type 0 where
     no_more : {env : Env} → AreLocalInits told env [] []
-    given : {env env' : Env} {d : InitDeclarator} {ds : List InitDeclarator} {named : Named} {object : Object} {by : Init} {is : LocalInit} {others : List LocalInit} →
+    given : {env env' : Env} {d : InitDeclarator} {ds : List InitDeclarator} {named : Named} {object : Object}
+        {by : Init} {is : LocalInit} {others : List LocalInit} →
         is_static_object InBlock told.storages ≡ false → (declarator_found d.declarator).name ≡ Some named →
-        initialiser_part InBlock told env d ≡ at env' (AnInitialiser (Some object) by) ∷ [] → IsLocalInit env' object.type by named.ordinal is →
-        AreLocalInits told (extend env (declarator_adds InBlock told env d)) ds others → AreLocalInits told env (d ∷ ds) (is ∷ others)
+        initialiser_part InBlock told env d ≡ at env' (AnInitialiser (Some object) by) ∷ [] →
+        IsLocalInit env' object.type by named.ordinal is →
+        AreLocalInits told (extend env (declarator_adds InBlock told env d)) ds others →
+        AreLocalInits told env (d ∷ ds) (is ∷ others)
     not_given : {env : Env} {d : InitDeclarator} {ds : List InitDeclarator} {others : List LocalInit} →
         (d.init ≡ None) ⊎ (is_static_object InBlock told.storages ≡ true) →
-        AreLocalInits told (extend env (declarator_adds InBlock told env d)) ds others → AreLocalInits told env (d ∷ ds) others
+        AreLocalInits told (extend env (declarator_adds InBlock told env d)) ds others →
+        AreLocalInits told env (d ∷ ds) others
 
   abbrev pub IsBlockDeclaration : Env → Declare → List LocalInit → Type 0
-  IsBlockDeclaration env node inits = AreLocalInits (specifiers_of env node) (extend env (specifiers_of env node).additions) node.declarators inits
+  IsBlockDeclaration env node inits =
+      AreLocalInits (specifiers_of env node) (extend env (specifiers_of env node).additions)
+      node.declarators inits

@@ -1,4 +1,5 @@
--- The tree that a number of a table stands for, as a function: the one that `Means` of lk_typed relates to it.
+-- The tree that a number of a table stands for, as a function: the one that
+-- `Means` of lk_typed relates to it.
 use Rattle.std.specs.Prelude.{ℕ, zero, suc, map}
 use Rattle.lk_types.specs.Building.{IsTable}
 use Rattle.lk_types.specs.Predeclared.{HasPredeclared}
@@ -27,7 +28,8 @@ unfoldable pub tree_within : ℕ → Table → ℕ → Ty
 tree_within zero table t = Void
 tree_within (suc steps) table t = tree_of (tree_within steps table) (type_at table t)
 
--- the tree that a number stands for: what a type is made of stands before it, so there are no more steps than its number
+-- the tree that a number stands for: what a type is made of stands before it, so there are
+-- no more steps than its number
 unfoldable pub meaning : Table → ℕ → Ty
 meaning table t = tree_within (suc t) table t
 

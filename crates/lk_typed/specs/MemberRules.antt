@@ -18,9 +18,12 @@ types_in Faulty = []
 abbrev pub fields_in : Env → ℕ → List Ty
 fields_in env s = types_in (members_of env.structs s)
 
--- the rules of a member's name: 21 where the struct has it already; 25 where its type is incomplete, void or a function (C99 6.7.2.1, 2)
+-- the rules of a member's name: 21 where the struct has it already; 25 where its type is incomplete, void
+-- or a function (C99 6.7.2.1, 2)
 abbrev pub member_rules : Env → List Field → Name → Ty → List Breach
-member_rules env before name t = (if is_some (field_of before name) then breach_of Redeclared name ∷ [] else []) ++ unless (is_complete env.structs t) Incomplete
+member_rules env before name t =
+    (if is_some (field_of before name) then breach_of Redeclared name ∷ [] else []) ++
+    unless (is_complete env.structs t) Incomplete
 
 -- whether a type is over a bound
 abbrev pub is_over : Env → Option Ty → Bool
@@ -34,4 +37,5 @@ within_bounds env (Some t) = if is_large (fields_in env) t then None else Some t
 
 -- 32 of a member's declarator, besides its types: the struct up to and with it
 abbrev pub large_struct_rules : Env → List Field → Ty → List Breach
-large_struct_rules env before t = unless (not (is_large_struct (fields_in env) (map (λ field. field.type) before ++ t ∷ []))) LargeType
+large_struct_rules env before t =
+    unless (not (is_large_struct (fields_in env) (map (λ field. field.type) before ++ t ∷ []))) LargeType

@@ -41,7 +41,8 @@ use Rattle.lk_typed.specs.Expressions.{declarator_found, expr_parts, member_decl
 abbrev pub type_without_size : Scope → SpecifierTold → Env → InitDeclarator → Option Ty
 type_without_size scope told env d =
     let inner = declarator_found d.declarator in
-    type_of_name (extend env (inner.additions env)) scope told.storages inner.name (type_made env (may_lack_size told.storages d.init) (type_in InDeclaration told) inner)
+    type_of_name (extend env (inner.additions env)) scope told.storages inner.name
+    (type_made env (may_lack_size told.storages d.init) (type_in InDeclaration told) inner)
 
 abbrev pub type_declared : Scope → SpecifierTold → Env → InitDeclarator → Option Ty
 type_declared scope told env d = completed d.init (type_without_size scope told env d)
@@ -52,7 +53,9 @@ object_of (Some t) is_static = Some (record { type = t; is_inner = false; is_sta
 
 abbrev pub initialiser_part : Scope → SpecifierTold → Env → InitDeclarator → List Placed
 initialiser_part scope told env d =
-    perhaps (extend env (name_adds scope told env d)) (AnInitialiser (object_of (type_declared scope told env d) (is_static_object scope told.storages))) d.init
+    perhaps (extend env (name_adds scope told env d))
+    (AnInitialiser (object_of (type_declared scope told env d) (is_static_object scope told.storages)))
+    d.init
 
 abbrev pub declared_left : Scope → SpecifierTold → Env → Env → InitDeclarator → Left
 declared_left scope told at_end env d =
@@ -60,7 +63,9 @@ declared_left scope told at_end env d =
       type = type_in InDeclaration told;
       may_be_absent = may_lack_size told.storages d.init;
       behind = extend env ((declarator_found d.declarator).additions env);
-      use_of_name = Declares scope told.storages (given_by d.init) (elements_given d.init (type_without_size scope told env d)) at_end;
+      use_of_name =
+          Declares scope told.storages (given_by d.init)
+          (elements_given d.init (type_without_size scope told env d)) at_end;
       is_whole = true;
     }
 
@@ -68,13 +73,15 @@ abbrev pub declarators_in_turn : Env → Scope → SpecifierTold → Env → Lis
 declarators_in_turn at_end scope told env [] = []
 declarators_in_turn at_end scope told env (d ∷ ds) =
     at env (ADeclarator (declared_left scope told at_end env d) d.declarator) ∷
-    initialiser_part scope told env d ++ declarators_in_turn at_end scope told (extend env (declarator_adds scope told env d)) ds
+    initialiser_part scope told env d ++
+    declarators_in_turn at_end scope told (extend env (declarator_adds scope told env d)) ds
 
 abbrev pub declaration_parts : Env → Scope → Env → Declare → List Placed
 declaration_parts at_end scope env node =
     let alone = is_alone node.declarators in
     let told = specifiers_found node.specifiers env alone in
-    specifiers_parts alone env node.specifiers ++ declarators_in_turn at_end scope told (extend env told.additions) node.declarators
+    specifiers_parts alone env node.specifiers ++
+    declarators_in_turn at_end scope told (extend env told.additions) node.declarators
 
 -- ---- definitions of functions (C99 6.9.1): the parameters stand in the scope of the body's outermost block
 
@@ -108,17 +115,21 @@ abbrev pub behind_declarator : SpecifierTold → Env → Function → Env
 behind_declarator told env node =
     let inner = declarator_found node.declarator in
     let after = extend env (inner.additions env) in
-    extend after (named_additions after AtFile told.storages Defined None inner.name (type_made env false (type_in InDefinition told) inner))
+    extend after (named_additions after AtFile told.storages Defined None inner.name
+    (type_made env false (type_in InDefinition told) inner))
 
--- the parameters in the scope of the body: their names and tags; the structs among them have their numbers from the declarator, in whose environment they stand
+-- the parameters in the scope of the body: their names and tags; the structs among them have their numbers
+-- from the declarator, in whose environment they stand
 abbrev pub parameters_of_body : Env → Function → Additions
-parameters_of_body env node = record ((declarator_found node.declarator).parameters (enter env)) { structs = [] }
+parameters_of_body env node =
+    record ((declarator_found node.declarator).parameters (enter env)) { structs = [] }
 
 -- the environment of a body, with its parameters
 abbrev pub in_body : SpecifierTold → Env → Function → Env
 in_body told env node =
     let inner = declarator_found node.declarator in
-    record (extend (enter (behind_declarator told env node)) (parameters_of_body env node)) { result = result_of (type_made env false (type_in InDefinition told) inner) }
+    record (extend (enter (behind_declarator told env node)) (parameters_of_body env node))
+    { result = result_of (type_made env false (type_in InDefinition told) inner) }
 
 abbrev pub defined_left : SpecifierTold → Env → Env → Function → Left
 defined_left told at_end env node =
@@ -136,7 +147,8 @@ definition_parts at_end env node =
     let after = extend env told.additions in
     specifiers_parts false env node.specifiers ++
     at after (ADeclarator (defined_left told at_end after node) node.declarator) ∷
-    items_in_turn (in_function (labels node.body)) (in_body told after node) (body_items (out-StmtForm node.body.form))
+    items_in_turn (in_function (labels node.body)) (in_body told after node)
+    (body_items (out-StmtForm node.body.form))
 
 -- ---- members, parameters and type names
 
@@ -158,22 +170,28 @@ abbrev pub type_part_if_there : Env → SpecifierTold → Bool → NameUse → O
 type_part_if_there env told may_be_absent name None = []
 type_part_if_there env told may_be_absent name (Some d) = type_part env told may_be_absent name d ∷ []
 
-abbrev pub member_part : Env → SpecifierTold → List Field → MemberDeclarator-F DeclaratorForm ExprForm MemberDeclarator Specifier Declarator Expr Item Member Parameter TypeName → List Placed
-member_part env told before (MemberDeclarator-F.Plain inner) = type_part env told false (IsMember before) inner ∷ []
+abbrev pub member_part : Env → SpecifierTold → List Field →
+    MemberDeclarator-F DeclaratorForm ExprForm MemberDeclarator Specifier Declarator Expr Item Member
+    Parameter TypeName → List Placed
+member_part env told before (MemberDeclarator-F.Plain inner) =
+    type_part env told false (IsMember before) inner ∷ []
 member_part env told before (MemberDeclarator-F.Field inner width) =
-    type_part env told false (IsMember before) inner ∷ at (extend env ((declarator_found inner).additions env)) (AnExpression width) ∷ []
+    type_part env told false (IsMember before) inner ∷
+    at (extend env ((declarator_found inner).additions env)) (AnExpression width) ∷ []
 member_part env told before (MemberDeclarator-F.Unnamed width) = at env (AnExpression width) ∷ []
 
 abbrev pub members_in_turn : SpecifierTold → Env → List Field → List MemberDeclarator → List Placed
 members_in_turn told env before [] = []
 members_in_turn told env before (d ∷ ds) =
     let member = member_declarator_found d env (type_in InType told) before in
-    member_part env told before (out-MemberDeclarator d) ++ members_in_turn told (extend env member.additions) (before ++ member.fields) ds
+    member_part env told before (out-MemberDeclarator d) ++
+    members_in_turn told (extend env member.additions) (before ++ member.fields) ds
 
 abbrev pub member_parts : Env → List Field → Member → List Placed
 member_parts env before m =
     let told = specifiers_found m.specifiers env false in
-    specifiers_parts false env m.specifiers ++ members_in_turn told (extend env told.additions) before m.declarators
+    specifiers_parts false env m.specifiers ++
+    members_in_turn told (extend env told.additions) before m.declarators
 
 -- a type name, or a parameter
 abbrev pub type_parts : Env → Bool → NameUse → List Specifier → Option Declarator → List Placed
@@ -195,8 +213,10 @@ parts at_end env (ADeclaration scope node) = declaration_parts at_end scope env 
 parts at_end env (ADefinition node) = definition_parts at_end env node
 parts at_end env (AMember before m) = member_parts env before m
 parts at_end env (AnItem before i) = perhaps env AnExpression (out-Item i).value
-parts at_end env (AParameter lone p) = type_parts env true IsParameter (out-Parameter p).specifiers (out-Parameter p).declarator
-parts at_end env (ATypeName n) = type_parts env false Unnamed (out-TypeName n).specifiers (out-TypeName n).declarator
+parts at_end env (AParameter lone p) =
+    type_parts env true IsParameter (out-Parameter p).specifiers (out-Parameter p).declarator
+parts at_end env (ATypeName n) =
+    type_parts env false Unnamed (out-TypeName n).specifiers (out-TypeName n).declarator
 parts at_end env (ADeclarator left d) = declarator_parts env left (out-DeclaratorForm d.form)
 parts at_end env (AnInitialiser object init) = parts_of_init object env (out-Init init)
 parts at_end env (AStatement around s) = statement_parts around env (out-StmtForm s.form)
@@ -206,7 +226,8 @@ parts at_end env (AnExpression e) = expr_parts e env
 
 -- what the body leaves behind: the structs, so that no number stands for two
 abbrev pub past_body : SpecifierTold → Env → Function → Additions
-past_body told env node = past_scope (items_add (in_body told env node) (body_items (out-StmtForm node.body.form)))
+past_body told env node =
+    past_scope (items_add (in_body told env node) (body_items (out-StmtForm node.body.form)))
 
 abbrev pub external_adds : Env → Decl → Additions
 external_adds env (decl.Function node) =
@@ -214,14 +235,17 @@ external_adds env (decl.Function node) =
     let inner = declarator_found node.declarator in
     let after = extend env told.additions in
     let a = inner.additions after in
-    both told.additions (both a (both (named_additions (extend after a) AtFile told.storages Defined None inner.name (type_made after false (type_in InDefinition told) inner)) (past_body told after node)))
+    both told.additions (both a
+    (both (named_additions (extend after a) AtFile told.storages Defined None inner.name
+    (type_made after false (type_in InDefinition told) inner)) (past_body told after node)))
 external_adds env (decl.Declare node) = declaration_adds AtFile env node
 external_adds env (decl.Empty node) = nothing
 
 -- the external declarations of a source, each behind those before it (C99 6.2.1, 4)
 abbrev pub externals_in_turn : Env → List Decl → List Placed
 externals_in_turn env [] = []
-externals_in_turn env (d ∷ ds) = at env (AnExternal d) ∷ externals_in_turn (extend env (external_adds env d)) ds
+externals_in_turn env (d ∷ ds) =
+    at env (AnExternal d) ∷ externals_in_turn (extend env (external_adds env d)) ds
 
 -- the environment behind them
 abbrev pub behind_all : Env → List Decl → Env

@@ -1,4 +1,5 @@
--- The codes that hold at each node of a source, by the rules of its kind: where its parts have types; and where a node stands.
+-- The codes that hold at each node of a source, by the rules of its kind: where its parts have
+-- types; and where a node stands.
 use Rattle.std.specs.Prelude.{ℕ, ◌&&◌, ◌||◌, ◌++◌, Bool, true, false, not, Option, Some, None, List, [], ◌∷◌, is_some, if◌then◌else◌, ℤ, pos}
 use Rattle.lk_base.specs.declared.spot.Spot.{Spot}
 use Rattle.lk_tree.specs.declared.declaration.Init.{Init, out-Init}
@@ -59,22 +60,30 @@ parameter_meaning (Some t) = AnObject t false
 
 -- a name without linkage
 abbrev pub plain_name : Name → Meaning → Declared
-plain_name name meaning = record { name = name; meaning = meaning; linkage = linkage.None; defines = defines.Nothing; ordinal = 0 }
+plain_name name meaning =
+    record { name = name; meaning = meaning; linkage = linkage.None; defines = defines.Nothing; ordinal = 0 }
 
--- the rules of a name, by what it becomes, in the environment where its scope begins; none asks which node declares it
+-- the rules of a name, by what it becomes, in the environment where its scope begins;
+-- none asks which node declares it
 abbrev pub name_use_rules : Env → Option Ty → Name → NameUse → List Breach
-name_use_rules env t name (Declares scope ss given n at_end) = name_rules env (declared_as env scope ss given None name 0 t) ++ of_type t (λ t. named_rules env at_end scope ss name t given) ++ given_rules n
+name_use_rules env t name (Declares scope ss given n at_end) =
+    name_rules env (declared_as env scope ss given None name 0 t) ++
+    of_type t (λ t. named_rules env at_end scope ss name t given) ++ given_rules n
 name_use_rules env t name (IsMember before) = of_type t (λ t. member_rules env before name t)
-name_use_rules env t name IsParameter = name_rules env (plain_name name (parameter_meaning t)) ++ of_type t void_rules
+name_use_rules env t name IsParameter =
+    name_rules env (plain_name name (parameter_meaning t)) ++ of_type t void_rules
 name_use_rules env t name Unnamed = []
 
 -- ---- declarators
 
-abbrev pub form_rules : Env → Left → DeclaratorForm-F DeclaratorForm ExprForm MemberDeclarator Specifier Declarator Expr Item Member Parameter TypeName → List Breach
+abbrev pub form_rules : Env → Left →
+    DeclaratorForm-F DeclaratorForm ExprForm MemberDeclarator Specifier Declarator Expr Item Member Parameter
+    TypeName → List Breach
 form_rules env left (DeclaratorForm-F.Star qualifiers inner) = pointer_rules left.type
 form_rules env left (DeclaratorForm-F.Named name) = name_use_rules left.behind left.type name left.use_of_name
 form_rules env left (DeclaratorForm-F.Group inner) = []
-form_rules env left (DeclaratorForm-F.ArrayOf inner size) = array_rules env left.may_be_absent left.type (size_in size (extend env (inner_adds inner env)))
+form_rules env left (DeclaratorForm-F.ArrayOf inner size) =
+    array_rules env left.may_be_absent left.type (size_in size (extend env (inner_adds inner env)))
 form_rules env left (DeclaratorForm-F.FunctionOf inner ps dots) = function_rules left.type
 
 -- 32 stands at the whole declarator: of a type that it makes, and of the struct whose member it declares
@@ -85,10 +94,13 @@ struct_bound_rules env IsParameter t = []
 struct_bound_rules env Unnamed t = []
 
 abbrev pub bound_rules : Span → Left → DeclaratorTold → List Breach
-bound_rules span left d = unless (not (d.is_large span left.type)) LargeType ++ of_type (d.type span left.type) (struct_bound_rules left.behind left.use_of_name)
+bound_rules span left d =
+    unless (not (d.is_large span left.type)) LargeType ++
+    of_type (d.type span left.type) (struct_bound_rules left.behind left.use_of_name)
 
 abbrev pub whole_rules : Env → Left → Declarator → List Breach
-whole_rules env left d = if left.is_whole then bound_rules (span_at env left) left (declarator_found d) else []
+whole_rules env left d =
+    if left.is_whole then bound_rules (span_at env left) left (declarator_found d) else []
 
 -- ---- statements
 
@@ -100,12 +112,14 @@ abbrev pub first_rules : Env → ForFirst → List Breach
 first_rules env (first.Expr e) = optional_rules env dropped_rules e
 first_rules env (first.Declare node) = []
 
--- the rules of a for in the scope round its parts: its condition is one, its other parts are dropped (C99 6.8.5.3)
+-- the rules of a for in the scope round its parts: its condition is one, its other
+-- parts are dropped (C99 6.8.5.3)
 abbrev pub for_rules : Env → ForFirst → Option Expr → Option Expr → List Breach
 for_rules env start condition step =
     let behind_first = extend env (first_adds start env) in
     let behind_condition = extend behind_first (added_by condition behind_first) in
-    first_rules env start ++ optional_rules behind_first condition_rules condition ++ optional_rules behind_condition dropped_rules step
+    first_rules env start ++ optional_rules behind_first condition_rules condition ++
+    optional_rules behind_condition dropped_rules step
 
 abbrev pub converted_rules : Env → Expr → Option Ty → List Breach
 converted_rules env e None = []
@@ -125,8 +139,10 @@ stmt_rules around env n (StmtForm-F.Do e) = optional_rules env dropped_rules e
 stmt_rules around env n (StmtForm-F.If e taken other) = condition_rules (expr_type e (enter env))
 stmt_rules around env n (StmtForm-F.Switch e inner) = switch_rules (expr_type e (enter env))
 stmt_rules around env n (StmtForm-F.While e inner) = condition_rules (expr_type e (enter env))
-stmt_rules around env n (StmtForm-F.Until inner e) = condition_rules (expr_type e (behind_inner inner (enter env)))
-stmt_rules around env n (StmtForm-F.For start condition step inner) = for_rules (enter env) start condition step
+stmt_rules around env n (StmtForm-F.Until inner e) =
+    condition_rules (expr_type e (behind_inner inner (enter env)))
+stmt_rules around env n (StmtForm-F.For start condition step inner) =
+    for_rules (enter env) start condition step
 stmt_rules around env n (StmtForm-F.Goto name) = goto_rules around name
 stmt_rules around env n StmtForm-F.Continue = continue_rules around
 stmt_rules around env n StmtForm-F.Break = break_rules around
@@ -138,7 +154,8 @@ stmt_rules around env n (StmtForm-F.Return e) = return_rules env.result (returne
 abbrev pub type_behind : Env → Holder → Bool → List Specifier → Option Declarator → Option Ty
 type_behind env holder may_be_absent ss None = type_in holder (specifiers_found ss env false)
 type_behind env holder may_be_absent ss (Some d) =
-    let told = specifiers_found ss env false in type_made (extend env told.additions) may_be_absent (type_in holder told) (declarator_found d)
+    let told = specifiers_found ss env false in
+    type_made (extend env told.additions) may_be_absent (type_in holder told) (declarator_found d)
 
 abbrev pub is_named : Option Declarator → Bool
 is_named None = false
@@ -152,7 +169,8 @@ parameter_node_rules named false t = parameter_rules named t
 -- the environment behind specifiers and a declarator
 abbrev pub env_behind : Env → List Specifier → Option Declarator → Env
 env_behind env ss None = extend env (specifiers_found ss env false).additions
-env_behind env ss (Some d) = let after = extend env (specifiers_found ss env false).additions in extend after ((declarator_found d).additions after)
+env_behind env ss (Some d) = let after = extend env (specifiers_found ss env false).additions in
+    extend after ((declarator_found d).additions after)
 
 -- 32 of a parameter: its type is adjusted, and may be over a bound by that
 abbrev pub adjusted_rules : Env → Option Ty → List Breach
@@ -167,15 +185,20 @@ abbrev pub rules_of : Env → Node → List Breach
 rules_of env (AnExternal d) = []
 rules_of env (ADeclaration scope node) = declaration_rules env node
 rules_of env (ADefinition node) =
-    all_specifier_rules InDefinition false env node.specifiers ++ definition_rules (type_behind env InDefinition false node.specifiers (Some node.declarator))
+    all_specifier_rules InDefinition false env node.specifiers ++
+    definition_rules (type_behind env InDefinition false node.specifiers (Some node.declarator))
 rules_of env (AMember before m) = member_node_rules env m
 rules_of env (AnItem before i) =
     item_rules env before (out-Item i).value ++
-    name_rules (extend env (added_by (out-Item i).value env)) (plain_name (out-Item i).name (item_meaning (item_found i env before).value))
+    name_rules (extend env (added_by (out-Item i).value env))
+    (plain_name (out-Item i).name (item_meaning (item_found i env before).value))
 rules_of env (AParameter lone p) =
     all_specifier_rules InType false env (out-Parameter p).specifiers ++
-    parameter_node_rules (is_named (out-Parameter p).declarator) (lone && (parameter_found p env).is_bare_void) (type_behind env InType true (out-Parameter p).specifiers (out-Parameter p).declarator) ++
-    adjusted_rules (env_behind env (out-Parameter p).specifiers (out-Parameter p).declarator) (type_behind env InType true (out-Parameter p).specifiers (out-Parameter p).declarator)
+    parameter_node_rules (is_named (out-Parameter p).declarator)
+    (lone && (parameter_found p env).is_bare_void)
+    (type_behind env InType true (out-Parameter p).specifiers (out-Parameter p).declarator) ++
+    adjusted_rules (env_behind env (out-Parameter p).specifiers (out-Parameter p).declarator)
+    (type_behind env InType true (out-Parameter p).specifiers (out-Parameter p).declarator)
 rules_of env (ATypeName n) = all_specifier_rules InType false env (out-TypeName n).specifiers
 rules_of env (ADeclarator left d) = form_rules env left (out-DeclaratorForm d.form) ++ whole_rules env left d
 rules_of env (AnInitialiser object init) = initialiser_rules object env init
@@ -193,7 +216,8 @@ is_list (Init-F.Expr e) = false
 is_list (Init-F.List entries) = true
 
 abbrev pub has_initialiser_type : Option Object → Env → Init-F Init Entry InitList → Bool
-has_initialiser_type object env (Init-F.Expr e) = is_some (expr_word e env) || has_expr_type e (as_initialiser object env)
+has_initialiser_type object env (Init-F.Expr e) =
+    is_some (expr_word e env) || has_expr_type e (as_initialiser object env)
 has_initialiser_type object env (Init-F.List entries) = true
 
 abbrev pub has_type : Env → Node → Bool
@@ -205,7 +229,9 @@ has_type env (AnItem before i) = true
 has_type env (AParameter lone p) = true
 has_type env (ATypeName n) = is_some (type_found n env).type
 has_type env (ADeclarator left d) = true
-has_type env (AnInitialiser object init) = has_initialiser_type object env (out-Init init) && (is_list (out-Init init) || is_none_broken (initialiser_rules object env init))
+has_type env (AnInitialiser object init) =
+    has_initialiser_type object env (out-Init init)
+    && (is_list (out-Init init) || is_none_broken (initialiser_rules object env init))
 has_type env (AStatement around s) = true
 has_type env (AnExpression e) = has_expr_type e env
 
@@ -229,13 +255,15 @@ is_declaration (AnExpression e) = false
 
 -- the codes that hold at a node in its environment
 abbrev pub breaches : Env → Env → Node → List Breach
-breaches at_end env node = if is_declaration node || are_typed (parts at_end env node) then rules_of env node else []
+breaches at_end env node =
+    if is_declaration node || are_typed (parts at_end env node) then rules_of env node else []
 
 -- ---- what hides the codes of a declaration: a fault in a part without a type
 
 abbrev pub those_without_type : List Placed → List Placed
 those_without_type [] = []
-those_without_type (part ∷ others) = if has_type part.env part.node then those_without_type others else part ∷ those_without_type others
+those_without_type (part ∷ others) =
+    if has_type part.env part.node then those_without_type others else part ∷ those_without_type others
 
 abbrev pub hiding : Env → Env → Node → List Placed
 hiding at_end env node = if is_declaration node then those_without_type (parts at_end env node) else []

@@ -20,7 +20,8 @@ use Rattle.lk_typed.specs.Ty.{Ty}
 
 -- what the name in a declarator becomes
 pub data NameUse : Type 0 where
-  -- an object, a function or a typedef; with how many elements it has by its initialiser, and the environment behind the whole source
+  -- an object, a function or a typedef; with how many elements it has by its initialiser, and the
+  -- environment behind the whole source
   Declares : Scope → List Storage → Given → ℕ → Env → NameUse
   -- a member, behind these fields
   IsMember : List Field → NameUse

@@ -1,5 +1,6 @@
--- Which types the operands of an operator are converted to before it computes (C99 6.3.1.1, 6.3.1.8, 6.5.3.3 to 6.5.14). Where an operand has that type already nothing is
--- converted. A condition keeps its type, and so do both operands of a pointer that moves. Operands are values, as `value` of Addresses gives them.
+-- Which types the operands of an operator are converted to before it computes (C99 6.3.1.1, 6.3.1.8, 6.5.3.3
+-- to 6.5.14). Where an operand has that type already nothing is converted. A condition keeps its type, and so
+-- do both operands of a pointer that moves. Operands are values, as `value` of Addresses gives them.
 use Rattle.std.specs.Prelude.{Bool, false, ◌&&◌, Option, Some, None, if◌then◌else◌}
 use Rattle.lk_arith.specs.Conversions.{promoted, usual}
 use Rattle.lk_arith.specs.declared.operators.Op.{Op}
@@ -19,7 +20,8 @@ use Rattle.lk_typed.specs.declared.binary_row.BinaryRow.TheVariants.{Logical, In
 
 -- ---- the type of a node
 
--- a function has no value but the pointer to it, so a node that names a function has that type (C99 6.3.2.1, 4)
+-- a function has no value but the pointer to it, so a node that names a function
+-- has that type (C99 6.3.2.1, 4)
 abbrev pub node_type : Ty → Ty
 node_type Void = Void
 node_type (Int k) = Int k
@@ -46,7 +48,8 @@ promoted_type (Struct s) = Struct s
 promoted_type (Function result params dots) = Function result params dots
 promoted_type (Opaque n) = Opaque n
 
--- the operators whose operand is promoted (C99 6.5.3.3, 2 to 4); `!` tests its operand as a condition does (6.5.3.3, 5)
+-- the operators whose operand is promoted (C99 6.5.3.3, 2 to 4); `!` tests its operand as
+-- a condition does (6.5.3.3, 5)
 abbrev pub promoting : PrefixOperator → Option UnaryOp
 promoting prefix.Address = None
 promoting prefix.Indirection = None
@@ -84,7 +87,8 @@ usual_of (Some j) (Some k) others = record { left = Int (usual j k); right = Int
 abbrev pub usual_types : Typing → Typing → OperandTypes → OperandTypes
 usual_types a b others = usual_of (kind_of a.type) (kind_of b.type) others
 
--- pointers that == and != compare: a null pointer constant gets the type of the other one, else both are void * where one is (C99 6.5.9, 5)
+-- pointers that == and != compare: a null pointer constant gets the type of the other one, else both are void
+-- * where one is (C99 6.5.9, 5)
 abbrev pub compared_types : Typing → Typing → OperandTypes
 compared_types a b =
     if are_same_pointers a.type b.type then own_types a b
@@ -120,6 +124,7 @@ abbrev usual_with_int : Option Kind → Ty → Ty
 usual_with_int None t = t
 usual_with_int (Some k) t = Int (usual k kind.Int)
 
--- they compute as `place += 1` does (C99 6.5.2.4, 2; 6.5.3.1, 2): a pointer at its own type, an integer at the usual one with int
+-- they compute as `place += 1` does (C99 6.5.2.4, 2; 6.5.3.1, 2): a pointer at its own type, an
+-- integer at the usual one with int
 abbrev pub step_type : Ty → Ty
 step_type t = usual_with_int (kind_of t) t

@@ -1,4 +1,5 @@
--- The operators between two operands, each a row of a table (C99 6.5.5 to 6.5.14); `?:` and the comma (6.5.15, 6.5.17). Operands are values, as `value` of Addresses gives them.
+-- The operators between two operands, each a row of a table (C99 6.5.5 to 6.5.14); `?:` and the comma
+-- (6.5.15, 6.5.17). Operands are values, as `value` of Addresses gives them.
 use Rattle.std.specs.Prelude.{Bool, true, false, not, ◌&&◌, ◌||◌, Option, Some, None, List, [], ◌∷◌, ◌++◌, if◌then◌else◌}
 use Rattle.lk_base.specs.declared.kind.Kind.{Kind}
 use Rattle.lk_base.specs.declared.kind.Kind.TheVariants as kind
@@ -40,7 +41,8 @@ must_be test t = if is_lock t then MutexValue ∷ [] else if_so (not (test t)) M
 abbrev pub is_steppable : List Members → Ty → Bool
 is_steppable structs t = holds_of (target_of t) (λ target. is_complete structs target)
 
--- what holds of the codes found so far, and of a row of a table, which has no result for operands that it doesn't take
+-- what holds of the codes found so far, and of a row of a table, which has no result for
+-- operands that it doesn't take
 abbrev pub by_row : List Code → Option Typing → Verdict
 by_row [] None = Broken (Mismatch ∷ [])
 by_row [] (Some typing) = Typed typing
@@ -89,14 +91,18 @@ either None other = other
 -- an operator that computes at the common kind (C99 6.3.1.8)
 abbrev pub at_common_kind : Op → Typing → Typing → Option Typing
 at_common_kind o a b =
-    with_kinds (kind_of a.type) (kind_of b.type) (λ j k. integer (result_kind o (usual j k)) (binary_constant o (usual j k) a.constant b.constant))
+    with_kinds (kind_of a.type) (kind_of b.type)
+    (λ j k. integer (result_kind o (usual j k)) (binary_constant o (usual j k) a.constant b.constant))
 
 abbrev pub shifted : Op → Typing → Typing → Option Typing
-shifted o a b = with_kinds (kind_of a.type) (kind_of b.type) (λ j k. integer (promoted j) (shift_constant o (promoted j) a.constant b.constant))
+shifted o a b =
+    with_kinds (kind_of a.type) (kind_of b.type)
+    (λ j k. integer (promoted j) (shift_constant o (promoted j) a.constant b.constant))
 
 -- a pointer that moved, as `address` says
 abbrev pub moved_pointer : Typing → Address → Typing
-moved_pointer p address = record { type = p.type; is_place = false; constant = NotConstant; is_null = false; address = address }
+moved_pointer p address =
+    record { type = p.type; is_place = false; constant = NotConstant; is_null = false; address = address }
 
 -- a truth value that is no constant
 abbrev pub plain_truth : Typing
@@ -108,11 +114,15 @@ is_pointer_beside_null a b = is_pointer a.type && b.is_null
 
 -- pointers that == and != compare: equal types, one beside a null pointer constant, or one beside void *
 abbrev pub are_comparable : Typing → Typing → Bool
-are_comparable a b = are_same_pointers a.type b.type || is_pointer_beside_null a b || is_pointer_beside_null b a || are_void_and_object a.type b.type
+are_comparable a b =
+    are_same_pointers a.type b.type || is_pointer_beside_null a b || is_pointer_beside_null b a
+    || are_void_and_object a.type b.type
 
 -- && and ||
 abbrev pub logical : Bool → Typing → Typing → Option Typing
-logical decides a b = if_taken (is_condition a.type && is_condition b.type) (integer kind.Int (logical_constant decides a.constant b.constant))
+logical decides a b =
+    if_taken (is_condition a.type && is_condition b.type)
+    (integer kind.Int (logical_constant decides a.constant b.constant))
 
 -- a pointer with an integer on its right, by where it moves
 abbrev pub moved_to : Address → List Members → Typing → Typing → Option Typing
@@ -120,14 +130,17 @@ moved_to to structs a b = if_taken (is_steppable structs a.type && is_integer b.
 
 -- how far apart two pointers of one type are (C99 6.5.6, 9)
 abbrev pub distance : List Members → Typing → Typing → Option Typing
-distance structs a b = if_taken (is_steppable structs a.type && are_same_pointers a.type b.type) (value_of_type long)
+distance structs a b =
+    if_taken (is_steppable structs a.type && are_same_pointers a.type b.type) (value_of_type long)
 
 -- + and - (C99 6.5.6, 2 and 3)
 abbrev pub sum : List Members → Typing → Typing → Option Typing
 sum structs a b = either (at_common_kind op.Add a b) (moved_to (moved a.address b.constant) structs a b)
 
 abbrev pub difference : List Members → Typing → Typing → Option Typing
-difference structs a b = either (at_common_kind op.Subtract a b) (either (moved_to (moved_back a.address b.constant) structs a b) (distance structs a b))
+difference structs a b =
+    either (at_common_kind op.Subtract a b)
+    (either (moved_to (moved_back a.address b.constant) structs a b) (distance structs a b))
 
 -- an order, and == or != (C99 6.5.8, 2; 6.5.9, 2)
 abbrev pub order : Op → Typing → Typing → Option Typing
@@ -146,15 +159,19 @@ result_of structs (Order o) a b = order o a b
 result_of structs (Equality o) a b = equality o a b
 
 abbrev pub binary_rule : List Members → BinaryOperator → Typing → Typing → Verdict
-binary_rule structs o a b = by_row (must_be is_scalar a.type ++ must_be is_scalar b.type) (result_of structs (row_of o) a b)
+binary_rule structs o a b =
+    by_row (must_be is_scalar a.type ++ must_be is_scalar b.type) (result_of structs (row_of o) a b)
 
 -- ---- ?: (C99 6.5.15)
 
 -- of two integers
 abbrev pub chosen_integer : Constant → Typing → Typing → Option Typing
-chosen_integer c a b = with_kinds (kind_of a.type) (kind_of b.type) (λ j k. integer (usual j k) (choice_constant (usual j k) c a.constant b.constant))
+chosen_integer c a b =
+    with_kinds (kind_of a.type) (kind_of b.type)
+    (λ j k. integer (usual j k) (choice_constant (usual j k) c a.constant b.constant))
 
--- of others; the first line that takes the arms gives the result, so of two null pointer constants the one of pointer type counts
+-- of others; the first line that takes the arms gives the result, so of two null pointer constants
+-- the one of pointer type counts
 abbrev pub chosen_other : Typing → Typing → Option Typing
 chosen_other a b =
     either (if_taken (is_void a.type && is_void b.type) (value_of_type Void))
@@ -172,9 +189,12 @@ arm_codes a b None = if is_lock a.type || is_lock b.type then MutexValue ∷ [] 
 arm_codes a b (Some typing) = []
 
 abbrev pub choice_rule : Typing → Typing → Typing → Verdict
-choice_rule c a b = by_row (must_be is_condition c.type ++ arm_codes a b (choice_result c a b)) (choice_result c a b)
+choice_rule c a b =
+    by_row (must_be is_condition c.type ++ arm_codes a b (choice_result c a b)) (choice_result c a b)
 
 -- ---- the comma (C99 6.5.17): the left operand is dropped, the right one is the value, and no place; a mutex is no value
 
 abbrev pub comma_rule : Typing → Typing → Verdict
-comma_rule left right = unless (if_so (is_lock left.type) MutexValue ++ if_so (is_lock right.type) MutexValue) (value_of_type right.type)
+comma_rule left right =
+    unless (if_so (is_lock left.type) MutexValue ++ if_so (is_lock right.type) MutexValue)
+    (value_of_type right.type)

@@ -64,7 +64,9 @@ item_around around env (BlockItem-F.Stmt inner) = around_behind around (statemen
 abbrev pub items_in_turn : Around → Env → List BlockItem → List Placed
 items_in_turn around env [] = []
 items_in_turn around env (i ∷ is) =
-    item_part around env (out-BlockItem i) ∷ items_in_turn (item_around around env (out-BlockItem i)) (extend env (item_adds (out-BlockItem i) env)) is
+    item_part around env (out-BlockItem i) ∷
+    items_in_turn (item_around around env (out-BlockItem i))
+    (extend env (item_adds (out-BlockItem i) env)) is
 
 abbrev pub first_part : Env → ForFirst → List Placed
 first_part env (first.Expr e) = perhaps env AnExpression e
@@ -80,10 +82,12 @@ for_parts around env start condition step inner =
     let behind_first = extend env (first_adds start env) in
     let behind_condition = extend behind_first (added_by condition behind_first) in
     let behind_step = extend behind_condition (added_by step behind_condition) in
-    first_part env start ++ perhaps behind_first AnExpression condition ++ perhaps behind_condition AnExpression step ++
+    first_part env start ++ perhaps behind_first AnExpression condition ++
+    perhaps behind_condition AnExpression step ++
     at (enter behind_step) (AStatement (in_body_of_loop around) inner) ∷ []
 
--- the environment of a substatement behind a controlling expression, in the scope of the whole statement (C99 6.8.4, 3; 6.8.5, 5)
+-- the environment of a substatement behind a controlling expression, in the scope of the whole
+-- statement (C99 6.8.4, 3; 6.8.5, 5)
 abbrev pub behind : Expr → Env → Env
 behind e env = extend (enter env) (expr_adds e (enter env))
 
@@ -100,20 +104,28 @@ to_result env (Some result) = converted_to env result
 abbrev pub statement_parts : Around → Env → StmtForm-F BlockItem StmtForm Stmt → List Placed
 statement_parts around env (StmtForm-F.Label name inner) = at env (AStatement around inner) ∷ []
 statement_parts around env (StmtForm-F.Case value inner) =
-    at env (AnExpression value) ∷ at (extend env (expr_adds value env)) (AStatement (behind_cases around (expr_constant value env ∷ []) false) inner) ∷ []
-statement_parts around env (StmtForm-F.Default inner) = at env (AStatement (behind_cases around [] true) inner) ∷ []
+    at env (AnExpression value) ∷
+    at (extend env (expr_adds value env))
+    (AStatement (behind_cases around (expr_constant value env ∷ []) false) inner) ∷ []
+statement_parts around env (StmtForm-F.Default inner) =
+    at env (AStatement (behind_cases around [] true) inner) ∷ []
 statement_parts around env (StmtForm-F.Block items) = items_in_turn around (enter env) items
 statement_parts around env (StmtForm-F.Do e) = perhaps env AnExpression e
 statement_parts around env (StmtForm-F.If e taken other) =
     at (enter env) (AnExpression e) ∷ at (enter (behind e env)) (AStatement around taken) ∷
-    perhaps (enter (behind_inner taken (behind e env))) (AStatement (around_behind around (statement taken (enter (behind e env))))) other
+    perhaps (enter (behind_inner taken (behind e env)))
+    (AStatement (around_behind around (statement taken (enter (behind e env))))) other
 statement_parts around env (StmtForm-F.Switch e inner) =
-    at (enter env) (AnExpression e) ∷ at (enter (behind e env)) (AStatement (in_body_of_switch around (switch_kind e (enter env))) inner) ∷ []
+    at (enter env) (AnExpression e) ∷
+    at (enter (behind e env)) (AStatement (in_body_of_switch around (switch_kind e (enter env))) inner) ∷ []
 statement_parts around env (StmtForm-F.While e inner) =
-    at (enter env) (AnExpression e) ∷ at (enter (behind e env)) (AStatement (in_body_of_loop around) inner) ∷ []
+    at (enter env) (AnExpression e) ∷
+    at (enter (behind e env)) (AStatement (in_body_of_loop around) inner) ∷ []
 statement_parts around env (StmtForm-F.Until inner e) =
-    at (enter (enter env)) (AStatement (in_body_of_loop around) inner) ∷ at (behind_inner inner (enter env)) (AnExpression e) ∷ []
-statement_parts around env (StmtForm-F.For start condition step inner) = for_parts around (enter env) start condition step inner
+    at (enter (enter env)) (AStatement (in_body_of_loop around) inner) ∷
+    at (behind_inner inner (enter env)) (AnExpression e) ∷ []
+statement_parts around env (StmtForm-F.For start condition step inner) =
+    for_parts around (enter env) start condition step inner
 statement_parts around env (StmtForm-F.Goto name) = []
 statement_parts around env StmtForm-F.Continue = []
 statement_parts around env StmtForm-F.Break = []
@@ -140,7 +152,8 @@ inner_adds (Some d) env = (declarator_found d).additions env
 -- the parameters of a list stand in a scope of their own, each behind those before it (C99 6.2.1, 4)
 abbrev pub parameters_in_turn : Bool → Env → List Parameter → List Placed
 parameters_in_turn lone env [] = []
-parameters_in_turn lone env (p ∷ ps) = at env (AParameter lone p) ∷ parameters_in_turn lone (extend env (parameter_found p env).additions) ps
+parameters_in_turn lone env (p ∷ ps) =
+    at env (AParameter lone p) ∷ parameters_in_turn lone (extend env (parameter_found p env).additions) ps
 
 -- whether a list is of one parameter and no dots
 abbrev pub is_lone : List Parameter → Bool → Bool
@@ -158,40 +171,53 @@ size_in (Some e) env = Some (expr_constant e env)
 
 -- the size stands in the environment behind the declarator inside
 abbrev pub array_left : Env → Env → Left → Option Expr → Left
-array_left env behind left size = inner_left left (array_by (span_at env left) (size_in size behind) left.type)
+array_left env behind left size =
+    inner_left left (array_by (span_at env left) (size_in size behind) left.type)
 
 abbrev pub function_left : Env → Left → List Parameter → Bool → Left
-function_left env left ps dots = inner_left left (function_by dots (parameters_of (tellers ps) dots (enter env)).types left.type)
+function_left env left ps dots =
+    inner_left left (function_by dots (parameters_of (tellers ps) dots (enter env)).types left.type)
 
 -- the parts of a declarator, and the type that it makes for the one inside
-abbrev pub declarator_parts : Env → Left → DeclaratorForm-F DeclaratorForm ExprForm MemberDeclarator Specifier Declarator Expr Item Member Parameter TypeName → List Placed
+abbrev pub declarator_parts : Env → Left →
+    DeclaratorForm-F DeclaratorForm ExprForm MemberDeclarator Specifier Declarator Expr Item Member Parameter
+    TypeName → List Placed
 declarator_parts env left (DeclaratorForm-F.Star qualifiers inner) =
     inner_part env (inner_left left (pointer_made left.type)) inner
 declarator_parts env left (DeclaratorForm-F.Named name) = []
-declarator_parts env left (DeclaratorForm-F.Group inner) = inner_part env (record left { is_whole = false }) (Some inner)
+declarator_parts env left (DeclaratorForm-F.Group inner) =
+    inner_part env (record left { is_whole = false }) (Some inner)
 declarator_parts env left (DeclaratorForm-F.ArrayOf inner size) =
-    let behind = extend env (inner_adds inner env) in inner_part env (array_left env behind left size) inner ++ perhaps behind AnExpression size
+    let behind = extend env (inner_adds inner env) in
+    inner_part env (array_left env behind left size) inner ++ perhaps behind AnExpression size
 declarator_parts env left (DeclaratorForm-F.FunctionOf inner ps dots) =
-    let behind = extend env (inner_adds inner env) in inner_part env (function_left behind left ps dots) inner ++ parameters_in_turn (is_lone ps dots) (enter behind) ps
+    let behind = extend env (inner_adds inner env) in
+    inner_part env (function_left behind left ps dots) inner ++
+    parameters_in_turn (is_lone ps dots) (enter behind) ps
 
 -- ---- specifiers (C99 6.7.2)
 
 abbrev pub members_parts : Env → List Field → List Member → List Placed
 members_parts env before [] = []
 members_parts env before (m ∷ ms) =
-    let told = member_found m env before in at env (AMember before m) ∷ members_parts (extend env told.additions) (before ++ told.fields) ms
+    let told = member_found m env before in
+    at env (AMember before m) ∷ members_parts (extend env told.additions) (before ++ told.fields) ms
 
 abbrev pub items_parts : Env → Option ℤ → List Item → List Placed
 items_parts env before [] = []
 items_parts env before (i ∷ is) =
-    let told = item_found i env before in at env (AnItem before i) ∷ items_parts (extend env told.additions) told.value is
+    let told = item_found i env before in
+    at env (AnItem before i) ∷ items_parts (extend env told.additions) told.value is
 
-abbrev pub specifier_parts : Env → Specifier-F DeclaratorForm ExprForm MemberDeclarator Specifier Declarator Expr Item Member Parameter TypeName → List Placed
+abbrev pub specifier_parts : Env →
+    Specifier-F DeclaratorForm ExprForm MemberDeclarator Specifier Declarator Expr Item Member Parameter
+    TypeName → List Placed
 specifier_parts env (Specifier-F.Storage word) = []
 specifier_parts env Specifier-F.Inline = []
 specifier_parts env (Specifier-F.Qualifier word) = []
 specifier_parts env (Specifier-F.Type word) = []
-specifier_parts env (Specifier-F.Struct tag members) = members_parts (extend env (struct_begins env tag)) [] members
+specifier_parts env (Specifier-F.Struct tag members) =
+    members_parts (extend env (struct_begins env tag)) [] members
 specifier_parts env (Specifier-F.StructTag tag) = []
 specifier_parts env (Specifier-F.Enum tag items) = items_parts env before_first items
 specifier_parts env (Specifier-F.EnumTag tag) = []
@@ -200,4 +226,5 @@ specifier_parts env (Specifier-F.Typedef name) = []
 abbrev pub specifiers_parts : Bool → Env → List Specifier → List Placed
 specifiers_parts alone env [] = []
 specifiers_parts alone env (s ∷ ss) =
-    specifier_parts env (out-Specifier s) ++ specifiers_parts alone (extend env (specifiers_found (s ∷ []) env alone).additions) ss
+    specifier_parts env (out-Specifier s) ++
+    specifiers_parts alone (extend env (specifiers_found (s ∷ []) env alone).additions) ss

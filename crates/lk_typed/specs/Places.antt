@@ -23,7 +23,8 @@ use Rattle.lk_typed.specs.Operators.{is_condition, is_steppable, must_be, by_row
 
 -- & takes a place or a function; of a place it keeps the address
 abbrev pub address_of : Typing → Typing
-address_of e = record { type = Pointer e.type; is_place = false; constant = NotConstant; is_null = false; address = e.address }
+address_of e =
+    record { type = Pointer e.type; is_place = false; constant = NotConstant; is_null = false; address = e.address }
 
 abbrev pub is_addressable : Typing → Bool
 is_addressable e = e.is_place || is_function e.type
@@ -31,7 +32,8 @@ is_addressable e = e.is_place || is_function e.type
 abbrev pub address_rule : Typing → Verdict
 address_rule e = unless (if_so (not (is_addressable e)) NotAPlace) (address_of e)
 
--- what * gives: a function from a pointer to one, else a place, of any type but void; & of it gives the address back (C99 6.5.3.2, 3)
+-- what * gives: a function from a pointer to one, else a place, of any type but void; & of it gives the
+-- address back (C99 6.5.3.2, 3)
 abbrev pub pointed : Typing → Ty → Option Typing
 pointed e target =
     if is_void target then None
@@ -48,7 +50,8 @@ indirection_rule e = by_row (must_be is_pointer e.type) (indirect e (target_of e
 
 abbrev pub at_promoted_kind : UnaryOp → Typing → Option Kind → Option Typing
 at_promoted_kind o e None = None
-at_promoted_kind o e (Some k) = Some (integer (unary_kind o (promoted k)) (unary_constant o (promoted k) e.constant))
+at_promoted_kind o e (Some k) =
+    Some (integer (unary_kind o (promoted k)) (unary_constant o (promoted k) e.constant))
 
 abbrev pub arithmetic_rule : UnaryOp → Typing → Verdict
 arithmetic_rule o e = by_row (must_be is_integer e.type) (at_promoted_kind o e (kind_of e.type))
@@ -90,7 +93,9 @@ element_of e i (Some target) = Some (place_of_type target (moved e.address i.con
 
 -- both are values
 abbrev pub index_rule : List Members → Typing → Typing → Verdict
-index_rule structs e i = by_row (must_be (is_steppable structs) e.type ++ must_be is_integer i.type) (element_of e i (target_of e.type))
+index_rule structs e i =
+    by_row (must_be (is_steppable structs) e.type ++ must_be is_integer i.type)
+    (element_of e i (target_of e.type))
 
 -- ---- . and -> (C99 6.5.2.3)
 
@@ -102,20 +107,25 @@ member_in address k (Some field) = Typed (place_of_type field.type (inside (memb
 abbrev pub member_of : Code → Address → Name → Members → Verdict
 member_of when_incomplete address name NotYet = Broken (when_incomplete ∷ [])
 member_of when_incomplete address name Begun = Broken (when_incomplete ∷ [])
-member_of when_incomplete address name (KnownMembers fields) = member_in address (number_of_field fields name) (field_of fields name)
+member_of when_incomplete address name (KnownMembers fields) =
+    member_in address (number_of_field fields name) (field_of fields name)
 member_of when_incomplete address name Faulty = Silent
 
 abbrev pub dot_of : List Members → Typing → Name → Option ℕ → Verdict
 dot_of structs e name None = Broken (Mismatch ∷ [])
-dot_of structs e name (Some s) = if e.is_place then member_of Mismatch e.address name (members_of structs s) else Broken (Mismatch ∷ [])
+dot_of structs e name (Some s) = if e.is_place then member_of Mismatch e.address name (members_of structs s)
+    else Broken (Mismatch ∷ [])
 
 -- . takes a place of struct type
 abbrev pub dot_rule : List Members → Typing → Name → Verdict
 dot_rule structs e name = dot_of structs e name (struct_of e.type)
 
--- what -> says of its pointer's target: of a struct its member; of void 22; of another incomplete type 25; else 22
+-- what -> says of its pointer's target: of a struct its member; of void 22; of
+-- another incomplete type 25; else 22
 abbrev pub arrow_target : List Members → Typing → Name → Ty → Option ℕ → Verdict
-arrow_target structs e name target None = if is_void target || is_function target || is_complete structs target then Broken (Mismatch ∷ []) else Broken (Incomplete ∷ [])
+arrow_target structs e name target None =
+    if is_void target || is_function target || is_complete structs target then Broken (Mismatch ∷ [])
+    else Broken (Incomplete ∷ [])
 arrow_target structs e name target (Some s) = member_of Incomplete e.address name (members_of structs s)
 
 abbrev pub arrow_of : List Members → Typing → Name → Option Ty → Verdict
@@ -132,12 +142,17 @@ abbrev pub is_counted : List Members → Ty → Bool
 is_counted structs t = is_integer t || is_steppable structs t
 
 abbrev pub step_rule : List Members → Typing → Verdict
-step_rule structs e = unless (if_so (not e.is_place) NotAPlace ++ must_be (is_counted structs) e.type) (value_of_type e.type)
+step_rule structs e =
+    unless (if_so (not e.is_place) NotAPlace ++ must_be (is_counted structs) e.type) (value_of_type e.type)
 
 -- ---- sizeof (C99 6.5.3.4): of a complete object type; of one that holds a struct, mutex or condition variable only in an allocation's size
 
 abbrev pub sizeof_codes : List Members → Bool → Ty → List Code
-sizeof_codes structs in_size t = if_so (not (is_complete structs t)) Incomplete ++ if_so (holds_struct_or_lock t && not in_size) SizeofStruct
+sizeof_codes structs in_size t =
+    if_so (not (is_complete structs t)) Incomplete ++
+    if_so (holds_struct_or_lock t && not in_size) SizeofStruct
 
 abbrev pub sizeof_rule : List Members → Bool → Ty → Verdict
-sizeof_rule structs in_size t = if is_broken structs t then Silent else unless (sizeof_codes structs in_size t) (integer kind.ULong (constant_of_bytes (bytes_in t)))
+sizeof_rule structs in_size t =
+    if is_broken structs t then Silent
+    else unless (sizeof_codes structs in_size t) (integer kind.ULong (constant_of_bytes (bytes_in t)))

@@ -12,7 +12,8 @@ use Rattle.lk_typed.specs.Ty.{Ty, is_same, is_redeclarable}
 -- the types that are predeclared at file scope
 abbrev pub library_types : List Name
 library_types =
-    codes "pthread_t" ∷ codes "pthread_mutex_t" ∷ codes "pthread_cond_t" ∷ codes "size_t" ∷ codes "pthread_attr_t" ∷ codes "pthread_mutexattr_t" ∷ codes "pthread_condattr_t" ∷ []
+    codes "pthread_t" ∷ codes "pthread_mutex_t" ∷ codes "pthread_cond_t" ∷ codes "size_t" ∷
+    codes "pthread_attr_t" ∷ codes "pthread_mutexattr_t" ∷ codes "pthread_condattr_t" ∷ []
 
 -- ---- what two meanings have in common
 
@@ -76,13 +77,15 @@ is_whole defines.Whole = true
 
 -- ---- names that are no tags
 
--- the later of two declarations of a name in one scope is admitted: equal ones of a function, or of an object with linkage, where at most one has a body or an
--- initialiser; and an equal one of a predeclared type. What a library function does is its body. Of a faulty declaration nothing is asked.
+-- the later of two declarations of a name in one scope is admitted: equal ones of a function, or of an object
+-- with linkage, where at most one has a body or an initialiser; and an equal one of a predeclared type. What
+-- a library function does is its body. Of a faulty declaration nothing is asked.
 abbrev pub may_follow : Declared → Declared → Bool
 may_follow old new =
     is_faulty old.meaning || is_faulty new.meaning ||
     (is_linked_alike old.linkage new.linkage && not (is_whole old.defines && is_whole new.defines) &&
-    (are_both is_redeclarable (object_type old.meaning) (object_type new.meaning) || are_both is_redeclarable (function_type old.meaning) (function_type new.meaning))) ||
+    (are_both is_redeclarable (object_type old.meaning) (object_type new.meaning)
+    || are_both is_redeclarable (function_type old.meaning) (function_type new.meaning))) ||
     (is_one_of library_types new.name && are_both is_same (typedef_type old.meaning) (typedef_type new.meaning))
 
 abbrev pub may_stand : Option Declared → Declared → Bool
@@ -91,7 +94,8 @@ may_stand (Some old) new = may_follow old new
 
 -- 21 of a name that is no tag
 abbrev pub name_rules : Env → Declared → List Breach
-name_rules env new = if may_stand (look_up_here env new.name) new then [] else breach_of Redeclared new.name ∷ []
+name_rules env new =
+    if may_stand (look_up_here env new.name) new then [] else breach_of Redeclared new.name ∷ []
 
 -- ---- tags (C99 6.7.2.3): a struct whose definition has begun may not be defined again, inside its own definition neither
 
@@ -112,7 +116,8 @@ is_open Begun = false
 is_open (Known fields) = false
 is_open Faulty = false
 
--- whether a use may stand where the tag has this meaning: a struct is defined once, an enumeration is defined once, and each is named by its own word
+-- whether a use may stand where the tag has this meaning: a struct is defined once, an enumeration is defined
+-- once, and each is named by its own word
 abbrev pub admits : Env → TagMeaning → TagUse → Bool
 admits env (AStructTag s) DefinesStruct = is_open (members_of env.structs s)
 admits env (AStructTag s) DefinesEnum = false
@@ -130,7 +135,8 @@ admits env AFaultyTag NamesStruct = true
 admits env AFaultyTag NamesEnum = true
 admits env AFaultyTag DeclaresStruct = true
 
--- the tag that a use speaks of: a definition or a lone declaration that of its own scope, else the innermost one
+-- the tag that a use speaks of: a definition or a lone declaration that of its own
+-- scope, else the innermost one
 abbrev pub tag_meant : Env → TagUse → Name → Option Tag
 tag_meant env DefinesStruct name = look_up_tag_here env name
 tag_meant env DefinesEnum name = look_up_tag_here env name
@@ -144,4 +150,5 @@ may_use env (Some tag) wanted = admits env tag.meaning wanted
 
 -- 21 of a tag
 abbrev pub tag_rules : Env → TagUse → Name → List Breach
-tag_rules env wanted name = if may_use env (tag_meant env wanted name) wanted then [] else breach_of Redeclared name ∷ []
+tag_rules env wanted name =
+    if may_use env (tag_meant env wanted name) wanted then [] else breach_of Redeclared name ∷ []

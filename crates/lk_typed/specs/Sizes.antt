@@ -6,7 +6,8 @@ use Rattle.lk_typed.specs.Env.{Members, NotYet, Begun, Known as KnownMembers, Fa
 use Rattle.lk_typed.specs.declared.constant.Constant.{Constant}
 use Rattle.lk_typed.specs.declared.constant.Constant.TheVariants.{NotConstant, Known}
 
--- a struct is complete from the closing brace of its members on (C99 6.7.2.3, 4); of a faulty one nothing is asked
+-- a struct is complete from the closing brace of its members on (C99 6.7.2.3, 4); of
+-- a faulty one nothing is asked
 abbrev pub are_known : Members → Bool
 are_known NotYet = false
 are_known Begun = false
@@ -32,7 +33,8 @@ is_complete structs (Struct s) = are_known (members_of structs s)
 is_complete structs (Function result params dots) = false
 is_complete structs (Opaque n) = false
 
--- a struct with a faulty definition, or an array of such: what needs its members or size has neither a type nor a fault
+-- a struct with a faulty definition, or an array of such: what needs its members or size
+-- has neither a type nor a fault
 abbrev pub is_broken : List Members → Ty → Bool
 is_broken structs Void = false
 is_broken structs (Int k) = false
@@ -58,7 +60,8 @@ holds_struct_or_lock (Struct s) = true
 holds_struct_or_lock (Function result params dots) = false
 holds_struct_or_lock (Opaque n) = false
 
--- how many bytes sizeof counts; pointers and thread ids count 8, and of structs, mutexes and condition variables no number is known
+-- how many bytes sizeof counts; pointers and thread ids count 8, and of structs, mutexes and condition
+-- variables no number is known
 abbrev pub bytes_in : Ty → Option ℕ
 bytes_in Void = None
 bytes_in (Int k) = Some (bytes_of k)

@@ -1,5 +1,5 @@
--- Where a node stands in a source, and which faults a source has. Given are the parts of a node, the codes that hold at it, the parts in which a fault hides them, and
--- the node's place and number.
+-- Where a node stands in a source, and which faults a source has. Given are the parts of a node, the codes
+-- that hold at it, the parts in which a fault hides them, and the node's place and number.
 use Rattle.std.specs.Prelude.{ℕ, ◌≡◌, ◌⊎◌, List, [], ◌∷◌}
 use Rattle.lk_base.specs.declared.spot.Spot.{Spot}
 use Rattle.lk_typed.specs.Env.{Env}
@@ -18,16 +18,19 @@ pub record Mark : Type 0 where
 abbrev pub fault_at : Mark → Breach → Fault
 fault_at mark broken = record { spot = mark.spot; ordinal = mark.ordinal; breach = broken }
 
-module _ (parts : Env → Node → List Placed) (breaches : Env → Node → List Breach) (hiding : Env → Node → List Placed) (mark : Node → Mark) where
+module _ (parts : Env → Node → List Placed) (breaches : Env → Node → List Breach)
+    (hiding : Env → Node → List Placed) (mark : Node → Mark) where
   -- a node stands in its environment inside another one in that one's
   pub data Stands : Env → Node → Env → Node → Type 0 where
     here : {env : Env} {node : Node} → Stands env node env node
-    inside : {env env' : Env} {node node' : Node} (part : Placed) → IsIn part (parts env node) → Stands part.env part.node env' node' → Stands env node env' node'
+    inside : {env env' : Env} {node node' : Node} (part : Placed) → IsIn part (parts env node) →
+        Stands part.env part.node env' node' → Stands env node env' node'
 
   -- a code holds at a node that stands in one of these
   pub data Breaks : List Placed → Breach → Type 0 where
-    breaks : {env' : Env} {node' : Node} {placed : List Placed} {broken : Breach} (part : Placed) → IsIn part placed → Stands part.env part.node env' node' →
-        IsIn broken (breaches env' node') → Breaks placed broken
+    breaks : {env' : Env} {node' : Node} {placed : List Placed} {broken : Breach} (part : Placed) →
+        IsIn part placed → Stands part.env part.node env' node' → IsIn broken (breaches env' node') →
+        Breaks placed broken
 
   -- this code holds at a node, and nothing hides it
   pub record Holds (env : Env) (node : Node) (broken : Breach) : Type 0 where
@@ -36,4 +39,5 @@ module _ (parts : Env → Node → List Placed) (breaches : Env → Node → Lis
 
   -- a fault of what stands in a node: a code that holds at a node which stands there
   pub data IsFault : Env → Node → Fault → Type 0 where
-    fault : {env env' : Env} {node node' : Node} {broken : Breach} → Stands env node env' node' → Holds env' node' broken → IsFault env node (fault_at (mark node') broken)
+    fault : {env env' : Env} {node node' : Node} {broken : Breach} → Stands env node env' node' →
+        Holds env' node' broken → IsFault env node (fault_at (mark node') broken)

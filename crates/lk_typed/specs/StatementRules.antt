@@ -1,4 +1,5 @@
--- The rules of statements (C99 6.8). A type is missing where an expression has none; then its statement breaks no rule.
+-- The rules of statements (C99 6.8). A type is missing where an expression has none; then
+-- its statement breaks no rule.
 use Rattle.std.specs.Prelude.{ℕ, ◌||◌, ◌++◌, Bool, true, false, not, Option, Some, None, List, [], ◌∷◌, is_some, map, option_map, if◌then◌else◌, ℤ}
 use Rattle.std.specs.List.{list_any}
 use Rattle.std.specs.Ordering.{int_eq}
@@ -16,13 +17,16 @@ use Rattle.lk_typed.specs.declared.constant.Constant.{Constant}
 
 -- ---- expressions in statements; the types are those of values, an array or function turned into a pointer (C99 6.3.2.1)
 
--- a controlling expression: 45 of a lock, 22 of what is neither an integer nor a pointer (C99 6.8.4.1, 1; 6.8.5, 2)
+-- a controlling expression: 45 of a lock, 22 of what is neither an integer nor a
+-- pointer (C99 6.8.4.1, 1; 6.8.5, 2)
 abbrev pub condition_rules : Option Ty → List Breach
-condition_rules value = of_type value (λ t. if is_lock t then breach MutexValue ∷ [] else unless (is_integer t || is_pointer t) Mismatch)
+condition_rules value =
+    of_type value (λ t. if is_lock t then breach MutexValue ∷ [] else unless (is_integer t || is_pointer t) Mismatch)
 
 -- that of a switch: 22 of what is no integer (C99 6.8.4.2, 1)
 abbrev pub switch_rules : Option Ty → List Breach
-switch_rules value = of_type value (λ t. if is_lock t then breach MutexValue ∷ [] else unless (is_integer t) Mismatch)
+switch_rules value =
+    of_type value (λ t. if is_lock t then breach MutexValue ∷ [] else unless (is_integer t) Mismatch)
 
 -- an expression whose value is dropped: a statement, or the first or third part of a for (C99 6.8.3, 6.8.5.3)
 abbrev pub dropped_rules : Option Ty → List Breach
@@ -36,7 +40,8 @@ pub data Returned : Type 0 where
 -- a return has a value exactly where the result isn't void (C99 6.8.6.4, 1)
 abbrev pub return_rules : Option Ty → Returned → List Breach
 return_rules result Nothing = of_type result (λ t. unless (is_void t) Mismatch)
-return_rules result (Converted broken) = of_type result (λ t. if is_void t then breach Mismatch ∷ [] else broken)
+return_rules result (Converted broken) =
+    of_type result (λ t. if is_void t then breach Mismatch ∷ [] else broken)
 
 -- ---- labels and jumps: 26
 
@@ -118,11 +123,14 @@ in_body_of_loop around = record around { in_loop = true }
 
 -- with the kind of its value
 abbrev pub in_body_of_switch : Around → Option Kind → Around
-in_body_of_switch around kind = record around { switch = Some (record { kind = kind; values = []; has_default = false }) }
+in_body_of_switch around kind =
+    record around { switch = Some (record { kind = kind; values = []; has_default = false }) }
 
 -- behind more cases of the switch, and perhaps a default
 abbrev pub with_cases : List (Option Constant) → Bool → Switch → Switch
-with_cases values has_default s = record s { values = s.values ++ map (case_value s.kind) values; has_default = s.has_default || has_default }
+with_cases values has_default s =
+    record s { values = s.values ++ map (case_value s.kind) values; has_default = s.has_default || has_default }
 
 abbrev pub behind_cases : Around → List (Option Constant) → Bool → Around
-behind_cases around values has_default = record around { switch = option_map (with_cases values has_default) around.switch }
+behind_cases around values has_default =
+    record around { switch = option_map (with_cases values has_default) around.switch }

@@ -1,4 +1,5 @@
--- What statements add, and the cases of a switch (C99 6.8): a fold, in the environments in which the parts stand.
+-- What statements add, and the cases of a switch (C99 6.8): a fold, in the
+-- environments in which the parts stand.
 use Rattle.std.specs.Prelude.{ℕ, ◌++◌, Bool, true, false, Option, Some, None, List, [], ◌∷◌, map}
 use Rattle.lk_base.specs.declared.kind.Kind.{Kind}
 use Rattle.lk_tree.specs.declared.expression.Expr.{Expr}
@@ -22,7 +23,8 @@ optional_adds (Some e) env = expr_adds e env
 
 -- ---- statements
 
--- a case that belongs to the switch round it: the number of its node, and what constant its value is, missing where that has no type
+-- a case that belongs to the switch round it: the number of its node, and what constant its value is,
+-- missing where that has no type
 pub record Case : Type 0 where
   pub ordinal : ℕ
   pub value : Option Constant
@@ -41,7 +43,8 @@ abbrev pub only : Additions → StmtTold
 only additions = record { additions = additions; cases = []; defaults = [] }
 
 abbrev pub then_told : StmtTold → StmtTold → StmtTold
-then_told a b = record { additions = both a.additions b.additions; cases = a.cases ++ b.cases; defaults = a.defaults ++ b.defaults }
+then_told a b =
+    record { additions = both a.additions b.additions; cases = a.cases ++ b.cases; defaults = a.defaults ++ b.defaults }
 
 -- two statements, the second behind the first
 abbrev pub behind_first : StmtTeller → StmtTeller → StmtTeller
@@ -77,12 +80,20 @@ without_cases inner env = only (inner env).additions
 abbrev pub of_form : StmtForm-F StmtTeller (ℕ → StmtTeller) StmtTeller → ℕ → StmtTeller
 of_form (StmtForm-F.Label name inner) n = inner
 of_form (StmtForm-F.Case value inner) n = λ env.
-    then_told (record { additions = expr_adds value env; cases = record { ordinal = n; value = expr_constant value env } ∷ []; defaults = [] }) (inner (extend env (expr_adds value env)))
-of_form (StmtForm-F.Default inner) n = λ env. let told = inner env in record told { defaults = n ∷ told.defaults }
+    then_told (record {
+      additions = expr_adds value env;
+      cases = record { ordinal = n; value = expr_constant value env } ∷ [];
+      defaults =
+          [];
+    }) (inner (extend env (expr_adds value env)))
+of_form (StmtForm-F.Default inner) n = λ env. let told = inner env in
+    record told { defaults = n ∷ told.defaults }
 of_form (StmtForm-F.Block items) n = scoped (all_in_turn items)
 of_form (StmtForm-F.Do e) n = adding (optional_adds e)
-of_form (StmtForm-F.If e taken other) n = scoped (all_in_turn (adding (expr_adds e) ∷ scoped taken ∷ scoped (or_nothing other) ∷ []))
-of_form (StmtForm-F.Switch e inner) n = scoped (behind_first (adding (expr_adds e)) (scoped (without_cases inner)))
+of_form (StmtForm-F.If e taken other) n =
+    scoped (all_in_turn (adding (expr_adds e) ∷ scoped taken ∷ scoped (or_nothing other) ∷ []))
+of_form (StmtForm-F.Switch e inner) n =
+    scoped (behind_first (adding (expr_adds e)) (scoped (without_cases inner)))
 of_form (StmtForm-F.While e inner) n = scoped (behind_first (adding (expr_adds e)) (scoped inner))
 of_form (StmtForm-F.Until inner e) n = scoped (behind_first (scoped inner) (adding (expr_adds e)))
 of_form (StmtForm-F.For start condition step inner) n =

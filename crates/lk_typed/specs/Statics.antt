@@ -1,5 +1,6 @@
--- What the initialiser of an object of static storage must be: an integer constant or an address constant, whatever it converts to (C99 6.6, 7 to 9; 6.7.8, 4).
--- And what a constant must be that a declaration or a `case` asks for (6.6, 6).
+-- What the initialiser of an object of static storage must be: an integer constant or an address
+-- constant, whatever it converts to (C99 6.6, 7 to 9; 6.7.8, 4). And what a constant must be that a
+-- declaration or a `case` asks for (6.6, 6).
 use Rattle.std.specs.Prelude.{ℕ, zero, suc, Bool, true, false, not, ◌||◌, ◌++◌, List, [], ◌∷◌, nat_lt, if◌then◌else◌}
 use Rattle.lk_base.specs.declared.cell.CellStep.{CellStep}
 use Rattle.lk_base.specs.declared.cell.CellStep.TheVariants.{Index}
@@ -46,5 +47,6 @@ element_reached steps (suc before) false = record { steps = steps ++ Index befor
 
 abbrev pub reached : Position → Reached
 reached position =
-    if position.is_element then element_reached position.steps position.index (nat_lt position.index position.count)
+    if position.is_element then element_reached position.steps position.index
+    (nat_lt position.index position.count)
     else record { steps = position.steps; is_past = not (nat_lt position.index position.count) }

@@ -1,4 +1,5 @@
--- The structs of a source by their numbers (C99 6.7.2.1, 6.7.2.3): their members behind the whole source, their tags, and whether these are declared at file scope.
+-- The structs of a source by their numbers (C99 6.7.2.1, 6.7.2.3): their members behind the whole source,
+-- their tags, and whether these are declared at file scope.
 use Rattle.std.specs.Prelude.{ℕ, ◌≡◌, Bool, false, Option, Some, None, List, [], ◌∷◌, length, slice_get, nat_eq, if◌then◌else◌}
 use Rattle.lk_tree.specs.declared.expression.Declarator.{Declarator}
 use Rattle.lk_tree.specs.declared.expression.DeclaratorForm.{DeclaratorForm}
@@ -28,14 +29,17 @@ use Rattle.lk_typed.specs.declared.unit.StructTag.{StructTag}
 
 pub data AreMembers (types : List CType) : List Field → List StructMember → Type 0 where
   no_more : AreMembers types [] []
-  next : {field : Field} {others : List Field} {is : StructMember} {rest : List StructMember} → is.name ≡ field.name → Means types is.ty field.type → AreMembers types others rest →
+  next : {field : Field} {others : List Field} {is : StructMember} {rest : List StructMember} →
+      is.name ≡ field.name → Means types is.ty field.type → AreMembers types others rest →
       AreMembers types (field ∷ others) (is ∷ rest)
 
 -- a struct that is never completed has no members
 pub data AreStructs (types : List CType) : List Members → List (List StructMember) → Type 0 where
   no_more : AreStructs types [] []
-  incomplete : {others : List Members} {rest : List (List StructMember)} → AreStructs types others rest → AreStructs types (NotYet ∷ others) ([] ∷ rest)
-  complete : {fields : List Field} {others : List Members} {are : List StructMember} {rest : List (List StructMember)} → AreMembers types fields are → AreStructs types others rest →
+  incomplete : {others : List Members} {rest : List (List StructMember)} → AreStructs types others rest →
+      AreStructs types (NotYet ∷ others) ([] ∷ rest)
+  complete : {fields : List Field} {others : List Members} {are : List StructMember}
+      {rest : List (List StructMember)} → AreMembers types fields are → AreStructs types others rest →
       AreStructs types (Known fields ∷ others) (are ∷ rest)
 
 -- ---- specifiers that speak of a struct for the first time
@@ -46,16 +50,22 @@ new_by (Some s) tag = None
 
 -- a definition that is 21 begins a struct that no tag names, and another such use none
 abbrev begun_by : Env → TagUse → Option Tag → Option Name → Option (Option Name) → Option (Option Name)
-begun_by env wanted found tag refused = if may_use env found wanted then new_by (struct_meant found) tag else refused
+begun_by env wanted found tag refused =
+    if may_use env found wanted then new_by (struct_meant found) tag else refused
 
--- the tag of the struct that begins at a specifier, where one does; `alone` says that the specifiers are all of a declaration
-abbrev pub struct_begun : Env → Bool → Specifier-F DeclaratorForm ExprForm MemberDeclarator Specifier Declarator Expr Item Member Parameter TypeName → Option (Option Name)
+-- the tag of the struct that begins at a specifier, where one does; `alone` says that the
+-- specifiers are all of a declaration
+abbrev pub struct_begun : Env → Bool →
+    Specifier-F DeclaratorForm ExprForm MemberDeclarator Specifier Declarator Expr Item Member Parameter
+    TypeName → Option (Option Name)
 struct_begun env alone (Specifier-F.Storage word) = None
 struct_begun env alone Specifier-F.Inline = None
 struct_begun env alone (Specifier-F.Qualifier word) = None
 struct_begun env alone (Specifier-F.Type word) = None
-struct_begun env alone (Specifier-F.Struct tag members) = begun_by env DefinesStruct (tag_found env DefinesStruct tag) tag (Some None)
-struct_begun env alone (Specifier-F.StructTag tag) = begun_by env (struct_use alone) (tag_meant env (struct_use alone) tag) (Some tag) None
+struct_begun env alone (Specifier-F.Struct tag members) =
+    begun_by env DefinesStruct (tag_found env DefinesStruct tag) tag (Some None)
+struct_begun env alone (Specifier-F.StructTag tag) =
+    begun_by env (struct_use alone) (tag_meant env (struct_use alone) tag) (Some tag) None
 struct_begun env alone (Specifier-F.Enum tag items) = None
 struct_begun env alone (Specifier-F.EnumTag tag) = None
 struct_begun env alone (Specifier-F.Typedef name) = None
@@ -84,11 +94,14 @@ specifiers_at (AnExpression e) = in_type []
 -- a specifier stands among others, behind those before it
 pub data StandsAmong (alone : Bool) : Env → List Specifier → Env → Specifier → Type 0 where
   first : {env : Env} {s : Specifier} {ss : List Specifier} → StandsAmong alone env (s ∷ ss) env s
-  later : {env env' : Env} {s r : Specifier} {ss : List Specifier} → StandsAmong alone (extend env (specifiers_found (s ∷ []) env alone).additions) ss env' r → StandsAmong alone env (s ∷ ss) env' r
+  later : {env env' : Env} {s r : Specifier} {ss : List Specifier} →
+      StandsAmong alone (extend env (specifiers_found (s ∷ []) env alone).additions) ss env' r →
+      StandsAmong alone env (s ∷ ss) env' r
 
 -- ---- tags
 
--- the struct with the number s begins at a specifier with this tag; at file scope no scope is open yet (C99 6.2.1, 4)
+-- the struct with the number s begins at a specifier with this tag; at file scope no
+-- scope is open yet (C99 6.2.1, 4)
 pub record IsTagOf (externs : List Name) (unit : Unit) (s : ℕ) (tag : StructTag) : Type 0 where
   pub env : Env
   pub node : Node
@@ -100,6 +113,7 @@ pub record IsTagOf (externs : List Name) (unit : Unit) (s : ℕ) (tag : StructTa
   pub number : length env'.structs ≡ s
   pub outside : tag.is_outside ≡ nat_eq env'.base 0
 
-pub record HaveTags (externs : List Name) (unit : Unit) (structs : List Members) (tags : List StructTag) : Type 0 where
+pub record HaveTags (externs : List Name) (unit : Unit) (structs : List Members)
+    (tags : List StructTag) : Type 0 where
   pub count : length tags ≡ length structs
   pub each : (s : ℕ) (tag : StructTag) → slice_get tags s ≡ Some tag → IsTagOf externs unit s tag

@@ -1,4 +1,5 @@
--- What the numbers of a typed tree stand for in its unit: its types, its entities, and the locals of the body in which a node stands.
+-- What the numbers of a typed tree stand for in its unit: its types, its entities, and the locals of the
+-- body in which a node stands.
 use Rattle.std.specs.Prelude.{ℕ, ◌≡◌, List, Some, slice_get}
 use Rattle.std.specs.List.{Contains}
 use Rattle.lk_types.specs.declared.c_type.CType.{CType}
@@ -19,7 +20,8 @@ IsDeclaredBy entity ordinal = (is : Declaration) × Contains entity.declarations
 module _ (tables : Tables) where
   -- the entity with the number e
   abbrev pub IsEntityAt : (ordinal e : ℕ) → Type 0
-  IsEntityAt ordinal e = (entity : Entity) × (slice_get tables.entities e ≡ Some entity) × IsDeclaredBy entity ordinal
+  IsEntityAt ordinal e =
+      (entity : Entity) × (slice_get tables.entities e ≡ Some entity) × IsDeclaredBy entity ordinal
 
   -- the local with the number l
   pub record IsLocalAt (ordinal l : ℕ) (local : Local) : Type 0 where

@@ -1,5 +1,6 @@
--- What the parts of a declaration tell to those around them, layer by layer (C99 6.7.2 to 6.7.6): what specifiers name, which type a declarator makes, and what each
--- adds to the environment. What an expression tells is given: its additions, what constant it is, and whether a sizeof stands in it.
+-- What the parts of a declaration tell to those around them, layer by layer (C99 6.7.2 to 6.7.6): what
+-- specifiers name, which type a declarator makes, and what each adds to the environment. What an expression
+-- tells is given: its additions, what constant it is, and whether a sizeof stands in it.
 use Rattle.std.specs.Prelude.{ℕ, ◌&&◌, ◌||◌, Bool, true, false, Option, Some, None, List, [], ◌∷◌, ◌++◌, length, if◌then◌else◌, ℤ, pos, neg_ℤ, ◌+ℤ◌}
 use Rattle.lk_arith.specs.Kinds.{is_value}
 use Rattle.lk_base.specs.declared.kind.Kind.TheVariants as kind
@@ -18,7 +19,8 @@ use Rattle.lk_typed.specs.Typing.{known_value}
 
 -- ---- what is told
 
--- of one specifier: the storage class, the type word or the other type that it is, a type missing where it is faulty
+-- of one specifier: the storage class, the type word or the other type that it is, a
+-- type missing where it is faulty
 pub record SpecifierTold : Type 0 where
   pub additions : Additions
   pub storages : List Storage
@@ -115,14 +117,16 @@ then_specifier a b =
 -- the specifiers of one list, each in the environment behind those before it
 abbrev pub specifiers : List SpecifierTeller → SpecifierTeller
 specifiers [] env alone = no_specifier
-specifiers (s ∷ ss) env alone = let first = s env alone in then_specifier first (specifiers ss (extend env first.additions) alone)
+specifiers (s ∷ ss) env alone = let first = s env alone in
+    then_specifier first (specifiers ss (extend env first.additions) alone)
 
 abbrev pub type_of_word : Option WordType → Option Ty
 type_of_word None = None
 type_of_word (Some void) = Some Void
 type_of_word (Some (integer k)) = Some (Int k)
 
--- the type that words and other types name together: words in a combination of 6.7.2, or one other type; else None, which is 22
+-- the type that words and other types name together: words in a combination of 6.7.2, or one other
+-- type; else None, which is 22
 abbrev pub named_type : List TypeWord → List (Option Ty) → Option (Option Ty)
 named_type words [] = with_optional None (λ t. Some (Some t)) (type_of_word (type_of_words words))
 named_type [] (t ∷ []) = Some t
@@ -140,7 +144,8 @@ of_type_alone additions t = record no_specifier { additions = additions; types =
 
 abbrev pub tag_additions : Option Name → TagMeaning → Additions
 tag_additions None meaning = nothing
-tag_additions (Some name) meaning = record { declared = []; tags = record { name = name; meaning = meaning } ∷ []; structs = [] }
+tag_additions (Some name) meaning =
+    record { declared = []; tags = record { name = name; meaning = meaning } ∷ []; structs = [] }
 
 abbrev pub steps : List StructStep → Additions
 steps made = record { declared = []; tags = []; structs = made }
@@ -184,14 +189,16 @@ abbrev pub struct_named : Env → TagUse → Name → SpecifierTold
 struct_named env wanted name =
     let found = tag_meant env wanted name in
     let s = meant env found (Some name) in
-    if may_use env found wanted then of_type_alone s.additions (Some (Struct s.number)) else of_type_alone nothing None
+    if may_use env found wanted then of_type_alone s.additions (Some (Struct s.number))
+    else of_type_alone nothing None
 
 abbrev pub struct_use : Bool → TagUse
 struct_use alone = if alone then DeclaresStruct else NamesStruct
 
 -- `enum tag`: int where the enumeration is defined, else 25
 abbrev pub enum_named : Env → Name → SpecifierTold
-enum_named env name = of_type_alone nothing (with_optional None (λ tag. type_if_admitted env NamesEnum (Some tag) int) (look_up_tag env name))
+enum_named env name =
+    of_type_alone nothing (with_optional None (λ tag. type_if_admitted env NamesEnum (Some tag) int) (look_up_tag env name))
 
 -- a typedef name (C99 6.7.7, 3)
 abbrev pub typedef_of : Option Declared → Option Ty
@@ -209,11 +216,17 @@ no_member = record { additions = nothing; fields = []; sound = true; holds_sizeo
 
 abbrev pub then_member : MemberTold → MemberTold → MemberTold
 then_member a b =
-    record { additions = both a.additions b.additions; fields = a.fields ++ b.fields; sound = a.sound && b.sound; holds_sizeof = a.holds_sizeof || b.holds_sizeof }
+    record {
+      additions = both a.additions b.additions;
+      fields = a.fields ++ b.fields;
+      sound = a.sound && b.sound;
+      holds_sizeof = a.holds_sizeof || b.holds_sizeof;
+    }
 
 abbrev pub members_in_turn : List MemberTeller → MemberTeller
 members_in_turn [] env before = no_member
-members_in_turn (m ∷ ms) env before = let first = m env before in then_member first (members_in_turn ms (extend env first.additions) (before ++ first.fields))
+members_in_turn (m ∷ ms) env before = let first = m env before in
+    then_member first (members_in_turn ms (extend env first.additions) (before ++ first.fields))
 
 -- a struct has a named member at least (C99 6.7.2.1, 7): one without counts as faulty
 abbrev pub known_or_faulty : List Field → Members
@@ -225,20 +238,25 @@ members_made told = if told.sound then known_or_faulty told.fields else Faulty
 
 -- the struct that `struct tag {` defines; where that is 21, one that no tag names
 abbrev pub struct_meant_by : Env → Option Name → Meant
-struct_meant_by env tag = let found = tag_found env DefinesStruct tag in if may_use env found DefinesStruct then meant env found tag else known_or_new env None None
+struct_meant_by env tag = let found = tag_found env DefinesStruct tag in
+    if may_use env found DefinesStruct then meant env found tag else known_or_new env None None
 
 -- what stands behind `struct tag {`
 abbrev pub struct_begins : Env → Option Name → Additions
-struct_begins env tag = let s = struct_meant_by env tag in both s.additions (steps (Completes s.number Begun ∷ []))
+struct_begins env tag = let s = struct_meant_by env tag in
+    both s.additions (steps (Completes s.number Begun ∷ []))
 
--- `struct tag { members }`: the struct begins, its members stand in it, and it is complete behind them (C99 6.7.2.3, 4)
+-- `struct tag { members }`: the struct begins, its members stand in it, and it is complete
+-- behind them (C99 6.7.2.3, 4)
 abbrev pub struct_defined : Env → Option Name → List MemberTeller → SpecifierTold
 struct_defined env tag ms =
     let s = struct_meant_by env tag in
     let start = struct_begins env tag in
     let inside = members_in_turn ms (extend env start) [] in
     let whole = both start (both inside.additions (steps (Completes s.number (members_made inside) ∷ []))) in
-    record (of_type_alone whole (type_if_admitted env DefinesStruct (tag_found env DefinesStruct tag) (Struct s.number))) { holds_sizeof = inside.holds_sizeof }
+    record (of_type_alone whole
+    (type_if_admitted env DefinesStruct (tag_found env DefinesStruct tag) (Struct s.number)))
+    { holds_sizeof = inside.holds_sizeof }
 
 -- ---- enumerations (C99 6.7.2.2)
 
@@ -248,12 +266,14 @@ ItemTeller = Env → Option ℤ → ItemTold
 -- the enumerators of a list, each one more than the one before it where no value is written
 abbrev pub items_in_turn : List ItemTeller → Env → Option ℤ → Additions
 items_in_turn [] env before = nothing
-items_in_turn (i ∷ is) env before = let first = i env before in both first.additions (items_in_turn is (extend env first.additions) first.value)
+items_in_turn (i ∷ is) env before = let first = i env before in
+    both first.additions (items_in_turn is (extend env first.additions) first.value)
 
 -- whether a sizeof stands in one of them
 abbrev pub items_hold_sizeof : List ItemTeller → Env → Option ℤ → Bool
 items_hold_sizeof [] env before = false
-items_hold_sizeof (i ∷ is) env before = let first = i env before in first.holds_sizeof || items_hold_sizeof is (extend env first.additions) first.value
+items_hold_sizeof (i ∷ is) env before = let first = i env before in
+    first.holds_sizeof || items_hold_sizeof is (extend env first.additions) first.value
 
 -- what comes before the first enumerator, which is 0
 abbrev pub before_first : Option ℤ
@@ -261,11 +281,14 @@ before_first = Some (neg_ℤ (pos 1))
 
 -- the tag of an enumeration, which a use that is 21 doesn't change
 abbrev pub enum_tag : Env → Option Name → Additions
-enum_tag env tag = if may_use env (tag_found env DefinesEnum tag) DefinesEnum then tag_additions tag AnEnumTag else nothing
+enum_tag env tag =
+    if may_use env (tag_found env DefinesEnum tag) DefinesEnum then tag_additions tag AnEnumTag else nothing
 
 abbrev pub enum_defined : Env → Option Name → List ItemTeller → SpecifierTold
 enum_defined env tag is =
-    let told = of_type_alone (both (items_in_turn is env before_first) (enum_tag env tag)) (type_if_admitted env DefinesEnum (tag_found env DefinesEnum tag) int) in
+    let told =
+    of_type_alone (both (items_in_turn is env before_first) (enum_tag env tag))
+    (type_if_admitted env DefinesEnum (tag_found env DefinesEnum tag) int) in
     record told { holds_sizeof = items_hold_sizeof is env before_first }
 
 -- the value, where int holds it
@@ -285,4 +308,15 @@ enumerator None = AFaultyName
 enumerator (Some z) = AnEnumerator z
 
 abbrev pub declares : Name → ℕ → Meaning → Additions
-declares name n meaning = record { declared = record { name = name; meaning = meaning; linkage = linkage.None; defines = defines.Nothing; ordinal = n } ∷ []; tags = []; structs = [] }
+declares name n meaning =
+    record {
+      declared = record {
+        name = name;
+        meaning = meaning;
+        linkage = linkage.None;
+        defines = defines.Nothing;
+        ordinal = n;
+      } ∷ [];
+      tags = [];
+      structs = [];
+    }

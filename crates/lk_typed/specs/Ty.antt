@@ -1,4 +1,5 @@
--- The types of C as trees (C99 6.2.5), and which tree a number of a table of types stands for. Qualifiers count nowhere, and an enumeration is int.
+-- The types of C as trees (C99 6.2.5), and which tree a number of a table of types stands for. Qualifiers
+-- count nowhere, and an enumeration is int.
 use Rattle.std.specs.Prelude.{ℕ, ◌≡◌, ◌&&◌, ◌||◌, Bool, true, false, Option, Some, None, List, [], ◌∷◌, slice_get, nat_eq, is_some}
 use Rattle.std.specs.Bool.{beq}
 use Rattle.lk_base.specs.declared.kind.Kind.{Kind}
@@ -210,10 +211,12 @@ abbrev mutual
   is_equal_but sizes Mutex b = is_mutex b
   is_equal_but sizes Cond b = is_cond b
   is_equal_but sizes (Pointer t) b = holds_of (target_of b) (λ u. is_equal_but sizes t u)
-  is_equal_but sizes (Array t n) b = holds_of (array_of b) (λ other. is_equal_but sizes t other.0 && sizes n other.1)
+  is_equal_but sizes (Array t n) b =
+      holds_of (array_of b) (λ other. is_equal_but sizes t other.0 && sizes n other.1)
   is_equal_but sizes (Struct s) b = holds_of (struct_of b) (nat_eq s)
   is_equal_but sizes (Function result params dots) b =
-      holds_of (function_of b) (λ other. is_equal_but sizes result other.result && are_equal_but sizes params other.params && beq dots other.dots)
+      holds_of (function_of b)
+      (λ other. is_equal_but sizes result other.result && are_equal_but sizes params other.params && beq dots other.dots)
   is_equal_but sizes (Opaque n) b = holds_of (opaque_of b) (nat_eq n)
 
   pub are_equal_but : (ℕ → ℕ → Bool) → Tys → Tys → Bool
@@ -264,13 +267,17 @@ mutual
     a_thread_id : {t : ℕ} → slice_get types t ≡ Some form.ThreadId → Means types t ThreadId
     a_mutex : {t : ℕ} → slice_get types t ≡ Some form.Mutex → Means types t Mutex
     a_cond : {t : ℕ} → slice_get types t ≡ Some form.Cond → Means types t Cond
-    a_pointer : {t u : ℕ} {target : Ty} → slice_get types t ≡ Some (form.Pointer u) → Means types u target → Means types t (Pointer target)
-    an_array : {t u n : ℕ} {element : Ty} → slice_get types t ≡ Some (form.Array u n) → Means types u element → Means types t (Array element n)
+    a_pointer : {t u : ℕ} {target : Ty} → slice_get types t ≡ Some (form.Pointer u) → Means types u target →
+        Means types t (Pointer target)
+    an_array : {t u n : ℕ} {element : Ty} → slice_get types t ≡ Some (form.Array u n) →
+        Means types u element → Means types t (Array element n)
     a_struct : {t s : ℕ} → slice_get types t ≡ Some (form.Struct s) → Means types t (Struct s)
     a_function : {t r : ℕ} {ps : List ℕ} {dots : Bool} {result : Ty} {params : Tys} →
-        slice_get types t ≡ Some (form.Function r ps dots) → Means types r result → MeanEach types ps params → Means types t (Function result params dots)
+        slice_get types t ≡ Some (form.Function r ps dots) → Means types r result → MeanEach types ps params →
+        Means types t (Function result params dots)
     an_opaque : {t n : ℕ} → slice_get types t ≡ Some (form.Opaque n) → Means types t (Opaque n)
 
   pub data MeanEach (types : List CType) : List ℕ → Tys → Type 0 where
     no_types : MeanEach types [] none
-    a_type_more : {t : ℕ} {ts : List ℕ} {a : Ty} {others : Tys} → Means types t a → MeanEach types ts others → MeanEach types (t ∷ ts) (more a others)
+    a_type_more : {t : ℕ} {ts : List ℕ} {a : Ty} {others : Tys} → Means types t a → MeanEach types ts others →
+        MeanEach types (t ∷ ts) (more a others)

@@ -71,8 +71,10 @@ is_as_often us vs w = nat_eq (count w us) (count w vs)
 -- whether two lists have the same words, each as often
 abbrev pub are_same_words : List TypeWord → List TypeWord → Bool
 are_same_words us vs =
-    is_as_often us vs word.Void && is_as_often us vs word.Char && is_as_often us vs word.Short && is_as_often us vs word.Int &&
-    is_as_often us vs word.Long && is_as_often us vs word.Signed && is_as_often us vs word.Unsigned && is_as_often us vs word.Bool
+    is_as_often us vs word.Void && is_as_often us vs word.Char && is_as_often us vs word.Short
+    && is_as_often us vs word.Int &&
+    is_as_often us vs word.Long && is_as_often us vs word.Signed && is_as_often us vs word.Unsigned
+    && is_as_often us vs word.Bool
 
 abbrev pub find_row : List TypeWord → List Row → Option WordType
 find_row words [] = None

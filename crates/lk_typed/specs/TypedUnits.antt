@@ -1,5 +1,6 @@
--- The typed tree of a source (C99 6.9): what a source without a fault is checked to. It is determined but for the numbers of types, which need only mean the types (`Means`): a table may have types that no
--- node has, in any order behind the predeclared ones.
+-- The typed tree of a source (C99 6.9): what a source without a fault is checked to. It is determined but for
+-- the numbers of types, which need only mean the types (`Means`): a table may have types that no node has, in
+-- any order behind the predeclared ones.
 use Rattle.std.specs.Prelude.{ℕ, ◌≡◌, ◌<◌, true, false, Some, List, [], ◌∷◌, slice_get}
 use Rattle.lk_tree.specs.declared.declaration.Declare.{Declare}
 use Rattle.lk_tree.specs.declared.declaration.Init.{Init}
@@ -49,7 +50,8 @@ module _ (externs : List Name) (unit : Unit) where
 
     -- the environment behind the specifiers of a definition, and that of its body
     abbrev inside : Env → Definition → Env
-    inside env node = let told = specifiers_found node.specifiers env false in in_body told (extend env told.additions) node
+    inside env node = let told = specifiers_found node.specifiers env false in
+        in_body told (extend env told.additions) node
 
     pub record IsBody (env : Env) (definition : Definition) (body : Body) : Type 0 where
       pub spot : body.spot ≡ definition.spot
@@ -60,16 +62,20 @@ module _ (externs : List Name) (unit : Unit) where
       pub locals : AreLocals externs unit types env definition body.parameters body.locals
       pub items : List TypedItem
       pub are_items : AreItems (tables_in body.locals)
-          (items_in_turn (in_function (labels definition.body)) (inside env definition) (body_items (out-StmtForm definition.body.form))) items
+          (items_in_turn (in_function (labels definition.body)) (inside env definition)
+          (body_items (out-StmtForm definition.body.form))) items
       pub block : MakesStmt definition.body (TypedStmtForm-F.Block items) body.block
 
     -- the definitions among external declarations, in their order
     pub data AreBodies : List Placed → List Body → Type 0 where
       no_more : AreBodies [] []
-      definition : {env : Env} {node : Definition} {others : List Placed} {body : Body} {bodies : List Body} → IsBody env node body → AreBodies others bodies →
+      definition : {env : Env} {node : Definition} {others : List Placed} {body : Body} {bodies : List Body} →
+          IsBody env node body → AreBodies others bodies →
           AreBodies (at env (AnExternal (decl.Function node)) ∷ others) (body ∷ bodies)
-      declaration : {env : Env} {node : Declare} {others : List Placed} {bodies : List Body} → AreBodies others bodies → AreBodies (at env (AnExternal (decl.Declare node)) ∷ others) bodies
-      empty : {env : Env} {node : Empty} {others : List Placed} {bodies : List Body} → AreBodies others bodies → AreBodies (at env (AnExternal (decl.Empty node)) ∷ others) bodies
+      declaration : {env : Env} {node : Declare} {others : List Placed} {bodies : List Body} →
+          AreBodies others bodies → AreBodies (at env (AnExternal (decl.Declare node)) ∷ others) bodies
+      empty : {env : Env} {node : Empty} {others : List Placed} {bodies : List Body} →
+          AreBodies others bodies → AreBodies (at env (AnExternal (decl.Empty node)) ∷ others) bodies
 
     -- ---- objects of static storage with an initialiser (C99 6.7.8, 6.9.2, 1)
 
@@ -89,7 +95,8 @@ module _ (externs : List Name) (unit : Unit) where
       pub behind : Env
       pub object : Object
       pub init : Init
-      pub is_given : initialiser_part scope (specifiers_of env node) env' d ≡ at behind (AnInitialiser (Some object) init) ∷ []
+      pub is_given : initialiser_part scope (specifiers_of env node) env' d
+          ≡ at behind (AnInitialiser (Some object) init) ∷ []
 
     pub record IsStaticObject (given : StaticObject) : Type 0 where
       pub of : IsGivenObject given.ordinal
@@ -102,8 +109,10 @@ module _ (externs : List Name) (unit : Unit) where
     -- all of them, in the order of the text
     pub record AreObjects (objects : List StaticObject) : Type 0 where
       pub each : (o : ℕ) (object : StaticObject) → slice_get objects o ≡ Some object → IsStaticObject object
-      pub all : (ordinal : ℕ) → IsGivenObject ordinal → (o : ℕ) × (object : StaticObject) × (slice_get objects o ≡ Some object) × (object.ordinal ≡ ordinal)
-      pub rise : (o p : ℕ) (a b : StaticObject) → o < p → slice_get objects o ≡ Some a → slice_get objects p ≡ Some b → a.ordinal < b.ordinal
+      pub all : (ordinal : ℕ) → IsGivenObject ordinal →
+          (o : ℕ) × (object : StaticObject) × (slice_get objects o ≡ Some object) × (object.ordinal ≡ ordinal)
+      pub rise : (o p : ℕ) (a b : StaticObject) → o < p → slice_get objects o ≡ Some a →
+          slice_get objects p ≡ Some b → a.ordinal < b.ordinal
 
   -- ---- types: the table has those of all nodes, and no list of the parts of void yet
 

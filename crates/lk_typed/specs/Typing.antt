@@ -15,12 +15,14 @@ known_value NotConstant = None
 known_value Undefined = None
 known_value (Known z) = Some z
 
--- what has static storage: the object that the declaration at a node declares, or the text at a node (C99 6.2.4, 3; 6.4.5, 5)
+-- what has static storage: the object that the declaration at a node declares, or the text at a
+-- node (C99 6.2.4, 3; 6.4.5, 5)
 pub data Anchor : Type 0 where
   AtObject : ℕ → Anchor
   AtText : ℕ → Anchor
 
--- a place in it: an element of an array, or one past the last; what is no element counts as an array of one (C99 6.5.6, 7)
+-- a place in it: an element of an array, or one past the last; what is no element counts as
+-- an array of one (C99 6.5.6, 7)
 pub record Position : Type 0 where
   pub anchor : Anchor
   -- the steps to the array, or to what is no element
@@ -51,11 +53,13 @@ pub record Typing : Type 0 where
 
 -- a value of this type that is no constant
 abbrev pub value_of_type : Ty → Typing
-value_of_type t = record { type = t; is_place = false; constant = NotConstant; is_null = false; address = NotAddress }
+value_of_type t =
+    record { type = t; is_place = false; constant = NotConstant; is_null = false; address = NotAddress }
 
 -- a place of this type
 abbrev pub place_of_type : Ty → Address → Typing
-place_of_type t address = record { type = t; is_place = true; constant = NotConstant; is_null = false; address = address }
+place_of_type t address =
+    record { type = t; is_place = true; constant = NotConstant; is_null = false; address = address }
 
 -- an integer constant expression of value 0 is a null pointer constant (C99 6.3.2.3, 3)
 abbrev pub is_null_value : Constant → Bool
@@ -65,9 +69,11 @@ is_null_value (Known a) = is_zero a
 
 -- a value of an integer kind, and what constant it is
 abbrev pub integer : Kind → Constant → Typing
-integer k c = record { type = Int k; is_place = false; constant = c; is_null = is_null_value c; address = NotAddress }
+integer k c =
+    record { type = Int k; is_place = false; constant = c; is_null = is_null_value c; address = NotAddress }
 
--- what an operand, an argument or a right side is turned into where it stands: an array into a pointer to its first element, a function into a pointer to it (C99 6.3.2.1, 3 and 4)
+-- what an operand, an argument or a right side is turned into where it stands: an array into a pointer to its
+-- first element, a function into a pointer to it (C99 6.3.2.1, 3 and 4)
 abbrev pub decayed : Ty → Ty
 decayed Void = Void
 decayed (Int k) = Int k
@@ -97,9 +103,11 @@ pub record Look : Type 0 where
   pub holds_sizeof : Bool
 
 abbrev pub plain_look : Bool → Look
-plain_look holds = record { word = None; routine = None; text = None; is_sizeof = false; is_product = false; holds_sizeof = holds }
+plain_look holds =
+    record { word = None; routine = None; text = None; is_sizeof = false; is_product = false; holds_sizeof = holds }
 
--- what is found of an expression in an environment: its typing, where it has one, how it is written, and what it adds
+-- what is found of an expression in an environment: its typing, where it has one, how it
+-- is written, and what it adds
 pub record Judged : Type 0 where
   pub typing : Option Typing
   pub look : Look

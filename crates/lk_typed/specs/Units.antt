@@ -58,11 +58,13 @@ module _ (externs : List Name) (unit : Unit) where
   -- a node stands in the source, in this environment
   pub data IsNode : Env → Node → Type 0 where
     node_of : {env : Env} {node : Node} (external : Placed) → IsIn external externals →
-        stands.Stands (parts at_end) (breaches at_end) (hiding at_end) mark_of external.env external.node env node → IsNode env node
+        stands.Stands (parts at_end) (breaches at_end) (hiding at_end) mark_of external.env external.node env
+        node → IsNode env node
 
   -- a fault of the source: a code that holds at a node of it
   pub data IsFaultOf : Fault → Type 0 where
-    fault_of : {env : Env} {node : Node} {broken : Breach} → IsNode env node → stands.Holds (parts at_end) (breaches at_end) (hiding at_end) mark_of env node broken →
+    fault_of : {env : Env} {node : Node} {broken : Breach} → IsNode env node →
+        stands.Holds (parts at_end) (breaches at_end) (hiding at_end) mark_of env node broken →
         IsFaultOf (stands.fault_at (mark_of node) broken)
 
   -- the answer of the checker where it refuses: the least fault

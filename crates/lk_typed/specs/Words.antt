@@ -60,7 +60,8 @@ begins_with (byte ∷ bytes) [] = false
 begins_with (byte ∷ bytes) (first ∷ others) = nat_eq byte first && begins_with bytes others
 
 abbrev pub is_refused_by : RefusedName → Name → Bool
-is_refused_by refused name = if refused.is_beginning then begins_with refused.word name else is_name refused.word name
+is_refused_by refused name =
+    if refused.is_beginning then begins_with refused.word name else is_name refused.word name
 
 abbrev pub codes_in : List RefusedName → Name → List Code
 codes_in [] name = []
@@ -78,11 +79,15 @@ is_main = is_name (codes "main")
 abbrev pub is_library : Name → Bool
 is_library name = is_some (library_function name)
 
--- a function that --externs names and the source doesn't define; a library function and main stay what they are
+-- a function that --externs names and the source doesn't define; a library
+-- function and main stay what they are
 abbrev pub is_extern : Env → Name → Bool
-is_extern env name = is_one_of env.outside.externs name && not (is_one_of env.outside.defined name) && not (is_library name) && not (is_main name)
+is_extern env name =
+    is_one_of env.outside.externs name && not (is_one_of env.outside.defined name) && not (is_library name)
+    && not (is_main name)
 
--- a library or extern function's name stands only as the function of a call; as a start routine it is a fault of that call
+-- a library or extern function's name stands only as the function of a call; as a start
+-- routine it is a fault of that call
 abbrev pub may_be_library : Role → Bool
 may_be_library AsOperand = false
 may_be_library (ConvertedTo t) = false
@@ -103,7 +108,8 @@ function_codes env name t =
 -- ---- names as expressions
 
 abbrev pub function_named : Ty → ℕ → Typing
-function_named t n = record { type = t; is_place = false; constant = NotConstant; is_null = false; address = FunctionAddress n }
+function_named t n =
+    record { type = t; is_place = false; constant = NotConstant; is_null = false; address = FunctionAddress n }
 
 -- what has static storage is alone in its array (C99 6.5.6, 7)
 abbrev pub whole_of : Anchor → Address
@@ -117,10 +123,13 @@ abbrev pub silent_unless : List Code → Verdict
 silent_unless [] = Silent
 silent_unless (code ∷ others) = Broken (code ∷ others)
 
--- an object is a place, a function isn't, an enumerator is a constant; a typedef name and an initialiser word are no expressions
+-- an object is a place, a function isn't, an enumerator is a constant; a typedef name and an
+-- initialiser word are no expressions
 abbrev pub use_of : Env → Name → ℕ → Meaning → Verdict
-use_of env name n (AnObject t is_static) = unless (refused_codes env name) (place_of_type t (address_of_storage is_static n))
-use_of env name n (AFunction t) = unless (refused_codes env name ++ function_codes env name t) (function_named t n)
+use_of env name n (AnObject t is_static) =
+    unless (refused_codes env name) (place_of_type t (address_of_storage is_static n))
+use_of env name n (AFunction t) =
+    unless (refused_codes env name ++ function_codes env name t) (function_named t n)
 use_of env name n (ATypedef t) = Broken (Mismatch ∷ refused_codes env name)
 use_of env name n (AnEnumerator z) = unless (refused_codes env name) (integer kind.Int (Known z))
 use_of env name n (AnInitialiserWord t) = Broken (Mismatch ∷ refused_codes env name)
@@ -134,7 +143,8 @@ abbrev pub word_rule : Env → Name → Verdict
 word_rule env name = use_of_declared env name (look_up env name)
 
 abbrev is_told_with_name : ℕ → Bool
-is_told_with_name number = nat_eq number 20 || nat_eq number 36 || nat_eq number 37 || nat_eq number 38 || nat_eq number 43
+is_told_with_name number =
+    nat_eq number 20 || nat_eq number 36 || nat_eq number 37 || nat_eq number 38 || nat_eq number 43
 
 -- the name that a refusal at a word tells: with 20, 36, 37, 38 and 43 the word, else none
 abbrev pub told_name : Code → Name → Name

@@ -27,7 +27,8 @@ pub fn lesser(a: Option<Code>, b: Option<Code>) -> Option<Code>
     }
 }
 
-/// The code of an operand: 45 for a mutex or condition variable, which are no values; else 22 where its type isn't taken.
+/// The code of an operand: 45 for a mutex or condition variable, which are no values;
+/// else 22 where its type isn't taken.
 pub fn operand_code(is_lock: bool, is_taken: bool) -> Option<Code>
     ensures { result ≡ spec.operand_code is_lock is_taken }
 {
@@ -40,7 +41,8 @@ pub fn operand_code(is_lock: bool, is_taken: bool) -> Option<Code>
     }
 }
 
-/// The verdict of the codes so far and the row of a table, which has no result for operands that it doesn't take.
+/// The verdict of the codes so far and the row of a table, which has no result for
+/// operands that it doesn't take.
 pub fn by_row(code: Option<Code>, row: Option<Typed>) -> Verdict
     ensures { result ≡ told_by_row code row }
 {

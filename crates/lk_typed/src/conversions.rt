@@ -98,8 +98,8 @@ pub fn are_void_and_object(types: &TypeTable, a: &ExprType, b: &ExprType) -> boo
         || is_void_pointer(types, b) && is_object_pointer(types, a)
 }
 
-/// Whether C and the profile have the conversion: integers (C99 6.3.1), a pointer to `_Bool` (6.3.1.2), a null pointer
-/// constant (6.3.2.3, 3), equal pointers, `void *` (6.3.2.3, 1), thread ids.
+/// Whether C and the profile have the conversion: integers (C99 6.3.1), a pointer to `_Bool` (6.3.1.2), a
+/// null pointer constant (6.3.2.3, 3), equal pointers, `void *` (6.3.2.3, 1), thread ids.
 fn converts(types: &TypeTable, target: &ExprType, v: &Typed) -> bool
     requires target { IsKnownType types.now target.now }
     requires value { IsOperand types.now v.now }
@@ -113,8 +113,8 @@ fn converts(types: &TypeTable, target: &ExprType, v: &Typed) -> bool
         || is_thread_id(types, target) && is_thread_id(types, &v.ty)
 }
 
-/// Whether it is a conversion between an integer kind, as a target other than `_Bool`, and a pointer; other than from a
-/// null pointer constant (C99 6.3.2.3, 5 and 6).
+/// Whether it is a conversion between an integer kind, as a target other than `_Bool`, and a pointer; other
+/// than from a null pointer constant (C99 6.3.2.3, 5 and 6).
 fn is_integer_and_pointer(types: &TypeTable, target: &ExprType, v: &Typed) -> bool
     requires target { IsKnownType types.now target.now }
     requires value { IsOperand types.now v.now }
@@ -149,8 +149,8 @@ fn is_function_pointer_alone(types: &TypeTable, a: &ExprType, b: &ExprType) -> b
     (is_function_pointer(types, a) || is_function_pointer(types, b)) && !are_same(types, a, b)
 }
 
-/// Whether it is a conversion between different pointers, or between a function pointer and anything but its own type
-/// (C99 6.3.2.3, 7 and 8).
+/// Whether it is a conversion between different pointers, or between a function pointer and anything but its
+/// own type (C99 6.3.2.3, 7 and 8).
 fn are_different_pointers(types: &TypeTable, target: &ExprType, ty: &ExprType) -> bool
     requires target { IsKnownType types.now target.now }
     requires value { IsKnownType types.now ty.now }
@@ -198,8 +198,8 @@ fn named_code(
     }
 }
 
-/// The least code that a conversion breaks by assignment, argument, result or initialiser; nothing where there is such a
-/// conversion.
+/// The least code that a conversion breaks by assignment, argument, result or initialiser; nothing
+/// where there is such a conversion.
 pub fn convert_code(types: &TypeTable, target: &ExprType, v: &Typed) -> Option<Code>
     requires target { IsKnownType types.now target.now }
     requires value { IsOperand types.now v.now }
@@ -215,8 +215,8 @@ pub fn convert_code(types: &TypeTable, target: &ExprType, v: &Typed) -> Option<C
     code_unless(exists, named)
 }
 
-/// The least code that a cast breaks. It may also drop its value, but a mutex and a condition variable are no values
-/// (C99 6.3.2.2, 6.5.4, 2).
+/// The least code that a cast breaks. It may also drop its value, but a mutex and a condition variable are no
+/// values (C99 6.3.2.2, 6.5.4, 2).
 pub fn cast_code(types: &TypeTable, target: &ExprType, v: &Typed) -> Option<Code>
     requires target { IsKnownType types.now target.now }
     requires value { IsOperand types.now v.now }

@@ -60,8 +60,8 @@ pub struct Entity {
     pub name: Name,
     pub linkage: Linkage,
     pub kind: EntityKind,
-    /// The composite of the types that its declarations give: an array has its size where one of them gives it
-    /// (C99 6.2.7).
+    /// The composite of the types that its declarations give: an array has its size where one
+    /// of them gives it (C99 6.2.7).
     pub ty: TypeId,
     /// Its declarations, in the order of the text. There is one at least.
     pub declarations: Seq<Declaration>,

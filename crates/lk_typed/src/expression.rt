@@ -1,7 +1,7 @@
 //! Expressions with their types.
 //!
-//! A node has the place and the number of the node of the syntax tree that it comes from. A conversion that is
-//! written out has those of the expression that it converts.
+//! A node has the place and the number of the node of the syntax tree that it comes from. A conversion that
+//! is written out has those of the expression that it converts.
 
 use crate::library::LibraryCall;
 use lk_arith::{Op, UnaryOp};
@@ -15,7 +15,8 @@ use lk_types::TypeId;
 pub struct TypedExpr {
     pub spot: Spot,
     pub ordinal: u32,
-    /// The type of its value, or of the place that it names. Where it names a function, that of the pointer to it.
+    /// The type of its value, or of the place that it names. Where it names a
+    /// function, that of the pointer to it.
     pub ty: TypeId,
     pub form: TypedForm,
 }

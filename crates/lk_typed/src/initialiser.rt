@@ -1,5 +1,5 @@
-//! Initialisers, part by part (C99 6.7.8): the scalar parts of an object that its initialiser names, in the order of
-//! the entries, each with its value.
+//! Initialisers, part by part (C99 6.7.8): the scalar parts of an object that its initialiser names, in the
+//! order of the entries, each with its value.
 
 use crate::expression::TypedExpr;
 use lk_base::{CellStep, Seq, Spot};
@@ -10,14 +10,15 @@ use lk_types::TypeId;
 pub enum LocalValue {
     /// The value of an expression, converted to the part's type.
     Expr(TypedExpr),
-    /// The bytes of a string literal that initialises an array from its first element on, the zero at its end too
-    /// where the array has room for it: the literal's place and node, and the bytes.
+    /// The bytes of a string literal that initialises an array from its first element on, the zero at its end
+    /// too where the array has room for it: the literal's place and node, and the bytes.
     Text(Spot, u32, Seq<u8>),
     /// `PTHREAD_MUTEX_INITIALIZER` or `PTHREAD_COND_INITIALIZER`.
     Ready,
 }
 
-/// A part of a local object that its initialiser names: a scalar part, or an array that a string literal initialises.
+/// A part of a local object that its initialiser names: a scalar part, or an array that
+/// a string literal initialises.
 #[derive(Drop)]
 pub struct LocalPart {
     /// The steps from the object to the part.
@@ -27,13 +28,14 @@ pub struct LocalPart {
     pub value: LocalValue,
 }
 
-/// Cells of a local object that its initialiser doesn't name, though it names others (C99 6.7.8, 21): those that differ
-/// in indices alone.
+/// Cells of a local object that its initialiser doesn't name, though it names others (C99 6.7.8, 21): those
+/// that differ in indices alone.
 #[derive(Drop)]
 pub struct AbsentCells {
     /// The steps from the object to the first of them.
     pub first: Seq<CellStep>,
-    /// The steps to each cell that differs from them in indices alone and that the initialiser names, in its order.
+    /// The steps to each cell that differs from them in indices alone and that the
+    /// initialiser names, in its order.
     pub named: Seq<Seq<CellStep>>,
 }
 
@@ -46,11 +48,11 @@ pub enum StaticValue {
     Null,
     /// A pointer to the function with this number among the unit's entities.
     Function(u32),
-    /// A pointer into an object of static storage: its number among the unit's entities, the steps to the part, and
-    /// whether it points one past that part.
+    /// A pointer into an object of static storage: its number among the unit's entities, the steps to the
+    /// part, and whether it points one past that part.
     Address(u32, Seq<CellStep>, bool),
-    /// A pointer into a string literal: the number of the literal's node, the steps to the part (none for the literal
-    /// as a whole), and whether it points one past that part.
+    /// A pointer into a string literal: the number of the literal's node, the steps to the part (none for the
+    /// literal as a whole), and whether it points one past that part.
     Text(u32, Seq<CellStep>, bool),
     /// `PTHREAD_MUTEX_INITIALIZER` or `PTHREAD_COND_INITIALIZER`.
     Ready,

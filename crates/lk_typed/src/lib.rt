@@ -1,6 +1,7 @@
-//! The tree of a checked source: a type at each expression, each conversion written out, each name resolved. Beside it
-//! stand the words in which the rules of C are put, and what every rule asks of types: what a number of the table means,
-//! what is known of an expression, how a value converts, and the code that is told.
+//! The tree of a checked source: a type at each expression, each conversion written out, each name
+//! resolved. Beside it stand the words in which the rules of C are put, and what every rule asks
+//! of types: what a number of the table means, what is known of an expression, how a value
+//! converts, and the code that is told.
 //!
 //! Trees are plain values: a contract compares two of them by `≡`.
 #![tactic(auto)]

@@ -8,8 +8,8 @@ use lk_types::TypeId;
 #[cycle(typed)]
 #[derive(Drop)]
 pub enum LibraryCall {
-    /// `pthread_create`: where the id goes, the number of the start routine among the unit's entities, and what it
-    /// is given.
+    /// `pthread_create`: where the id goes, the number of the start routine among the unit's
+    /// entities, and what it is given.
     Create(Boxed<TypedExpr>, u32, Boxed<TypedExpr>),
     /// `pthread_join`
     Join(Boxed<TypedExpr>),
@@ -33,8 +33,8 @@ pub enum LibraryCall {
     Signal(Boxed<TypedExpr>),
     /// `pthread_cond_wait`: the condition variable and the mutex.
     Wait(Boxed<TypedExpr>, Boxed<TypedExpr>),
-    /// `malloc` or `calloc`: the type of an element, how many there are (nothing for one object that is no array),
-    /// and whether the object begins as zero.
+    /// `malloc` or `calloc`: the type of an element, how many there are (nothing for one object that is no
+    /// array), and whether the object begins as zero.
     Allocate(TypeId, Option<Boxed<TypedExpr>>, bool),
     /// `free`
     Free(Boxed<TypedExpr>),

@@ -38,8 +38,8 @@ pub enum TypedStmtForm {
     Do(Option<TypedExpr>),
     /// `if (condition) statement else statement`, perhaps without the second.
     If(TypedExpr, Boxed<TypedStmt>, Option<Boxed<TypedStmt>>),
-    /// `switch (value) statement`: the value, promoted, the cases in the order of the text, and the number of the
-    /// `Default` node.
+    /// `switch (value) statement`: the value, promoted, the cases in the order of the text, and the
+    /// number of the `Default` node.
     Switch(TypedExpr, Seq<SwitchCase>, Option<u32>, Boxed<TypedStmt>),
     /// `while (condition) statement`
     While(TypedExpr, Boxed<TypedStmt>),

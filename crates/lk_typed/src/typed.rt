@@ -44,7 +44,8 @@ impl Typed {
         }
     }
 
-    /// A value of an integer kind, and what constant it is. One of value 0 is a null pointer constant (C99 6.3.2.3, 3).
+    /// A value of an integer kind, and what constant it is. One of value 0 is a null
+    /// pointer constant (C99 6.3.2.3, 3).
     pub fn integer(kind: Kind, constant: Constant) -> Typed
         ensures { (table : Table) → IsReady table → IsTyping table result (spec.integer kind constant) }
     {

@@ -50,7 +50,8 @@ pub struct TypedUnit {
     pub types: TypeTable,
     /// The structs of `types` by their numbers.
     pub structs: Seq<StructTag>,
-    /// The functions and objects of static storage that the source declares, in the order of their first declarations.
+    /// The functions and objects of static storage that the source declares, in the order
+    /// of their first declarations.
     pub entities: Seq<Entity>,
     /// The objects of static storage that have an initialiser, in the order of the text.
     pub objects: Seq<StaticObject>,

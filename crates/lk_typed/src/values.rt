@@ -15,8 +15,8 @@ fn read(types: &TypeTable, e: &Typed) -> Typed
     if e.is_place { Typed::of_type(e.ty) } else { *e }
 }
 
-/// The value of an expression: an array gives the pointer to its first element, a function the pointer to it, and any
-/// other place what it holds.
+/// The value of an expression: an array gives the pointer to its first element, a function the pointer to it,
+/// and any other place what it holds.
 pub fn value(types: &TypeTable, e: &Typed) -> Typed
     requires { IsOperand types.now e.now }
     ensures operand { IsOperand types.now result }

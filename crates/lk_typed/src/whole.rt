@@ -24,8 +24,8 @@ impl Drop for Linked {
     }
 }
 
-/// A function or an object of static storage of the program: one for each name of external linkage, and one of each
-/// source for each other (C99 6.2.2).
+/// A function or an object of static storage of the program: one for each name of external linkage, and one
+/// of each source for each other (C99 6.2.2).
 #[derive(Drop)]
 pub struct WholeEntity {
     pub name: Name,

@@ -58,7 +58,8 @@ types_of members = map (λ member. member.ty) members
 -- the members of each struct are parts of objects, and no complete struct is over the bounds of a table
 pub record HasSizedStructs (table : Table) : Type 0 where
   pub parts : (s : ℕ) → s < length table.members → All (IsPartOfObjects table) (types_of (members_of table s))
-  pub small : (s : ℕ) → s < length table.members → is_over (fields_size table (types_of (members_of table s))) ≡ false
+  pub small : (s : ℕ) → s < length table.members →
+      is_over (fields_size table (types_of (members_of table s))) ≡ false
 
 -- members that may complete a struct, which has none yet
 pub record CanComplete (table : Table) (s : ℕ) (given : List StructMember) : Type 0 where
@@ -104,7 +105,8 @@ IsMadeOf table t (Struct s) = (s < length table.members) × All (IsKnown table) 
 IsMadeOf table t (Function result params dots) = All (λ u. u < t) (result ∷ params)
 IsMadeOf table t (Opaque n) = ⊤
 
--- a type of the table: what it is made of is there, its form could be put, what it holds by value is no incomplete struct, and it is within the bounds of a table
+-- a type of the table: what it is made of is there, its form could be put, what it holds by value is no
+-- incomplete struct, and it is within the bounds of a table
 pub record IsType (table : Table) (t : ℕ) : Type 0 where
   pub made_of : IsMadeOf table t (type_at table t)
   pub form : IsForm table (type_at table t)
@@ -114,17 +116,21 @@ pub record IsType (table : Table) (t : ℕ) : Type 0 where
 -- what holds in each table
 pub record IsTable (table : Table) : Type 0 where
   pub types : (t : ℕ) → IsKnown table t → IsType table t
-  pub different : (t u : ℕ) (form : CType) → slice_get table.types t ≡ Some form → slice_get table.types u ≡ Some form → t ≡ u
+  pub different : (t u : ℕ) (form : CType) → slice_get table.types t ≡ Some form →
+      slice_get table.types u ≡ Some form → t ≡ u
   pub leasts : length table.least ≡ length table.types
   pub least : (t : ℕ) → IsKnown table t → IsLeast table t (least_of table t)
-  pub alike : (t u : ℕ) → IsKnown table t → IsKnown table u → IsAlike table.types t u ↔ (least_of table t ≡ least_of table u)
+  pub alike : (t u : ℕ) → IsKnown table t → IsKnown table u →
+      IsAlike table.types t u ↔ (least_of table t ≡ least_of table u)
 
 -- a form was put: it was there, or is there now as the last type
 pub data IsPut (old new : Table) (form : CType) (t : ℕ) : Type 0 where
   found : slice_get old.types t ≡ Some form → new ≡ old → IsPut old new form t
-  added : ((u : ℕ) → slice_get old.types u ≡ Some form → ⊥) → t ≡ length old.types → IsAdded old new form → IsPut old new form t
+  added : ((u : ℕ) → slice_get old.types u ≡ Some form → ⊥) → t ≡ length old.types → IsAdded old new form →
+      IsPut old new form t
 
--- a type that may be a Part of void: it is known, isn't void, and is the least of those that are equal to it but for the sizes of arrays
+-- a type that may be a Part of void: it is known, isn't void, and is the least of those that are equal to
+-- it but for the sizes of arrays
 pub record IsPart (table : Table) (t : ℕ) : Type 0 where
   pub known : IsKnown table t
   pub no_void : is_void (type_at table t) ≡ false

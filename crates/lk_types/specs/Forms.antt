@@ -13,4 +13,5 @@ module _ {V : Type 0} where
 
   -- no form stands at two places
   abbrev pub AreApart : List (CType × V) → Type 0
-  AreApart entries = (form : CType) (i j : ℕ) (kept other : V) → slice_get entries i ≡ Some (form, kept) → slice_get entries j ≡ Some (form, other) → i ≡ j
+  AreApart entries = (form : CType) (i j : ℕ) (kept other : V) → slice_get entries i ≡ Some (form, kept) →
+      slice_get entries j ≡ Some (form, other) → i ≡ j

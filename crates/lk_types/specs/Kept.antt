@@ -28,7 +28,8 @@ size_by structs fact (Some s) = option_map (λ entry. entry.size) (slice_get str
 abbrev pub kept_size : List StructEntry → CType → TypeFacts → Option TypeSize
 kept_size structs form fact = size_by structs fact (struct_of form)
 
--- the form with the least of those that are equal but for the sizes of arrays in the place of each type, and without a size
+-- the form with the least of those that are equal but for the sizes of arrays in the place of
+-- each type, and without a size
 abbrev pub key_form : (ℕ → ℕ) → CType → CType
 key_form least Void = Void
 key_form least (Int kind) = Int kind
@@ -55,19 +56,23 @@ pub record IsSized (table : Table) (entry : StructEntry) : Type 0 where
   pub parts : All (IsPartOfObjects table) (types_of entry.members)
 
 -- what is kept tells what holds of the table
-pub record AreKept (types : List (CType × TypeFacts)) (classes : List (CType × ℕ)) (structs : List StructEntry) (table : Table) : Type 0 where
+pub record AreKept (types : List (CType × TypeFacts)) (classes : List (CType × ℕ))
+    (structs : List StructEntry) (table : Table) : Type 0 where
   pub table_is : IsTable table
   pub few_types : length types ≤ 4294967295
   pub few_structs : length structs ≤ 4294967295
   pub parts_are : ArePartsOf table table.parts
   -- of each type
-  pub holding : (t : ℕ) (form : CType) (fact : TypeFacts) → slice_get types t ≡ Some (form, fact) → fact.holds_struct ≡ holds_struct table t
-  pub sized : (t : ℕ) (form : CType) (fact : TypeFacts) → slice_get types t ≡ Some (form, fact) → kept_size structs form fact ≡ Some (size_at table t)
+  pub holding : (t : ℕ) (form : CType) (fact : TypeFacts) → slice_get types t ≡ Some (form, fact) →
+      fact.holds_struct ≡ holds_struct table t
+  pub sized : (t : ℕ) (form : CType) (fact : TypeFacts) → slice_get types t ≡ Some (form, fact) →
+      kept_size structs form fact ≡ Some (size_at table t)
   -- of each struct
   pub structs_sized : (s : ℕ) (entry : StructEntry) → slice_get structs s ≡ Some entry → IsSized table entry
   -- of each type its key, with the least type that has it
   pub keyed : (t : ℕ) → IsKnown table t → HasKey classes (key_of table t) (least_of table t)
-  pub keys : (place : ℕ) (key : CType) (t : ℕ) → slice_get classes place ≡ Some (key, t) → IsKnown table t × (key_of table t ≡ key)
+  pub keys : (place : ℕ) (key : CType) (t : ℕ) → slice_get classes place ≡ Some (key, t) →
+      IsKnown table t × (key_of table t ≡ key)
   pub lesser : (t : ℕ) → IsKnown table t → least_of table t ≤ t
   -- of arrays and structs how they came
   pub ordered : IsOrdered table

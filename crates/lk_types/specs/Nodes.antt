@@ -76,7 +76,9 @@ field_of table form k = option_map (field k) (slice_get (fields_of table form) k
 
 -- the node to which a part leads
 abbrev pub along : Node → Branch → Node
-along node b = if b.tag then first (Tag b.type) else record { base = node.base; path = node.path ++ b.sel ∷ []; type = b.type }
+along node b =
+    if b.tag then first (Tag b.type)
+    else record { base = node.base; path = node.path ++ b.sel ∷ []; type = b.type }
 
 -- whether a node is the Tag of void
 abbrev pub is_void_tag : Table → Base → Bool
@@ -89,7 +91,8 @@ has_part table t = list_any (λ u. u == least_of table t) table.parts
 
 -- the Tag to which a Part leads, where a walk begins at the Tag of void
 abbrev pub part_of_void : Table → Base → ℕ → Option Node
-part_of_void table base t = if is_void_tag table base && has_part table t then Some (first (Tag (least_of table t))) else None
+part_of_void table base t =
+    if is_void_tag table base && has_part table t then Some (first (Tag (least_of table t))) else None
 
 -- the path goes into no array
 abbrev pub HasNoElement : List Sel → Type 0

@@ -1,4 +1,5 @@
--- The order in which the types of a table came: what an array holds by value stands before it, member by member.
+-- The order in which the types of a table came: what an array holds by value stands
+-- before it, member by member.
 use Rattle.std.specs.Prelude.{ℕ, ◌≡◌, ◌<◌, ◌≤◌, false, All, Some, length, slice_get}
 use Rattle.lk_types.specs.Building.{types_of}
 use Rattle.lk_types.specs.Table.{Table, is_open, members_of}
@@ -12,7 +13,8 @@ IsDoneBy table done count u = (s : ℕ) → slice_get table.types u ≡ Some (St
 pub record AreDone (table : Table) (done : ℕ → ℕ) : Type 0 where
   pub few : (s : ℕ) → is_open table s ≡ false → done s ≤ length table.types
   pub members : (s : ℕ) → is_open table s ≡ false → All (λ u. u < done s) (types_of (members_of table s))
-  pub inside : (s : ℕ) → is_open table s ≡ false → All (IsDoneBy table done (done s)) (types_of (members_of table s))
+  pub inside : (s : ℕ) → is_open table s ≡ false →
+      All (IsDoneBy table done (done s)) (types_of (members_of table s))
 
 -- an array of structs came when they were complete
 pub record IsOrdered (table : Table) : Type 0 where

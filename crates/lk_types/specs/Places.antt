@@ -55,7 +55,9 @@ step_inside table node sel = option_map (along node) (branch_of table (type_at t
 
 -- a way leads to the part of a step: to a Tag, or to the entry so many after the next one
 abbrev pub IsWay : Table → ℕ → Sel → Way → Type 0
-IsWay table t sel (ToTag u) = (branch_of table (type_at table t) sel ≡ Some (record { sel = sel; type = u; tag = true })) × IsBase table (Tag u)
+IsWay table t sel (ToTag u) =
+    (branch_of table (type_at table t) sel ≡ Some (record { sel = sel; type = u; tag = true }))
+    × IsBase table (Tag u)
 IsWay table t sel (Inside place) =
     (u : ℕ) × (branch_of table (type_at table t) sel ≡ Some (record { sel = sel; type = u; tag = false })) ×
     (entry_at table t (suc place) ≡ Some (record { path = sel ∷ []; type = u; tag = false }))

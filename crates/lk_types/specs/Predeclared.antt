@@ -10,12 +10,14 @@ use Rattle.lk_types.specs.declared.c_type.CType.TheVariants.{Void, Int, ThreadId
 -- void, the integer kinds in their order, and the types of threads with those of their attributes
 abbrev pub predeclared : List CType
 predeclared =
-    Void ∷ Int Bool ∷ Int Char ∷ Int SChar ∷ Int UChar ∷ Int Short ∷ Int UShort ∷ Int IntKind ∷ Int UInt ∷ Int Long ∷ Int ULong ∷ Int LLong ∷ Int ULLong ∷
+    Void ∷ Int Bool ∷ Int Char ∷ Int SChar ∷ Int UChar ∷ Int Short ∷ Int UShort ∷ Int IntKind ∷ Int UInt ∷
+    Int Long ∷ Int ULong ∷ Int LLong ∷ Int ULLong ∷
     ThreadId ∷ Mutex ∷ Cond ∷ Opaque 0 ∷ Opaque 1 ∷ Opaque 2 ∷ []
 
 -- the table of these alone: each is the least of its kind, there are no structs, and void has no parts
 abbrev pub first_table : Table
-first_table = record { types = predeclared; members = []; parts = []; least = range_with_len 0 (length predeclared) }
+first_table =
+    record { types = predeclared; members = []; parts = []; least = range_with_len 0 (length predeclared) }
 
 -- the table begins with the predeclared types
 abbrev pub HasPredeclared : Table → Type 0

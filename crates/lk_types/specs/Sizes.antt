@@ -49,12 +49,14 @@ form_size table form = size_of_parts (size_at table) (branches table form)
 abbrev pub fields_size : Table → List ℕ → TypeSize
 fields_size table types = size_of_parts (size_at table) (fields 0 types)
 
--- whether a type is over one of the bounds of the language: 65,535 nodes, and 1,000 steps. No declarator makes such a type
+-- whether a type is over one of the bounds of the language: 65,535 nodes, and 1,000 steps. No
+-- declarator makes such a type
 abbrev pub is_too_large : TypeSize → Bool
 is_too_large size = nat_lt 65535 size.nodes || nat_lt 1000 size.steps
 
--- whether a type is over one of the bounds of a table. A table has room for more than declarators make: the address of an object has the type of
--- pointers to the object's type, and a program has the pointer to each type of its sources. So the bounds are those of the language and two more
+-- whether a type is over one of the bounds of a table. A table has room for more than declarators make: the
+-- address of an object has the type of pointers to the object's type, and a program has the pointer to each
+-- type of its sources. So the bounds are those of the language and two more
 abbrev pub is_over : TypeSize → Bool
 is_over size = nat_lt 65537 size.nodes || nat_lt 1002 size.steps
 
@@ -68,12 +70,14 @@ HasLowerParts table t Cond = ⊤
 HasLowerParts table t (Pointer u) = has_tag table u ≡ false → steps_of table u < steps_of table t
 HasLowerParts table t (Array u n) = steps_of table u < steps_of table t
 HasLowerParts table t (Struct s) = All (λ u. steps_of table u < steps_of table t) (fields_of table (Struct s))
-HasLowerParts table t (Function result params dots) = All (λ u. steps_of table u < steps_of table t) (result ∷ params)
+HasLowerParts table t (Function result params dots) =
+    All (λ u. steps_of table u < steps_of table t) (result ∷ params)
 HasLowerParts table t (Opaque n) = ⊤
 
 -- an answer that is this size, or nothing exactly where it is over one of some bounds
 abbrev pub FitsBy : (TypeSize → Bool) → TypeSize → Option TypeSize → Type 0
-FitsBy over size answer = MatchOption answer (over size ≡ true) (λ found. (found ≡ size) × (over size ≡ false))
+FitsBy over size answer =
+    MatchOption answer (over size ≡ true) (λ found. (found ≡ size) × (over size ≡ false))
 
 -- the same for the bounds of a table
 abbrev pub Fits : TypeSize → Option TypeSize → Type 0

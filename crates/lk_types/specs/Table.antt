@@ -44,7 +44,8 @@ struct_of (Struct s) = Some s
 struct_of (Function result params dots) = None
 struct_of (Opaque n) = None
 
--- the types of the fields of a form: of a struct its members, of a function its result and then its parameters
+-- the types of the fields of a form: of a struct its members, of a function its
+-- result and then its parameters
 abbrev pub fields_of : Table → CType → List ℕ
 fields_of table Void = []
 fields_of table (Int kind) = []

@@ -25,7 +25,8 @@ unfoldable pub holds_within : ℕ → Table → ℕ → Bool
 holds_within zero table t = false
 holds_within (suc depth) table t = holds (holds_within depth table) (type_at table t)
 
--- whether a type is a struct, or an array that holds one by value; elements have lesser numbers than their array
+-- whether a type is a struct, or an array that holds one by value; elements have
+-- lesser numbers than their array
 abbrev pub holds_struct : Table → ℕ → Bool
 holds_struct table t = holds_within (suc t) table t
 
@@ -53,7 +54,8 @@ pub record Branch : Type 0 where
 
 -- what a pointer to the type leads to; types that differ in the sizes of arrays alone have one Tag
 abbrev pub target : Table → ℕ → Branch
-target table t = if has_tag table t then record { sel = Target; type = least_of table t; tag = true } else record { sel = Target; type = t; tag = false }
+target table t = if has_tag table t then record { sel = Target; type = least_of table t; tag = true }
+    else record { sel = Target; type = t; tag = false }
 
 abbrev pub element : ℕ → Branch
 element t = record { sel = Element; type = t; tag = false }
@@ -94,7 +96,8 @@ under sel entry = record entry { path = sel ∷ entry.path }
 
 -- what stands in a walk for a part: of a Tag the place alone, else the walk of the part
 abbrev pub at_branch : (ℕ → List Entry) → Branch → List Entry
-at_branch below b = if b.tag then record { path = b.sel ∷ []; type = b.type; tag = true } ∷ [] else map (under b.sel) (below b.type)
+at_branch below b = if b.tag then record { path = b.sel ∷ []; type = b.type; tag = true } ∷ []
+    else map (under b.sel) (below b.type)
 
 -- the entries below the Start of a form
 abbrev pub below_start : (ℕ → List Entry) → Table → CType → List Entry

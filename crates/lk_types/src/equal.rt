@@ -24,8 +24,8 @@ impl TypeTable {
         self.least_alike(a) == self.least_alike(b)
     }
 
-    /// Whether two types are equal but for absent sizes of arrays, as two declarations of one name may be: an array type
-    /// without a size equals one with a size and the same elements (C99 6.2.7).
+    /// Whether two types are equal but for absent sizes of arrays, as two declarations of one name may be: an
+    /// array type without a size equals one with a size and the same elements (C99 6.2.7).
     #[cycle(redeclarable)]
     pub fn are_redeclarable(&self, a: TypeId, b: TypeId) -> bool
         requires a { IsKnown self.now a }

@@ -8,8 +8,8 @@ use lk_base::NoMemory;
 use std::alloc::Global;
 use std::marker::Model;
 
-/// Different forms of types in the order in which they came, each with something that is kept of it. A contract
-/// sees them as a list of pairs.
+/// Different forms of types in the order in which they came, each with something that is kept of it. A
+/// contract sees them as a list of pairs.
 #[derive(Drop)]
 pub struct Forms<V> {
     entries: IndexMap<CType, V>,

@@ -41,8 +41,8 @@ pub enum Sel {
     Target,
     /// From an array to its elements.
     Element,
-    /// From a struct to the member with this number, from 0 on; from a function to its result by 0, and to its
-    /// parameter k, counted from 1, by k.
+    /// From a struct to the member with this number, from 0 on; from a function to its result by 0, and to
+    /// its parameter k, counted from 1, by k.
     Field(u32),
     /// From `void`, where a pointer led to it, to an object of this type.
     Part(TypeId),

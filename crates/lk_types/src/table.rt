@@ -18,9 +18,9 @@ use std::marker::Model;
 
 mod building;
 
-/// The types of a program by their numbers, with the members of its structs and the parts of `void`. Equal types
-/// have equal numbers, and no type is over the bounds of a table: there is room for the pointer to each type that a
-/// declarator makes.
+/// The types of a program by their numbers, with the members of its structs and the parts of `void`. Equal
+/// types have equal numbers, and no type is over the bounds of a table: there is room for the pointer to each
+/// type that a declarator makes.
 ///
 /// A contract sees it as plain lists.
 #[derive(Drop)]
@@ -51,7 +51,8 @@ impl TypeTable {
         self.types.len() as u32
     }
 
-    /// The form of a type. What it is made of is in the table, and each part of it that is no Tag has fewer steps.
+    /// The form of a type. What it is made of is in the table, and each part of it
+    /// that is no Tag has fewer steps.
     pub fn get(&self, t: TypeId) -> &CType
         requires { IsKnown self.now t }
         ensures value { slice_get self.now.types t ≡ Some result.now }
@@ -127,19 +128,20 @@ impl TypeTable {
         self.types.at(t.index()).1.holds_struct
     }
 
-    /// The type with the least number among those that are equal to this one but for the sizes of arrays. It stays
-    /// the same while the table grows.
+    /// The type with the least number among those that are equal to this one but for the sizes of arrays. It
+    /// stays the same while the table grows.
     pub fn least_alike(&self, t: TypeId) -> TypeId
         requires { IsKnown self.now t }
         ensures value { result ≡ least_of self.now t }
         ensures least { IsLeast self.now t result }
-        ensures alike { (u : ℕ) → IsKnown self.now u → IsAlike self.now.types t u ↔ (result ≡ least_of self.now u) }
+        ensures alike { (u : ℕ) → IsKnown self.now u →
+            IsAlike self.now.types t u ↔ (result ≡ least_of self.now u) }
     {
         self.types.at(t.index()).1.least
     }
 
-    /// Whether a type may be a Part of `void`: it is known, isn't `void`, and is the least of those that are equal to it
-    /// but for the sizes of arrays.
+    /// Whether a type may be a Part of `void`: it is known, isn't `void`, and is the least of those that are
+    /// equal to it but for the sizes of arrays.
     fn is_part(&self, t: TypeId) -> bool
         ensures { IsTrue result ↔ IsPart self.now t }
     {

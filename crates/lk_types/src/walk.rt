@@ -72,10 +72,12 @@ impl TypeTable {
         }
     }
 
-    /// How many entries the walks of the fields before this one have together, or nothing where there is no such field.
+    /// How many entries the walks of the fields before this one have together, or nothing
+    /// where there is no such field.
     fn nodes_before(&self, t: TypeId, number: u32) -> Option<u32>
         requires { IsKnown self.now t }
-        ensures { MatchOption result (length (fields_of self.now (type_at self.now t)) ≤ number) (IsPlaceOfField self.now t number) }
+        ensures { MatchOption result (length (fields_of self.now (type_at self.now t)) ≤ number)
+            (IsPlaceOfField self.now t number) }
     {
         let mut count = 0;
         for k in 0..number {
@@ -90,12 +92,13 @@ impl TypeTable {
         }
     }
 
-    /// The number and the type of the field in whose walk the entry stands that comes so many entries after the one that
-    /// follows the type's own, and the number of the entry there.
+    /// The number and the type of the field in whose walk the entry stands that comes so many entries after
+    /// the one that follows the type's own, and the number of the entry there.
     fn field_at(&self, t: TypeId, number: u32) -> (u32, TypeId, u32)
         requires known { IsKnown self.now t }
         requires entry { is_node (entry_at self.now t (number + 1)) }
-        requires fields { branches self.now (type_at self.now t) ≡ fields 0 (fields_of self.now (type_at self.now t)) }
+        requires fields { branches self.now (type_at self.now t)
+            ≡ fields 0 (fields_of self.now (type_at self.now t)) }
         ensures { IsInPart self.now t number (Field result.0) result.1 result.2 }
     {
         let mut rest = number;
@@ -181,7 +184,8 @@ impl TypeTable {
         Ok(path)
     }
 
-    /// Whether the path of a node goes into no array, so that the node of an object is one part of it at most.
+    /// Whether the path of a node goes into no array, so that the node of an
+    /// object is one part of it at most.
     pub fn has_no_element(&self, n: NodeId) -> bool
         requires { IsNode self.now n }
         ensures { IsTrue result ↔ HasNoElement (node_of self.now n).path }
@@ -203,7 +207,8 @@ impl TypeTable {
     /// How a pointer leads to what it points to.
     fn way_to_target(&self, t: TypeId) -> Option<Way>
         requires { IsKnown self.now t }
-        ensures way { MatchOption result (branch_of self.now (type_at self.now t) Target ≡ None) (IsWay self.now t Target) }
+        ensures way { MatchOption result (branch_of self.now (type_at self.now t) Target ≡ None)
+            (IsWay self.now t Target) }
     {
         match self.get(t) {
             CType::Pointer(target) => {
@@ -228,7 +233,8 @@ impl TypeTable {
     /// How an array leads to its elements.
     fn way_to_element(&self, t: TypeId) -> Option<Way>
         requires { IsKnown self.now t }
-        ensures way { MatchOption result (branch_of self.now (type_at self.now t) Element ≡ None) (IsWay self.now t Element) }
+        ensures way { MatchOption result (branch_of self.now (type_at self.now t) Element ≡ None)
+            (IsWay self.now t Element) }
     {
         match self.get(t) {
             CType::Array(_, _) => Some(Way::Inside(0)),
@@ -247,7 +253,8 @@ impl TypeTable {
     /// How a struct or a function leads to a field.
     fn way_to_field(&self, t: TypeId, number: u32) -> Option<Way>
         requires { IsKnown self.now t }
-        ensures way { MatchOption result (branch_of self.now (type_at self.now t) (Field number) ≡ None) (IsWay self.now t (Field number)) }
+        ensures way { MatchOption result (branch_of self.now (type_at self.now t) (Field number) ≡ None)
+            (IsWay self.now t (Field number)) }
     {
         self.is_table();
         match self.nodes_before(t, number) {
@@ -259,7 +266,8 @@ impl TypeTable {
     /// How a step leads from a type to one of its parts, or nothing where it has no such part.
     fn way(&self, t: TypeId, sel: Sel) -> Option<Way>
         requires { IsKnown self.now t }
-        ensures way { MatchOption result (branch_of self.now (type_at self.now t) sel ≡ None) (IsWay self.now t sel) }
+        ensures way { MatchOption result (branch_of self.now (type_at self.now t) sel ≡ None)
+            (IsWay self.now t sel) }
     {
         match sel {
             Sel::Target => self.way_to_target(t),
@@ -331,8 +339,8 @@ impl TypeTable {
 
     /// The node to which a step leads, or nothing exactly where the node has no such part.
     ///
-    /// A Part leads from the Tag of `void` alone, where the list of parts has the least type that is equal to the one
-    /// that is named but for the sizes of arrays.
+    /// A Part leads from the Tag of `void` alone, where the list of parts has the least type that is equal to
+    /// the one that is named but for the sizes of arrays.
     pub fn step_node(&self, n: NodeId, sel: Sel) -> Option<NodeId>
         requires node { IsNode self.now n }
         requires sel { IsSel self.now sel }

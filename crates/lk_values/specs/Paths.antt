@@ -24,6 +24,7 @@ last_index path = index_of (slice_get path (length path - 1))
 abbrev pub above : List CellStep → List CellStep
 above path = take (length path - 1) path
 
--- the path to the element of this number in the array that a path ends in; the path itself where it ends at no element
+-- the path to the element of this number in the array that a path ends in; the path
+-- itself where it ends at no element
 abbrev pub element_path : List CellStep → ℕ → List CellStep
 element_path path i = option_map_or (λ now. above path ++ Index i ∷ []) (last_index path) path

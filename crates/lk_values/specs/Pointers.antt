@@ -27,4 +27,5 @@ into_member pointer k = pointer_to pointer.part.object (pointer.part.path ++ Fie
 
 -- whether two pointers point into the same array, or one past its last element (C99 6.5.6, 9; 6.5.8, 5)
 abbrev pub is_same_array : Pointer → Pointer → Bool
-is_same_array p q = nat_eq p.part.object q.part.object && is_path (element_path p.part.path 0) (element_path q.part.path 0)
+is_same_array p q =
+    nat_eq p.part.object q.part.object && is_path (element_path p.part.path 0) (element_path q.part.path 0)

@@ -20,8 +20,8 @@ pub struct Cell {
 pub struct Pointer {
     /// The part, which may be an object, a struct, an array or a cell.
     pub part: Cell,
-    /// Whether it points one past the part. It then points past the last element of an array; every other part counts as
-    /// an array of one (C99 6.5.6, 7).
+    /// Whether it points one past the part. It then points past the last element of an array; every other
+    /// part counts as an array of one (C99 6.5.6, 7).
     pub past: bool,
 }
 

@@ -1,5 +1,6 @@
-//! Values of a program that runs: numbers, pointers to parts of objects, thread ids, the states of mutexes and condition variables,
-//! and why a step is undefined (C99 3.4.3, 3.17, 6.2.5; POSIX Base Definitions 4.11).
+//! Values of a program that runs: numbers, pointers to parts of objects, thread ids, the states
+//! of mutexes and condition variables, and why a step is undefined (C99 3.4.3, 3.17, 6.2.5;
+//! POSIX Base Definitions 4.11).
 #![tactic(auto)]
 
 mod cell;

@@ -99,7 +99,8 @@ impl Path {
         }
     }
 
-    /// The path to the element of this number in the array whose element it ends at; itself where it ends at none.
+    /// The path to the element of this number in the array whose element it ends at;
+    /// itself where it ends at none.
     pub fn element(&self, number: u64) -> Result<Path, NoMemory>
         ensures { IfOk result (λ path. path ≡ element_path self.now number) }
     {

@@ -46,7 +46,8 @@ impl<K: Eq + Hash, V> Table<K, V> {
 }
 
 impl<K: Eq + Hash + Drop, V: Drop> Table<K, V> {
-    /// Puts a value at a key, in the place of the one that it had. Where no memory is found the table is as before.
+    /// Puts a value at a key, in the place of the one that it had. Where no memory is
+    /// found the table is as before.
     pub fn put(&mut self, key: K, value: V) -> Result<(), NoMemory>
         ensures ok { OnOk result (self.new ≡ insert_entry K.eq self.old key value) }
         ensures err { OnErr result (self.new ≡ self.old) }

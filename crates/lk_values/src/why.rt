@@ -9,7 +9,8 @@ pub enum Why {
     Overflow,
     /// A division by zero (C99 6.5.5, 5).
     DivideByZero,
-    /// The right operand of a shift isn't below the width of the left one, or that one is negative (C99 6.5.7, 3 and 4).
+    /// The right operand of a shift isn't below the width of the left one, or that one is
+    /// negative (C99 6.5.7, 3 and 4).
     Shift,
     /// An indeterminate value is used (C99 J.2).
     Indeterminate,
@@ -17,10 +18,11 @@ pub enum Why {
     Null,
     /// A pointer to an object is followed after the object's life (C99 6.2.4, 2).
     Dead,
-    /// A pointer is followed or moved outside its array, or two into different arrays are compared (C99 6.5.6, 8 and 9).
+    /// A pointer is followed or moved outside its array, or two into different arrays are
+    /// compared (C99 6.5.6, 8 and 9).
     Outside,
-    /// A `void *` is converted to a pointer to another type than that of the part that it points to; or an operand is none
-    /// that the action takes, which lowered points never have.
+    /// A `void *` is converted to a pointer to another type than that of the part that it points to; or an
+    /// operand is none that the action takes, which lowered points never have.
     WrongType,
     /// A string literal is written (C99 6.4.5, 6).
     ConstText,
@@ -28,11 +30,13 @@ pub enum Why {
     NotOwner,
     /// A mutex or condition variable is used that isn't initialised (POSIX pthread_mutex_lock).
     NotReady,
-    /// A mutex that is owned is initialised or destroyed, or the life of its object ends (POSIX pthread_mutex_destroy).
+    /// A mutex that is owned is initialised or destroyed, or the life of its object ends
+    /// (POSIX pthread_mutex_destroy).
     OwnedLock,
     /// What is freed isn't the start of a live allocated object (C99 7.20.3.2, 2).
     BadFree,
-    /// A thread is joined or detached that isn't there, was joined or was detached; or it joins itself (POSIX pthread_join).
+    /// A thread is joined or detached that isn't there, was joined or was detached; or it joins
+    /// itself (POSIX pthread_join).
     BadJoin,
     /// A value is used that a function didn't return (C99 6.9.1, 12).
     NoValue,

@@ -13,4 +13,5 @@ file_rule = record (new_rule (codes "file")) { action = Some Append }
 -- neither a name of the program before the words nor `--help`
 abbrev pub check_app : App
 check_app =
-    with_rule (with_rule (on_top (λ s. record s { no_binary_name = true; disable_help_flag = true }) (new_app (codes "check"))) externs_rule) file_rule
+    with_rule (with_rule (on_top (λ s. record s { no_binary_name = true; disable_help_flag = true })
+    (new_app (codes "check"))) externs_rule) file_rule

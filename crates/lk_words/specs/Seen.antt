@@ -9,7 +9,8 @@ use Rattle.lk_words.specs.Words.{Word, named_of}
 use Rattle.lk_words.specs.declared.check.Check.{Check}
 
 abbrev pub seen : Check → spelled.Check
-seen check = record { externs = option_map (λ name. name.now) check.externs; files = map (λ name. name.now) check.files.items }
+seen check =
+    record { externs = option_map (λ name. name.now) check.externs; files = map (λ name. name.now) check.files.items }
 
 -- what `clap` has for the options and for the files
 abbrev pub matched_in : List Row → List Word → spelled.Check

@@ -1,4 +1,5 @@
--- The command that the words of a command line spell: `check [--externs FILE] FILE...` (POSIX, Utility Conventions: `--` ends the options).
+-- The command that the words of a command line spell: `check [--externs FILE] FILE...` (POSIX, Utility
+-- Conventions: `--` ends the options).
 use Rattle.std.specs.Prelude.{ℕ, Bool, true, ◌&&◌, List, [], ◌∷◌, ◌++◌, Option, Some, None, nat_le, nat_eq, is_some, length, codes, option_and_then, if◌then◌else◌}
 use Rattle.std.specs.List.{list_all}
 use Rattle.std.specs.Option.{option_map_or}
@@ -7,7 +8,8 @@ use Rattle.std.specs.Str.{bytes_eq}
 abbrev pub Word : Type 0
 Word = List ℕ
 
--- what a `check` names: the file of names that no source defines, where it names one, and the sources in their order
+-- what a `check` names: the file of names that no source defines, where it names one,
+-- and the sources in their order
 pub record Check : Type 0 where
   pub externs : Option Word
   pub files : List Word
@@ -45,7 +47,8 @@ shape_behind word (Some file) = ExternsOf file
 shape_behind word None = if bytes_eq word (codes "--externs") then Externs else Other
 
 abbrev pub shape_of_option : Word → Shape
-shape_of_option word = if bytes_eq word (codes "--") then End else shape_behind word (behind (codes "--externs=") word)
+shape_of_option word =
+    if bytes_eq word (codes "--") then End else shape_behind word (behind (codes "--externs=") word)
 
 abbrev pub shape_of : Word → Shape
 shape_of [] = File
@@ -98,7 +101,8 @@ at_end named Source = Some named
 -- what the words name, where each may stand where it does
 unfoldable pub named_by : Stand → List Word → Option Check
 named_by stand [] = at_end stand.named stand.wanted
-named_by stand (word ∷ words) = option_and_then (λ next. named_by next words) (word_at stand.named stand.wanted word)
+named_by stand (word ∷ words) =
+    option_and_then (λ next. named_by next words) (word_at stand.named stand.wanted word)
 
 abbrev pub named_of : List Word → Option Check
 named_of words = named_by (stands nothing_named Any) words
@@ -113,7 +117,9 @@ is_count count = nat_le 1 count && nat_le count 64
 
 -- and every name is one
 abbrev pub is_in_bounds : Check → Bool
-is_in_bounds named = is_count (length named.files) && (list_all is_name named.files && option_map_or is_name named.externs true)
+is_in_bounds named =
+    is_count (length named.files)
+    && (list_all is_name named.files && option_map_or is_name named.externs true)
 
 abbrev pub in_bounds : Check → Option Check
 in_bounds named = if is_in_bounds named then Some named else None
@@ -121,4 +127,5 @@ in_bounds named = if is_in_bounds named then Some named else None
 -- the command of these words: what `check` names, or none
 abbrev pub command : List Word → Option Check
 command [] = None
-command (first ∷ words) = if bytes_eq first (codes "check") then option_and_then in_bounds (named_of words) else None
+command (first ∷ words) =
+    if bytes_eq first (codes "check") then option_and_then in_bounds (named_of words) else None

@@ -113,10 +113,11 @@ fn is_in_bounds(check: &Check<'_>) -> bool
     are_names(files) && is_name_or_none(check.externs)
 }
 
-/// What the command names that these words spell: `check`, and behind it 1 to 64 FILEs and at most one `--externs FILE`
-/// or `--externs=FILE`, in any order. `--` ends the options; a name has 1 to 255 bytes.
+/// What the command names that these words spell: `check`, and behind it 1 to 64 FILEs and at most one
+/// `--externs FILE` or `--externs=FILE`, in any order. `--` ends the options; a name has 1 to 255 bytes.
 ///
-/// `Usage` comes exactly where the words spell no command, and `NoMemory` where no memory was found to read them.
+/// `Usage` comes exactly where the words spell no command, and `NoMemory` where no
+/// memory was found to read them.
 pub fn command<'a>(alloc: Global, words: &'a [String]) -> Result<Check<'a>, WordsFault>
     ensures ok { IfOk result (λ check. spec.command (map string_bytes words.now) ≡ Some (seen check)) }
     ensures usage { IfErr result (λ fault. fault ≡ Usage → spec.command (map string_bytes words.now) ≡ None) }

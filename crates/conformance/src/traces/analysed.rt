@@ -51,7 +51,8 @@ impl Analysed {
         self.labels.target(operand)
     }
 
-    /// Whether the analysis foresees that a point accesses a location: whether that may flow to the label of the access.
+    /// Whether the analysis foresees that a point accesses a location: whether that may
+    /// flow to the label of the access.
     pub(crate) fn foresees(&self, point: u32, location: u32) -> bool {
         let Some(label) = self.accessed(point) else {
             return false;

@@ -42,7 +42,8 @@ fn push_touched(
     Ok(())
 }
 
-/// Appends the location of the cell that the step of a point touched, and a word where the analysis doesn't foresee that.
+/// Appends the location of the cell that the step of a point touched, and a word where the
+/// analysis doesn't foresee that.
 fn push_location(
     alloc: Global,
     text: &mut String,

@@ -5,8 +5,8 @@ use lk_cells::State;
 use lk_facts::Points;
 use lk_meaning::{Touched, location, touch};
 
-/// Whether two threads race: whether they are about to touch one cell of an object that lives, and one of them is to write it
-/// (POSIX Base Definitions 4.11).
+/// Whether two threads race: whether they are about to touch one cell of an object that lives, and one of
+/// them is to write it (POSIX Base Definitions 4.11).
 #[derive(Clone, Copy)]
 pub(crate) enum Race {
     /// They don't.

@@ -139,7 +139,8 @@ fn first_state(alloc: Global, points: &Points, args: &[Vec<u8>]) -> Result<State
     start(alloc, points, args)
 }
 
-/// Runs a program from its first state on by a schedule, prints the steps that differ, and answers whether none does.
+/// Runs a program from its first state on by a schedule, prints the steps that differ,
+/// and answers whether none does.
 fn runs_so<R: AllocGlobal + Print>(
     rt: &R,
     name: &str,

@@ -88,7 +88,8 @@ impl TypeTable {
         self.structs[s as usize] = StructEntry { members, size };
     }
 
-    /// The size of a struct with these members, or nothing exactly where it is over one of the bounds of a table.
+    /// The size of a struct with these members, or nothing exactly where it is over
+    /// one of the bounds of a table.
     pub fn members_size(&self, members: &[StructMember]) -> Option<TypeSize>
         requires { All (IsKnown self.now) (types_of members.now) }
         ensures { Fits (fields_size self.now (types_of members.now)) result }
@@ -103,7 +104,8 @@ impl TypeTable {
         Some(size)
     }
 
-    /// The size of a form that is about to be put, or nothing exactly where it is over one of the bounds of a table.
+    /// The size of a form that is about to be put, or nothing exactly where it is over
+    /// one of the bounds of a table.
     pub fn form_size(&self, form: &CType) -> Option<TypeSize>
         requires { IsForm self.now form.now }
         ensures { Fits (form_size self.now form.now) result }
@@ -145,7 +147,8 @@ impl TypeTable {
         }
     }
 
-    /// A size with further fields of these types, or nothing exactly where it is over one of the bounds of a table.
+    /// A size with further fields of these types, or nothing exactly where it is over
+    /// one of the bounds of a table.
     fn with_fields(&self, size: TypeSize, types: &[TypeId]) -> Option<TypeSize>
         requires known { All (IsKnown self.now) types.now }
         requires small { is_over size ≡ false }
@@ -161,8 +164,8 @@ impl TypeTable {
         Some(larger)
     }
 
-    /// The size of a struct with one more member of this type, or nothing exactly where the struct is then over one
-    /// of the bounds of the language. A struct without members has the size `TypeSize::START`.
+    /// The size of a struct with one more member of this type, or nothing exactly where the struct is then
+    /// over one of the bounds of the language. A struct without members has the size `TypeSize::START`.
     pub fn with_field(&self, size: TypeSize, t: TypeId) -> Option<TypeSize>
         requires known { IsKnown self.now t }
         requires small { is_too_large size ≡ false }
@@ -195,8 +198,8 @@ impl TypeTable {
         t.0 < self.count() && self.is_complete(t)
     }
 
-    /// Whether a form may be put, where it isn't over the bounds of a table: what it is made of is in the table, elements
-    /// are complete, and a function's result and parameters hold no struct by value.
+    /// Whether a form may be put, where it isn't over the bounds of a table: what it is made of is in the
+    /// table, elements are complete, and a function's result and parameters hold no struct by value.
     pub fn is_form(&self, form: &CType) -> bool
         ensures { IsTrue result ↔ IsForm self.now form.now }
     {
