@@ -16,7 +16,7 @@ ghost use Rattle.lk_elab_init.specs.Words.{is_word_kind};
 ghost use Rattle.lk_elab_init.specs.declared.givens.Beginning.TheVariants as begins;
 
 use crate::paths::{longer_path, path_of};
-use crate::type_forms::{count_of, part_at};
+use crate::type_forms::{count_at, part_at};
 use lk_base::{CellStep, NoMemory, Seq, Spot};
 use lk_check_decl::{braces_of, is_text_for};
 use lk_elaborator::{Elaborator, known, nowhere};
@@ -154,7 +154,7 @@ fn put_value<'a>(
     requires { lookup (nat_eq e.now.ordinal) walk.now.records.initialisers ≡ Some kind.Value }
     ensures { OnOk result (Puts out.old.items out.new.items (GivesToExpr walk.now ty path.now e.now)) }
 {
-    match count_of(walk.types.table(), ty)? {
+    match count_at(walk.types.table(), ty)? {
         Some(count) => put_text(walk.alloc, ty, path, e, count, out),
         None => put_part(walk.alloc, ty, path, Beginning::Value(e), out),
     }

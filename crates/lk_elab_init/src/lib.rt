@@ -19,4 +19,4 @@ pub use givens::{Beginning, PartGiven, put_given};
 pub use paths::{longer_path, path_of};
 pub use positions::{Anchor, End, Position, Reached};
 pub use reached::converted_address;
-pub use type_forms::{element_of, is_pointer_type, kind_at};
+pub use type_forms::{element_at, is_pointer_at, kind_at};

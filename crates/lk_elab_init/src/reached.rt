@@ -20,7 +20,7 @@ ghost use Rattle.lk_elab_init.specs.Reaching.{IsMemberOf, IsMovedTo, IsNamed, Is
 ghost use Rattle.lk_elab_init.specs.Reaching.{IsValueReached, MovesFrom, OfTyping, address_in, is_reached};
 
 use crate::positions::{Anchor, Reached, whole};
-use crate::type_forms::count_of;
+use crate::type_forms::count_at;
 use lk_base::{Name, NoMemory};
 use lk_elaborator::{Elaborator, found_of, nowhere, number_behind, number_of, value_at};
 use lk_found::{Address, Found, Meant, Place, value_address};
@@ -102,7 +102,7 @@ fn is_array(types: &TypeTable, ty: &ExprType) -> Result<bool, NoMemory>
 {
     match ty {
         ExprType::Listed(t) => {
-            let count = count_of(types, *t)?;
+            let count = count_at(types, *t)?;
             Ok(count.is_some())
         }
         ExprType::PointerTo(_) => Ok(false),

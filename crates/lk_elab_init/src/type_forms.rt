@@ -24,7 +24,7 @@ pub(crate) struct ObjectPart {
 }
 
 /// How many elements a type has, where it is an array.
-pub(crate) fn count_of(types: &TypeTable, t: TypeId) -> Result<Option<u64>, NoMemory>
+pub(crate) fn count_at(types: &TypeTable, t: TypeId) -> Result<Option<u64>, NoMemory>
     ensures known { OnOk result (IsKnown types.now t) }
     ensures value { IfOk result (λ count. count ≡ count_in (meaning types.now t)) }
 {
@@ -44,7 +44,7 @@ pub(crate) fn count_of(types: &TypeTable, t: TypeId) -> Result<Option<u64>, NoMe
 }
 
 /// Whether a type is a pointer.
-pub fn is_pointer_type(types: &TypeTable, t: TypeId) -> Result<bool, NoMemory>
+pub fn is_pointer_at(types: &TypeTable, t: TypeId) -> Result<bool, NoMemory>
     ensures { IfOk result (λ is. is ≡ spec.is_pointer (meaning types.now t)) }
 {
     let t = known(types, t)?;
@@ -60,7 +60,7 @@ pub fn kind_at(types: &TypeTable, t: TypeId) -> Result<Option<Kind>, NoMemory>
 }
 
 /// The type of an element of an array. What a text initialises is one (C99 6.7.8, 14).
-pub fn element_of(types: &TypeTable, t: TypeId) -> Result<TypeId, NoMemory>
+pub fn element_at(types: &TypeTable, t: TypeId) -> Result<TypeId, NoMemory>
     ensures known { IfOk result (IsKnown types.now) }
     ensures value { IfOk result (λ element.
         element_in (meaning types.now t) ≡ Some (meaning types.now element)) }

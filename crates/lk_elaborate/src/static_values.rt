@@ -13,7 +13,7 @@ ghost use Rattle.lk_elaborate.specs.StaticParts.{IsScalar, IsTruth, IsTruthFor, 
 use lk_arith::convert;
 use lk_base::{Kind, NoMemory};
 use lk_elab_expr::given_value;
-use lk_elab_init::{Anchor, End, Position, Reached, converted_address, is_pointer_type, kind_at};
+use lk_elab_init::{Anchor, End, Position, Reached, converted_address, is_pointer_at, kind_at};
 use lk_elaborator::{Elaborator, nowhere, value_at};
 use lk_tree::Expr;
 use lk_typed::{Constant, ExprType, StaticValue, Typed, TypedExpr};
@@ -167,7 +167,7 @@ fn scalar_of(walk: &Elaborator, ty: TypeId) -> Result<Scalar, NoMemory>
     match kind_at(walk.types.table(), ty)? {
         Some(kind) => Ok(Scalar::Integer(kind)),
         None => {
-            if is_pointer_type(walk.types.table(), ty)? {
+            if is_pointer_at(walk.types.table(), ty)? {
                 Ok(Scalar::Pointer)
             } else {
                 Err(nowhere())

@@ -18,7 +18,7 @@ use crate::beside::beside;
 use crate::static_values::{Begun, static_value};
 use lk_arith::convert;
 use lk_base::{CellStep, Kind, NoMemory, Seq};
-use lk_elab_init::{Beginning, PartGiven, element_of, kind_at, longer_path, path_of, put_given};
+use lk_elab_init::{Beginning, PartGiven, element_at, kind_at, longer_path, path_of, put_given};
 use lk_elaborator::{Elaborator, Locals, nowhere};
 use lk_found::At;
 use lk_tree::{Expr, Init};
@@ -102,7 +102,7 @@ fn elements_of(types: &TypeTable, t: TypeId) -> Result<Elements, NoMemory>
     ensures kind { IfOk result (λ elements. meaning types.now elements.ty ≡ spec.Int elements.kind) }
     ensures array { IfOk result (λ elements. element_in (meaning types.now t) ≡ Some (spec.Int elements.kind)) }
 {
-    let ty = element_of(types, t)?;
+    let ty = element_at(types, t)?;
     match kind_at(types, ty)? {
         Some(kind) => Ok(Elements { ty, kind }),
         None => Err(nowhere()),

@@ -6,11 +6,9 @@ use Rattle.lk_base.specs.declared.refusal.Refusal as base
 use Rattle.lk_base.specs.declared.status.Status.{Status}
 use Rattle.lk_base.specs.declared.status.Status.TheVariants as status
 use Rattle.lk_facts.specs.LabelRules.{HasMoreLabels}
-use Rattle.lk_facts.specs.Lowered.{IsLowered}
 use Rattle.lk_facts.specs.declared.program.Program.{Program as Points}
 use Rattle.lk_facts.specs.declared.verdict.Verdict.{Verdict}
 use Rattle.lk_io.specs.Shelf.{Held}
-use Rattle.lk_lower_expr.specs.Programs.{IsMadeOf}
 use Rattle.lk_lower_unit.specs.PointNumbers.{HasMorePoints}
 use Rattle.lk_program.specs.Program.{IsFault}
 use Rattle.lk_safe.specs.Soundness.{HasNoOtherRaces}
@@ -27,7 +25,7 @@ use Rattle.lk_sources.specs.declared.reading.Source.{Source}
 use Rattle.lk_sources.specs.declared.reading.Texts.{Texts}
 use Rattle.lk_typed.specs.declared.whole.Whole.{Whole}
 use Rattle.lk_words.specs.Words.{Check}
-use Rattle.lk_top.specs.Analysis.{IsAtMain, IsNoProgram, IsWhole, of_places, of_points, unlinked, too_many_points, too_many_labels}
+use Rattle.lk_top.specs.Analysis.{ArePointsOf, IsAtMain, IsNoProgram, IsWhole, of_places, of_points, unlinked, too_many_points, too_many_labels}
 use Rattle.lk_top.specs.Answer as judged
 use Rattle.lk_top.specs.Answer.{JudgesWhole, ShowsVerdicts, Tells, TellsAtMain, Analyses, ShowsFault, Judges, Answers, has_points, too_many_places}
 use Rattle.lk_top.specs.Outcome as outcome
@@ -47,17 +45,16 @@ module _ (sources : code.Accepted) where
   told_at_main whole code (Refusal line) (refusal, is, (file, at_file, line_is)) why = (file, refusal, record { why = why refusal is; at = at_file }, line_is)
   told_at_main whole code (Unread line) (refusal, is, tells) why = absurd tells
 
-  shown : (whole : Whole) → IsWhole sources whole → (points : Points) → (HasMorePoints whole 65536 → ⊥) → IsMadeOf whole points → IsLowered points → (verdicts : List Verdict) → HasVerdicts points verdicts →
+  shown : (whole : Whole) → IsWhole sources whole → (points : Points) → (HasMorePoints whole 65536 → ⊥) → ArePointsOf whole points → (verdicts : List Verdict) → HasVerdicts points verdicts →
       (HasMoreLabels points 65536 → ⊥) → HasNoOtherRaces points verdicts → (answer : Answer) → ShowsVerdicts sources.files points verdicts answer → Analyses sources answer
-  shown whole is points few made lowered verdicts has few_labels safe (Report text ends) (text_is, status_is) = (
+  shown whole is points few are verdicts has few_labels safe (Report text ends) (text_is, status_is) = (
     verdicts,
     record {
       whole = whole;
       is_whole = is;
       few_points = few;
       points = points;
-      made = made;
-      lowered = lowered;
+      are_points = are;
       few_labels = few_labels;
       safe = safe;
       verdicts_are = has;
@@ -65,13 +62,13 @@ module _ (sources : code.Accepted) where
     },
     status_is,
   )
-  shown whole is points few made lowered verdicts has few_labels safe (Refusal line) shows = absurd shows
-  shown whole is points few made lowered verdicts has few_labels safe (Unread line) shows = absurd shows
+  shown whole is points few are verdicts has few_labels safe (Refusal line) shows = absurd shows
+  shown whole is points few are verdicts has few_labels safe (Unread line) shows = absurd shows
 
   pub of_whole : (whole : Whole) → IsWhole sources whole → (answer : Answer) → JudgesWhole sources.files whole answer → Analyses sources answer
-  of_whole whole is answer (has_points points few made lowered (judged.shows verdicts has few_labels safe shows)) = shown whole is points few made lowered verdicts has few_labels safe answer shows
-  of_whole whole is answer (has_points points few made lowered (judged.too_many more tells)) =
-      told_at_main whole TooManyLabels answer tells (λ refusal at. too_many_labels whole is few (of_points points made lowered more) at)
+  of_whole whole is answer (has_points points few are (judged.shows verdicts has few_labels safe shows)) = shown whole is points few are verdicts has few_labels safe answer shows
+  of_whole whole is answer (has_points points few are (judged.too_many more tells)) =
+      told_at_main whole TooManyLabels answer tells (λ refusal at. too_many_labels whole is few (of_points points are more) at)
   of_whole whole is answer (judged.too_many_points more tells) = told_at_main whole TooManyPoints answer tells (λ refusal at. too_many_points whole is more at)
   of_whole whole is answer (too_many_places few more tells) =
       told_at_main whole TooManyLabels answer tells (λ refusal at. too_many_labels whole is few (of_places more) at)

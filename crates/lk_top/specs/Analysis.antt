@@ -4,6 +4,7 @@ use Rattle.std.specs.Prelude.{ℕ, ◌≡◌, List, [], Some, slice_get}
 use Rattle.lk_base.specs.declared.code.Code.{Code}
 use Rattle.lk_base.specs.declared.code.Code.TheVariants.{TooManyPoints, TooManyLabels}
 use Rattle.lk_base.specs.declared.refusal.Refusal.{Refusal}
+use Rattle.lk_facts.specs.InRange.{IsInRange}
 use Rattle.lk_facts.specs.LabelRules.{HasMoreLabels}
 use Rattle.lk_facts.specs.Lowered.{IsLowered}
 use Rattle.lk_facts.specs.declared.program.Program.{Program}
@@ -18,15 +19,24 @@ use Rattle.lk_solve.specs.Verdicts.{HasVerdicts}
 use Rattle.lk_sources.specs.declared.accepting.Accepted as code
 use Rattle.lk_sources.specs.Accepting.{units_of}
 use Rattle.lk_typed.specs.declared.whole.Whole.{Whole}
+use Rattle.lk_types.specs.Building.{IsTable}
 
 -- the program into which the typed trees of accepted sources link
 abbrev pub IsWhole : code.Accepted → Whole → Type 0
 IsWhole sources whole = IsProgram sources.externs.items (units_of sources.sources.items) whole
 
+-- the points of a program: made of its trees, each number in them in range, so that each live call and
+-- creation has a site and nothing else has one, and their types a table, in which each type stands once
+pub record ArePointsOf (whole : Whole) (points : Program) : Type 0 where
+  pub made : IsMadeOf whole points
+  pub lowered : IsLowered points
+  pub in_range : IsInRange points
+  pub table : IsTable points.types
+
 -- more labels than are analysed: its locations and lock places alone are more, or those of its points
 pub data HasTooManyLabels (whole : Whole) : Type 0 where
   of_places : HasMorePlaces whole 65536 → HasTooManyLabels whole
-  of_points : (points : Program) → IsMadeOf whole points → IsLowered points → HasMoreLabels points 65536 →
+  of_points : (points : Program) → ArePointsOf whole points → HasMoreLabels points 65536 →
       HasTooManyLabels whole
 
 -- the text is the report of the verdicts that the points of the program have
@@ -35,8 +45,7 @@ pub record IsAnalysed (sources : code.Accepted) (text : List ℕ) (verdicts : Li
   pub is_whole : IsWhole sources whole
   pub few_points : HasMorePoints whole 65536 → ⊥
   pub points : Program
-  pub made : IsMadeOf whole points
-  pub lowered : IsLowered points
+  pub are_points : ArePointsOf whole points
   pub few_labels : HasMoreLabels points 65536 → ⊥
   pub verdicts_are : HasVerdicts points verdicts
   -- no state that a run of the program reaches has a race at a location that isn't called suspect

@@ -7,9 +7,8 @@ use Rattle.lk_facts.specs.declared.verdict.Verdict.{Verdict}
 use Rattle.lk_base.specs.declared.code.Code.{Code}
 use Rattle.lk_base.specs.declared.code.Code.TheVariants.{TooManyPoints, TooManyLabels}
 use Rattle.lk_facts.specs.LabelRules.{HasMoreLabels}
-use Rattle.lk_facts.specs.Lowered.{IsLowered}
 use Rattle.lk_facts.specs.declared.program.Program.{Program as Points}
-use Rattle.lk_lower_expr.specs.Programs.{IsMadeOf, HasMorePlaces}
+use Rattle.lk_lower_expr.specs.Programs.{HasMorePlaces}
 use Rattle.lk_lower_parts.specs.Mains.{spot_of_main}
 use Rattle.lk_lower_unit.specs.PointNumbers.{HasMorePoints}
 use Rattle.lk_report.specs.Report.{report_text}
@@ -23,7 +22,7 @@ use Rattle.lk_sources.specs.declared.fault.SourcesFault.{SourcesFault}
 use Rattle.lk_sources.specs.declared.fault.SourcesFault.TheVariants as fault
 use Rattle.lk_sources.specs.declared.reading.Source.{Source}
 use Rattle.lk_words.specs.Words.{Check}
-use Rattle.lk_top.specs.Analysis.{IsAnalysed, IsAtMain, IsNoProgramIn}
+use Rattle.lk_top.specs.Analysis.{ArePointsOf, IsAnalysed, IsAtMain, IsNoProgramIn}
 use Rattle.lk_top.specs.Outcome.{Becomes, Follows}
 use Rattle.lk_top.specs.Results.{IsReport, IsRefusal, status_of, is_report}
 use Rattle.lk_top.specs.Texts.{refused_line, unread_line}
@@ -69,8 +68,8 @@ pub data JudgesPoints (files : List (List ℕ)) (whole : Whole) (points : Points
 
 -- what a program comes to: it has points, or too many of them, or of their places
 pub data JudgesWhole (files : List (List ℕ)) (whole : Whole) (shown : Answer) : Type 0 where
-  has_points : (points : Points) → (HasMorePoints whole 65536 → ⊥) → IsMadeOf whole points →
-      IsLowered points → JudgesPoints files whole points shown → JudgesWhole files whole shown
+  has_points : (points : Points) → (HasMorePoints whole 65536 → ⊥) → ArePointsOf whole points →
+      JudgesPoints files whole points shown → JudgesWhole files whole shown
   too_many_points : HasMorePoints whole 65536 → TellsAtMain files whole TooManyPoints shown →
       JudgesWhole files whole shown
   too_many_places : (HasMorePoints whole 65536 → ⊥) → HasMorePlaces whole 65536 →

@@ -1,6 +1,6 @@
 //! What accepted sources come to: the program that they make, its points, and what is reported of these.
 ghost use Rattle.std.specs.Prelude.{◌<◌, All, IfOk, length, map};
-ghost use Rattle.lk_facts.specs.Lowered.{IsLowered};
+ghost use Rattle.lk_facts.specs.InRange.{IsInRange};
 ghost use Rattle.lk_graph.specs.Single.{ArePlaceNodes};
 ghost use Rattle.lk_lower_unit.specs.Wholes.{IsOfSources};
 ghost use Rattle.lk_program.specs.Program.{StandIn};
@@ -8,7 +8,9 @@ ghost use Rattle.lk_report.specs.Names.{CanBeNamed};
 ghost use Rattle.lk_report.specs.Report.{IsVerdictThere};
 ghost use Rattle.lk_sources.specs.Accepting.{AreChecked};
 ghost use Rattle.lk_sources.specs.Readable.{AreFew};
+ghost use Rattle.lk_top.specs.Analysis.{ArePointsOf};
 ghost use Rattle.lk_top.specs.Answer.{Analyses, HasMainIn, JudgesPoints, JudgesWhole, ShowsVerdicts, TellsAtMain};
+ghost use Rattle.lk_types.specs.Building.{IsTable};
 
 use crate::answer::{Answer, refuse};
 use crate::status::status_of;
@@ -57,8 +59,17 @@ fn told(
     Ok(Answer::Report { text, status })
 }
 
-/// What a program of these points comes to. What `count` and `is_table` say of them is asked for soundness:
-/// no run has a race at a location that isn't called suspect.
+/// Does nothing when run: it tells of points what holds of all points, that each number in them is in range
+/// and that their types are a table.
+fn are_in_range(points: &Points)
+    ensures in_range { IsInRange points.now }
+    ensures table { IsTable points.now.types }
+{
+    points.count();
+    points.types().is_table();
+}
+
+/// What a program of these points comes to. No run has a race at a location that isn't called suspect.
 fn judge_points(
     alloc: Global,
     files: &Files,
@@ -68,11 +79,9 @@ fn judge_points(
     requires main { HasMainIn files.now whole.now }
     requires named { CanBeNamed files.now points.now }
     requires places { ArePlaceNodes points.now }
-    requires lowered { IsLowered points.now }
+    requires made { ArePointsOf whole.now points.now }
     ensures { IfOk result (JudgesPoints files.now whole.now points.now) }
 {
-    points.count();
-    points.types().is_table();
     verdicts_are_safe();
     match verdicts_of(alloc, points) {
         Ok(verdicts) => {
@@ -98,6 +107,7 @@ fn judge_whole(alloc: Global, files: &Files, whole: &Whole) -> Result<Answer, No
     points_stand_in_files();
     match lower(alloc, whole) {
         Ok(points) => {
+            are_in_range(&points);
             let answer = judge_points(alloc, files, whole, &points)?;
             Ok(answer)
         }

@@ -4,12 +4,11 @@ use Rattle.lk_top.specs.Answer.{ShowsVerdicts, shows, too_many}
 use Rattle.lk_top.proofs.SafeReports.{no_other_races}
 use Rattle.lk_top.proofs.VerdictsThere.{verdicts_there}
 use Rattle.lk_top.proofs.analysis.judge_points.Goals as goal
-use Rattle.lk_types.specs.Building.{IsTable}
 
 pub told-requires-clause-there : goal.told-requires-clause-there
 told-requires-clause-there c =
     let points = c.args.points.now in
-    subst (All (IsVerdictThere points)) (sym c.deref.ensures.value) (verdicts_there points c.in-Ok.verdicts.items c.count.ensures.in_range c.in-Ok.ensures.ok)
+    subst (All (IsVerdictThere points)) (sym c.deref.ensures.value) (verdicts_there points c.in-Ok.verdicts.items c.requires.made.in_range c.in-Ok.ensures.ok)
 
 pub returns-in_ok-answer-in-Ok : goal.returns-in_ok-answer-in-Ok
 returns-in_ok-answer-in-Ok c =
@@ -17,9 +16,9 @@ returns-in_ok-answer-in-Ok c =
     let points = c.args.points.now in
     let verdicts = c.in-Ok.verdicts.items in
     let answer = c.in_ok-answer-in-Ok.answer in
-    let table = subst IsTable c.types.ensures c.is_table.ensures in
+    let are = c.requires.made in
     shows verdicts c.in-Ok.ensures.ok c.in-Ok.ensures.few
-    (no_other_races c.verdicts_are_safe.ensures points verdicts c.count.ensures.in_range table c.requires.lowered c.in-Ok.ensures.ok)
+    (no_other_races c.verdicts_are_safe.ensures points verdicts are.in_range are.table are.lowered c.in-Ok.ensures.ok)
     (subst (λ vs. ShowsVerdicts files points vs answer) c.deref.ensures.value c.in_ok-answer-in-Ok.ensures)
 
 pub returns-in_ok-answer-in-Err-TooManyLabels : goal.returns-in_ok-answer-in-Err-TooManyLabels
