@@ -5,6 +5,10 @@ use std::error::Error;
 use std::fmt;
 
 /// No memory was found. No clause says when this comes: a caller passes it on by `?`.
+///
+/// Beside want of memory it stands for states that are not expected to come, and a caller treats them as want
+/// of memory: a failed test of what was made of a source without a fault, or a number that would need more
+/// bits than it has. That no such test fails is shown by the cases of `conformance`, and not proved.
 #[derive(Clone, Copy, Debug, PartialEq, Eq)]
 pub struct NoMemory;
 

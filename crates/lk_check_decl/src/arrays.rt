@@ -145,9 +145,10 @@ fn sized_code(
     lesser(incomplete, variable)
 }
 
-/// The code of an array: 25 where its elements are of no complete type (C99 6.7.5.2, 1), 31 where its size is
-/// no constant in range, or makes with the arrays inside too many elements, or is missing though it may not
-/// be. `is_complete` says of the elements whether their type is complete where the declarator begins.
+/// The code of an array: `Code::Incomplete` where its elements are of no complete type (C99 6.7.5.2, 1),
+/// `Code::VariableArray` where its size is no constant in range, or makes with the arrays inside too many
+/// elements, or is missing though it may not be. `is_complete` says of the elements whether their type is
+/// complete where the declarator begins.
 pub fn array_code(
     types: &TypeTable,
     may_be_absent: bool,

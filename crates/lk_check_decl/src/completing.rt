@@ -84,8 +84,8 @@ fn sized(types: &mut TypeTable, element: TypeId, size: u64) -> Result<Option<Typ
     Ok(made)
 }
 
-/// The code of the size of an object with an initialiser, where that gives an array such a size: 31 where it
-/// has more elements than an array may have. It stands at the declared name.
+/// The code of the size of an object with an initialiser, where that gives an array such a size:
+/// `Code::VariableArray` where it has more elements than an array may have. It stands at the declared name.
 pub fn given_code(types: &TypeTable, t: TypeId, size: u64) -> Option<Code>
     requires { IsKnown types.now t }
     ensures { (init : Init) → GivesSize init (meaning types.now t) size →

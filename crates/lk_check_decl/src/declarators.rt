@@ -32,7 +32,7 @@ fn has_dots(types: &TypeTable, t: TypeId) -> bool
     }
 }
 
-/// The code of `* declarator`: 40 of a pointer to a function with `...`.
+/// The code of `* declarator`: `Code::OwnVararg` of a pointer to a function with `...`.
 pub fn pointer_code(types: &TypeTable, target: Option<TypeId>) -> Option<Code>
     requires { IfSome target (IsKnown types.now) }
     ensures { result ≡ told (spec.pointer_rules (option_map (meaning types.now) target)) }
@@ -43,7 +43,7 @@ pub fn pointer_code(types: &TypeTable, target: Option<TypeId>) -> Option<Code>
     }
 }
 
-/// The code of a function's definition: 40 where it has `...`.
+/// The code of a function's definition: `Code::OwnVararg` where it has `...`.
 pub fn definition_code(types: &TypeTable, t: Option<TypeId>) -> Option<Code>
     requires { IfSome t (IsKnown types.now) }
     ensures { result ≡ told (definition_rules (option_map (meaning types.now) t)) }
@@ -68,8 +68,9 @@ fn returned_code(types: &TypeTable, t: TypeId) -> Option<Code>
     }
 }
 
-/// The code of `declarator(parameters)`: 22 where it returns a function or an array (C99 6.7.5.3, 1), 41
-/// where it returns a struct, 45 where it returns a mutex or a condition variable.
+/// The code of `declarator(parameters)`: `Code::Mismatch` where it returns a function or an array
+/// (C99 6.7.5.3, 1), `Code::StructValue` where it returns a struct, `Code::MutexValue` where it returns a
+/// mutex or a condition variable.
 pub fn function_code(types: &TypeTable, returned: Option<TypeId>) -> Option<Code>
     requires { IfSome returned (IsKnown types.now) }
     ensures { result ≡ told (spec.function_rules (option_map (meaning types.now) returned)) }
@@ -98,8 +99,9 @@ fn passed_code(types: &TypeTable, is_named: bool, t: TypeId) -> Option<Code>
     }
 }
 
-/// The code of a parameter by its type as it is written: 40 of a function with `...`, 41 of a struct, 45 of a
-/// mutex or a condition variable, and 25 of `void` where it has no name; with a name 25 stands at that.
+/// The code of a parameter by its type as it is written: `Code::OwnVararg` of a function with `...`,
+/// `Code::StructValue` of a struct, `Code::MutexValue` of a mutex or a condition variable, and
+/// `Code::Incomplete` of `void` where it has no name; with a name, `Code::Incomplete` stands at that.
 /// `(void)` alone breaks no rule (C99 6.7.5.3, 10).
 pub fn parameter_code(
     types: &TypeTable,
@@ -120,7 +122,7 @@ pub fn parameter_code(
     }
 }
 
-/// The code at the name of a parameter: 25 where its type is `void`.
+/// The code at the name of a parameter: `Code::Incomplete` where its type is `void`.
 pub fn parameter_name_code(types: &TypeTable, t: Option<TypeId>) -> Option<Code>
     requires { IfSome t (IsKnown types.now) }
     ensures { result ≡ told (spec.of_type (option_map (meaning types.now) t) void_rules) }

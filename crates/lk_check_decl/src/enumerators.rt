@@ -19,7 +19,7 @@ fn in_int(value: i128) -> Option<i32>
 }
 
 /// The value of an enumerator that is written as an expression, by what that is as an integer constant
-/// expression; nothing where a fault stands in it, or code 24 holds at the enumerator.
+/// expression; nothing where a fault stands in it, or `Code::NotConstant` holds at the enumerator.
 pub fn written_value(value: Option<Constant>) -> Option<i32>
     ensures { result ≡ written_value value }
 {
@@ -29,7 +29,8 @@ pub fn written_value(value: Option<Constant>) -> Option<i32>
     }
 }
 
-/// The code of an enumerator with such a value: 24 where it isn't constant, or `int` doesn't hold it.
+/// The code of an enumerator with such a value: `Code::NotConstant` where it isn't constant, or `int` doesn't
+/// hold it.
 pub fn written_code(value: Option<Constant>) -> Option<Code>
     ensures { result ≡ told (spec.written_rules value) }
 {
@@ -51,7 +52,7 @@ pub fn next_value(before: Option<i32>) -> Option<i32>
     }
 }
 
-/// The code of an enumerator without an expression: 24 where `int` doesn't hold its value.
+/// The code of an enumerator without an expression: `Code::NotConstant` where `int` doesn't hold its value.
 pub fn next_code(before: Option<i32>) -> Option<Code>
     ensures { result ≡ told (spec.counted_rules before) }
 {

@@ -96,7 +96,8 @@ fn is_character_type(types: &TypeTable, t: TypeId) -> bool
     }
 }
 
-/// The code where braces are missing: 27 round something inner, else that of the outermost object.
+/// The code where braces are missing: `Code::BadInitialiser` round something inner, else that of the
+/// outermost object.
 fn without_braces(target: &Target, outermost: Code) -> Option<Code>
     ensures { result ≡ told
         (if target.now.is_inner then breach BadInitialiser ∷ [] else breach outermost ∷ []) }
@@ -107,7 +108,8 @@ fn without_braces(target: &Target, outermost: Code) -> Option<Code>
     Some(outermost)
 }
 
-/// The code of an expression that initialises a struct: 41 of a struct's value, 22 of any other one.
+/// The code of an expression that initialises a struct: `Code::StructValue` of a struct's value,
+/// `Code::Mismatch` of any other one; `Code::BadInitialiser` where the struct is itself inside braces.
 fn struct_code(types: &TypeTable, target: &Target, seen: &Seen) -> Option<Code>
     requires { IsKnownType types.now seen.now.ty }
     ensures { (x : spec.Seen) → IsSeen types.now seen.now x →
@@ -160,8 +162,8 @@ fn is_word_of(types: &TypeTable, lock: TypeId, word: Option<TypeId>) -> bool
     }
 }
 
-/// The code of an expression that initialises a mutex or a condition variable: 45 unless it is the word for
-/// its type (POSIX, `pthread_mutex_init`).
+/// The code of an expression that initialises a mutex or a condition variable: `Code::MutexValue` unless it
+/// is the word for its type (POSIX, `pthread_mutex_init`).
 fn lock_code(types: &TypeTable, target: &Target, seen: &Seen) -> Option<Code>
     requires target { IsKnown types.now target.now.ty }
     requires seen { IsKnownSeen types.now seen.now }
@@ -171,7 +173,8 @@ fn lock_code(types: &TypeTable, target: &Target, seen: &Seen) -> Option<Code>
     unless(is_word_of(types, target.ty, seen.word), Code::MutexValue)
 }
 
-/// The code of an expression by what constant it is: 24 of a static object where it is none (C99 6.7.8, 4).
+/// The code of an expression by what constant it is: `Code::NotConstant` of a static object where it is none
+/// (C99 6.7.8, 4).
 fn constant_code(target: &Target, seen: &Seen) -> Option<Code>
     ensures { result ≡ told (spec_unless
         (not target.now.is_static || seen.now.is_constant) NotConstant) }
@@ -184,7 +187,7 @@ fn constant_code(target: &Target, seen: &Seen) -> Option<Code>
 }
 
 /// The code of an expression that initialises an object which holds a value: that of the conversion
-/// (C99 6.7.8, 11), and 24 of a static object where it isn't constant (6.7.8, 4).
+/// (C99 6.7.8, 11), and `Code::NotConstant` of a static object where it isn't constant (6.7.8, 4).
 fn scalar_code(target: &Target, seen: &Seen) -> Option<Code>
     ensures { (table : Table) (x : spec.Seen) → IsSeen table seen.now x →
         result ≡ told (spec.scalar_rules (object_in table target.now) x) }
@@ -260,8 +263,8 @@ fn field_count(structs: &[Members], s: u32) -> usize
     fields_of(structs, s).len()
 }
 
-/// The code of so many entries: 27 where they are more than what is initialised has parts (C99 6.7.8, 2). An
-/// array without a size has as many as its list.
+/// The code of so many entries: `Code::BadInitialiser` where they are more than what is initialised has parts
+/// (C99 6.7.8, 2). An array without a size has as many as its list.
 fn count_code(entries: u32, count: u64) -> Option<Code>
     ensures { result ≡ told (spec.count_rules entries count) }
 {
@@ -271,8 +274,8 @@ fn count_code(entries: u32, count: u64) -> Option<Code>
     )
 }
 
-/// The code of a list in braces by what it initialises: 27 round a scalar, a mutex or a condition variable,
-/// or where it has too many entries.
+/// The code of a list in braces by what it initialises: `Code::BadInitialiser` round a scalar, a mutex or a
+/// condition variable, or where it has too many entries.
 fn listed_code(types: &TypeTable, structs: &[Members], braces: Braces, t: TypeId) -> Option<Code>
     requires { IsKnown types.now t }
     ensures { (env : Env) → env.structs ≡ structs_in types.now structs.now → result
@@ -294,8 +297,8 @@ fn listed_code(types: &TypeTable, structs: &[Members], braces: Braces, t: TypeId
     }
 }
 
-/// The code of a list in braces: 27 where an entry has a designator, where it stands round a scalar, a mutex
-/// or a condition variable, or where it has too many entries.
+/// The code of a list in braces: `Code::BadInitialiser` where an entry has a designator, where it stands
+/// round a scalar, a mutex or a condition variable, or where it has too many entries.
 pub fn list_code(
     types: &TypeTable,
     structs: &[Members],
@@ -407,8 +410,8 @@ pub fn list_size(types: &TypeTable, element: TypeId, braces: Braces) -> u64
     }
 }
 
-/// The code of a size that an initialiser gives: 31 where it is more than an array may have. It
-/// stands at the declared name.
+/// The code of a size that an initialiser gives: `Code::VariableArray` where it is more than an array may
+/// have. It stands at the declared name.
 #[tactic(auto, unfolding(lk_typed::specs::DeclaratorRules::most_elements))]
 pub fn size_code(size: u64) -> Option<Code>
     ensures { result ≡ told (spec.given_rules size) }

@@ -1,5 +1,5 @@
-//! Types that declarators make (C99 6.7.5). A type over one of the bounds of the language
-//! isn't made: code 32 holds there.
+//! Types that declarators make (C99 6.7.5). A type over one of the bounds of the language isn't made:
+//! `Code::LargeType` holds there.
 ghost use Rattle.std.specs.Prelude.{◌≡◌, ◌∷◌, ◌*◌, ◌<◌, ◌^◌, All, OnErr, IfOk, IfSome};
 ghost use Rattle.lk_types.specs.Building.{IsForm, IsLonger, IsPartOfObjects, IsPassed};
 ghost use Rattle.lk_types.specs.Table.{IsKnown};

@@ -19,8 +19,8 @@ use lk_tree::MemberDeclarator;
 use lk_typed::{Members, is_complete, lesser};
 use lk_types::{TypeId, TypeSize, TypeTable};
 
-/// The code of a member's name: 21 where the struct has one before it, 25 where its type is incomplete,
-/// `void` or a function (C99 6.7.2.1, 2). `before` are the members before it.
+/// The code of a member's name: `Code::Redeclared` where the struct has one before it, `Code::Incomplete`
+/// where its type is incomplete, `void` or a function (C99 6.7.2.1, 2). `before` are the members before it.
 pub fn member_code(
     types: &TypeTable,
     structs: &[Members],
@@ -37,9 +37,9 @@ pub fn member_code(
     lesser(again, incomplete)
 }
 
-/// The size of a struct with one more member, or nothing exactly where code 32 holds at the
-/// member's declarator. `size` is that of the struct with the members before it,
-/// `TypeSize::START` where there are none.
+/// The size of a struct with one more member, or nothing exactly where `Code::LargeType` holds at the
+/// member's declarator. `size` is that of the struct with the members before it, `TypeSize::START` where
+/// there are none.
 pub fn with_member(types: &TypeTable, size: TypeSize, t: TypeId) -> Option<TypeSize>
     requires known { IsKnown types.now t }
     requires small { is_too_large size ≡ false }
@@ -60,7 +60,8 @@ fn is_bit_field(declarator: &MemberDeclarator) -> bool
     }
 }
 
-/// Whether one of a member's declarators is a bit-field, which is code 30 at the member (C99 6.7.2.1, 8).
+/// Whether one of a member's declarators is a bit-field, which is `Code::BitField` at the member
+/// (C99 6.7.2.1, 8).
 pub fn has_bit_field(declarators: &[MemberDeclarator]) -> bool
     ensures { result ≡ has_bit_field declarators.now }
 {

@@ -1,5 +1,5 @@
-//! The rules of a declared name besides code 21: what may be given to it, where its type must be complete,
-//! and `main` (C99 5.1.2.2.1, 6.7, 6.7.1, 6.7.8, 6.9.2).
+//! The rules of a declared name besides `Code::Redeclared`: what may be given to it, where its type must be
+//! complete, and `main` (C99 5.1.2.2.1, 6.7, 6.7.1, 6.7.8, 6.9.2).
 ghost use Rattle.std.specs.Prelude.{◌≡◌, All, IfSome, map, if◌then◌else◌};
 ghost use Rattle.std.specs.Option.{option_map};
 ghost use Rattle.lk_types.specs.Table.{IsKnown};
@@ -216,7 +216,8 @@ fn has_size_later(types: &TypeTable, name: &NameUse) -> bool
     }
 }
 
-/// The code of what is declared: 22 where an initialiser, `static` or the type of `main` can't stand there.
+/// The code of what is declared: `Code::Mismatch` where an initialiser, `static` or the type of `main` can't
+/// stand there.
 pub fn use_code(
     types: &TypeTable,
     words: &[Storage],
@@ -234,9 +235,9 @@ pub fn use_code(
     unless(may_stand, Code::Mismatch)
 }
 
-/// The code of an object that is declared: 25 where its type isn't complete, though its storage
-/// is here. `structs` are those at the end of the source where `waits_for_end` says so, else
-/// those where the name is declared.
+/// The code of an object that is declared: `Code::Incomplete` where its type isn't complete, though its
+/// storage is here. `structs` are those at the end of the source where `waits_for_end` says so, else those
+/// where the name is declared.
 pub fn object_code(
     types: &TypeTable,
     structs: &[Members],
@@ -253,7 +254,7 @@ pub fn object_code(
     unless(is_fit, Code::Incomplete)
 }
 
-/// The code of a declared name besides 21: the lesser of `use_code` and `object_code`.
+/// The code of a declared name besides `Code::Redeclared`: the lesser of `use_code` and `object_code`.
 /// `structs` are those of `object_code`.
 pub fn named_code(
     types: &TypeTable,

@@ -13,8 +13,8 @@ use lk_base::Code;
 use lk_typed::{ExprType, is_integer, is_lock, is_pointer, is_void};
 use lk_types::{TypeId, TypeTable};
 
-/// The code of a controlling expression: 45 of a mutex or condition variable, 22 of what is neither an
-/// integer nor a pointer (C99 6.8.4.1, 1; 6.8.5, 2).
+/// The code of a controlling expression: `Code::MutexValue` of a mutex or condition variable,
+/// `Code::Mismatch` of what is neither an integer nor a pointer (C99 6.8.4.1, 1; 6.8.5, 2).
 pub fn condition_code(types: &TypeTable, value: Option<ExprType>) -> Option<Code>
     requires { IfSome value (IsKnownType types.now) }
     ensures { result ≡ told (spec.condition_rules (option_map (meaning_of types.now) value)) }
@@ -34,8 +34,8 @@ pub fn condition_code(types: &TypeTable, value: Option<ExprType>) -> Option<Code
     }
 }
 
-/// The code of the value of a `switch`: 45 of a mutex or condition variable, 22 of what is
-/// no integer (C99 6.8.4.2, 1).
+/// The code of the value of a `switch`: `Code::MutexValue` of a mutex or condition variable, `Code::Mismatch`
+/// of what is no integer (C99 6.8.4.2, 1).
 pub fn switch_code(types: &TypeTable, value: Option<ExprType>) -> Option<Code>
     requires { IfSome value (IsKnownType types.now) }
     ensures { result ≡ told (spec.switch_rules (option_map (meaning_of types.now) value)) }
@@ -52,8 +52,8 @@ pub fn switch_code(types: &TypeTable, value: Option<ExprType>) -> Option<Code>
     }
 }
 
-/// The code of an expression whose value is dropped, as that of an expression statement
-/// (C99 6.8.3, 6.8.5.3): 45 of a mutex or condition variable.
+/// The code of an expression whose value is dropped, as that of an expression statement (C99 6.8.3, 6.8.5.3):
+/// `Code::MutexValue` of a mutex or condition variable.
 pub fn dropped_code(types: &TypeTable, value: Option<ExprType>) -> Option<Code>
     requires { IfSome value (IsKnownType types.now) }
     ensures { result ≡ told (spec.dropped_rules (option_map (meaning_of types.now) value)) }
@@ -64,7 +64,7 @@ pub fn dropped_code(types: &TypeTable, value: Option<ExprType>) -> Option<Code>
     }
 }
 
-/// The code of `return;`: 22 where the function's result isn't `void` (C99 6.8.6.4, 1).
+/// The code of `return;`: `Code::Mismatch` where the function's result isn't `void` (C99 6.8.6.4, 1).
 pub fn return_code(types: &TypeTable, returned: Option<TypeId>) -> Option<Code>
     requires { IfSome returned (IsKnown types.now) }
     ensures { result ≡ told (spec.return_rules (option_map (meaning types.now) returned) spec.Nothing) }
@@ -75,8 +75,8 @@ pub fn return_code(types: &TypeTable, returned: Option<TypeId>) -> Option<Code>
     }
 }
 
-/// The code of a `return` with a value: 22 where the function's result is `void` (C99 6.8.6.4, 1), else that
-/// of the value's conversion to it, which `convert_code` tells.
+/// The code of a `return` with a value: `Code::Mismatch` where the function's result is `void`
+/// (C99 6.8.6.4, 1), else that of the value's conversion to it, which `convert_code` tells.
 pub fn return_value_code(
     types: &TypeTable,
     returned: Option<TypeId>,

@@ -85,8 +85,8 @@ pub fn may_have(holder: Holder, words: &[Storage]) -> bool
     }
 }
 
-/// The code of specifiers: 22 where their words and types together name no type (C99 6.7.2, 2), or where a
-/// storage class can't stand there.
+/// The code of specifiers: `Code::Mismatch` where their words and types together name no type (C99 6.7.2, 2),
+/// or where a storage class can't stand there.
 pub fn specifier_code(holder: Holder, words: &[Storage], names_type: bool) -> Option<Code>
     ensures { (found : SpecifierTold) → found.storages ≡ words.now →
         is_some (named_type found.words found.types) ≡ names_type →

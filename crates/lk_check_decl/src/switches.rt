@@ -1,4 +1,5 @@
-//! The rules of `break`, `continue` and cases: code 26, and 24 of a case (C99 6.8.1, 6.8.4.2, 6.8.6).
+//! The rules of `break`, `continue` and cases: `Code::BadLabel`, and `Code::NotConstant` of a case
+//! (C99 6.8.1, 6.8.4.2, 6.8.6).
 ghost use Rattle.std.specs.Prelude.{◌≡◌, ◌||◌, Some, option_copied};
 ghost use Rattle.std.specs.Option.{option_map};
 ghost use Rattle.lk_typed.specs.StatementRules as spec;
@@ -24,7 +25,7 @@ pub struct Switch {
     pub has_default: bool,
 }
 
-/// The code of `break;`: 26 outside a loop and a `switch` (C99 6.8.6.3, 1).
+/// The code of `break;`: `Code::BadLabel` outside a loop and a `switch` (C99 6.8.6.3, 1).
 pub fn break_code(in_loop: bool, in_switch: bool) -> Option<Code>
     ensures { (around : Around) → around.in_loop ≡ in_loop → spec.in_switch around ≡ in_switch →
         result ≡ told (spec.break_rules around) }
@@ -32,7 +33,7 @@ pub fn break_code(in_loop: bool, in_switch: bool) -> Option<Code>
     unless(in_loop || in_switch, Code::BadLabel)
 }
 
-/// The code of `continue;`: 26 outside a loop (C99 6.8.6.2, 1).
+/// The code of `continue;`: `Code::BadLabel` outside a loop (C99 6.8.6.2, 1).
 pub fn continue_code(in_loop: bool) -> Option<Code>
     ensures { (around : Around) → around.in_loop ≡ in_loop → result ≡ told (spec.continue_rules around) }
 {
@@ -53,8 +54,8 @@ pub fn case_value(kind: Option<Kind>, value: Option<Constant>) -> Option<i128>
     }
 }
 
-/// The code of a case by the `switch` round it: 26 where there is none, or where an earlier case has its
-/// value (C99 6.8.1, 2; 6.8.4.2, 3).
+/// The code of a case by the `switch` round it: `Code::BadLabel` where there is none, or where an earlier
+/// case has its value (C99 6.8.1, 2; 6.8.4.2, 3).
 fn place_code(switch: Option<&Switch>, value: Option<Constant>) -> Option<Code>
     ensures { result ≡ told (spec.place_rules (option_map switch_of (option_copied switch.entry)) value) }
 {
@@ -67,7 +68,7 @@ fn place_code(switch: Option<&Switch>, value: Option<Constant>) -> Option<Code>
     }
 }
 
-/// The code of the value of a case: 24 where it isn't constant (C99 6.8.4.2, 3).
+/// The code of the value of a case: `Code::NotConstant` where it isn't constant (C99 6.8.4.2, 3).
 fn constant_code(value: Option<Constant>) -> Option<Code>
     ensures { result ≡ told (spec.constant_rules value) }
 {
@@ -77,8 +78,9 @@ fn constant_code(value: Option<Constant>) -> Option<Code>
     }
 }
 
-/// The code of `case value:`: 24 where its value isn't constant; 26 outside a `switch`, or where an earlier
-/// case of it has its value. `switch` is the innermost one round it, as far as it stands before the case.
+/// The code of `case value:`: `Code::NotConstant` where its value isn't constant; `Code::BadLabel` outside a
+/// `switch`, or where an earlier case of it has its value. `switch` is the innermost one round it, as far as
+/// it stands before the case.
 pub fn case_code(switch: Option<&Switch>, value: Option<Constant>) -> Option<Code>
     ensures { (around : Around) → around.switch ≡ option_map switch_of (option_copied switch.entry) →
         result ≡ told (spec.case_rules around value) }
@@ -88,8 +90,8 @@ pub fn case_code(switch: Option<&Switch>, value: Option<Constant>) -> Option<Cod
     lesser(constant, place)
 }
 
-/// The code of `default:`: 26 outside a `switch`, or where that has an earlier
-/// one (C99 6.8.1, 2; 6.8.4.2, 3).
+/// The code of `default:`: `Code::BadLabel` outside a `switch`, or where that has an earlier one
+/// (C99 6.8.1, 2; 6.8.4.2, 3).
 pub fn default_code(switch: Option<&Switch>) -> Option<Code>
     ensures { (around : Around) → around.switch ≡ option_map switch_of (option_copied switch.entry) →
         result ≡ told (spec.default_rules around) }

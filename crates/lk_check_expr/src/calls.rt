@@ -92,7 +92,8 @@ fn given_code(types: &TypeTable, target: &ExprType, e: &Typed) -> Option<Code>
     convert_code(types, target, &v)
 }
 
-/// The code of an argument that nothing converts: 41 for a struct, 45 for a mutex or condition variable.
+/// The code of an argument that nothing converts: `Code::StructValue` for a struct, `Code::MutexValue` for a
+/// mutex or condition variable.
 fn whole_code(types: &TypeTable, ty: &ExprType) -> Option<Code>
     requires { IsKnownType types.now ty.now }
     ensures { result ≡ least_code (spec.passed_whole_codes (meaning_of types.now ty.now)) }
@@ -248,7 +249,7 @@ fn argument_at(arguments: &[Argument], index: usize) -> Option<Argument>
     arguments.get(index).copied()
 }
 
-/// The code of a format: 22 for one that may lead to `%n`, and for what is no text.
+/// The code of a format: `Code::Mismatch` for one that may lead to `%n`, and for what is no text.
 fn format_code(arguments: &[Argument]) -> Option<Code>
     ensures { (table : Table) (env : Env) (xs : List spec.Argument) → AreArguments table env arguments.now xs →
         result ≡ least_code (spec.asked env.role rows.AFormat xs) }
@@ -259,7 +260,7 @@ fn format_code(arguments: &[Argument]) -> Option<Code>
     }
 }
 
-/// The code of the size that `malloc` is given: 47 for another shape.
+/// The code of the size that `malloc` is given: `Code::AllocShape` for another shape.
 fn size_code(counts_bytes: bool, arguments: &[Argument]) -> Option<Code>
     ensures { (table : Table) (env : Env) (xs : List spec.Argument) →
         spec.counts_bytes env.role ≡ counts_bytes →
@@ -274,7 +275,7 @@ fn size_code(counts_bytes: bool, arguments: &[Argument]) -> Option<Code>
     }
 }
 
-/// The code of the size of an element that `calloc` is given: 47 for what is no `sizeof`.
+/// The code of the size of an element that `calloc` is given: `Code::AllocShape` for what is no `sizeof`.
 fn element_code(arguments: &[Argument]) -> Option<Code>
     ensures { (table : Table) (env : Env) (xs : List spec.Argument) → AreArguments table env arguments.now xs →
         result ≡ least_code (spec.asked env.role rows.AnElementSize xs) }
@@ -285,7 +286,8 @@ fn element_code(arguments: &[Argument]) -> Option<Code>
     }
 }
 
-/// The code of what a call asks beside its arguments: 22 of a format, 47 of the size of an allocation.
+/// The code of what a call asks beside its arguments: `Code::Mismatch` of a format, `Code::AllocShape` of the
+/// size of an allocation.
 fn asked_code(asks: Asks, counts_bytes: bool, arguments: &[Argument]) -> Option<Code>
     ensures { (table : Table) (env : Env) (xs : List spec.Argument) →
         spec.counts_bytes env.role ≡ counts_bytes →
@@ -321,8 +323,8 @@ fn asks_of(called: Option<LibraryFunction>) -> Asks
     }
 }
 
-/// The code of an operand that is no pointer to a function but has to be one: 45 for a mutex or
-/// condition variable, else 22.
+/// The code of an operand that is no pointer to a function but has to be one: `Code::MutexValue` for a mutex
+/// or condition variable, else `Code::Mismatch`.
 fn no_function_code(types: &TypeTable, ty: &ExprType) -> Code
     requires { IsKnownType types.now ty.now }
     ensures { is_function_pointer (meaning_of types.now ty.now) ≡ false →

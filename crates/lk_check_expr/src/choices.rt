@@ -82,8 +82,8 @@ fn chosen_other(types: &TypeTable, a: &Typed, b: &Typed) -> Option<Typed>
     either(line_1, from_2)
 }
 
-/// The code of the arms of `?:`: 45 for one that is a mutex or condition variable,
-/// else 22 where no line takes them.
+/// The code of the arms of `?:`: `Code::MutexValue` for one that is a mutex or condition variable, else
+/// `Code::Mismatch` where no line takes them.
 fn arm_code(has_lock: bool, taken: bool) -> Option<Code>
     ensures { result ≡ arm_code has_lock taken }
 {

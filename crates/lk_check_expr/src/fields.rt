@@ -89,8 +89,8 @@ pub fn dot(types: &TypeTable, structs: &[Members], e: &Typed, name: &Name) -> Ve
     }
 }
 
-/// The code of `->` at a pointer to what is no struct: 25 where that is an incomplete
-/// type other than `void`, else 22.
+/// The code of `->` at a pointer to what is no struct: `Code::Incomplete` where that is an incomplete type
+/// other than `void` and no function, else `Code::Mismatch`.
 fn other_target_code(types: &TypeTable, structs: &[Members], target: TypeId) -> Code
     requires { IsKnown types.now target }
     ensures { result ≡ other_target_code (structs_in types.now structs.now) (meaning types.now target) }
@@ -116,8 +116,8 @@ fn arrow_target(types: &TypeTable, structs: &[Members], target: TypeId, name: &N
     }
 }
 
-/// The code of an operand that is no pointer but has to be one: 45 for a mutex or
-/// condition variable, else 22.
+/// The code of an operand that is no pointer but has to be one: `Code::MutexValue` for a mutex or condition
+/// variable, else `Code::Mismatch`.
 fn no_pointer_code(types: &TypeTable, ty: &ExprType) -> Code
     requires { IsKnownType types.now ty.now }
     ensures { is_pointer (meaning_of types.now ty.now) ≡ false →

@@ -196,8 +196,8 @@ fn is_unknown(types: &TypeTable, name: &Name, used: &NameUse, t: TypeId) -> bool
     is_extern(name, used) && !gives_nothing_or_integer(types, t)
 }
 
-/// The code of the name of a function: 48 for `main`; 22 for a library or extern function that isn't
-/// called; 43 for an extern function of another result.
+/// The code of the name of a function: `Code::CallsMain` for `main`; `Code::Mismatch` for a library or extern
+/// function that isn't called; `Code::UnknownExternal` for an extern function of another result.
 fn function_code(types: &TypeTable, name: &Name, used: &NameUse, t: TypeId) -> Option<Code>
     requires { IsKnown types.now t }
     ensures { (env : Env) → IsUse types.now env name.now used.now →
@@ -221,7 +221,7 @@ fn function_named(t: TypeId) -> Typed
     Typed::of_type(ExprType::Listed(t))
 }
 
-/// What is no expression: 22, unless the name is refused by a lesser code.
+/// What is no expression: `Code::Mismatch`, unless the name is refused by a lesser code.
 fn no_expression(refused: Option<Code>) -> Verdict
     ensures { result ≡ told_by_row (told.lesser (Some Mismatch) refused) None }
 {
@@ -239,7 +239,7 @@ fn silent_unless(refused: Option<Code>) -> Verdict
     }
 }
 
-/// 20, unless the name is refused.
+/// `Code::Undeclared`, unless the name is refused.
 fn undeclared_unless(refused: Option<Code>) -> Verdict
     ensures { result ≡ told_undeclared refused }
 {

@@ -101,7 +101,7 @@ fn written(
     })
 }
 
-/// Keeps code 21 of a name.
+/// Keeps `Code::Redeclared` of a name that may not be declared here.
 fn keep_redeclared(
     checker: &mut Checker,
     named: &DeclaredName<'_>,
@@ -119,7 +119,7 @@ fn keep_redeclared(
     checker.keep_named(named.at, again, named.name)
 }
 
-/// Keeps code 22 of a declared name.
+/// Keeps `Code::Mismatch` of a declared name.
 fn keep_use(
     checker: &mut Checker,
     words: &[Storage],
@@ -137,7 +137,7 @@ fn keep_use(
     checker.keep(named.at, code)
 }
 
-/// Keeps code 25 of a declared name, whose type is to be complete where it is declared.
+/// Keeps `Code::Incomplete` of a declared name, whose type is to be complete where it is declared.
 fn keep_object(
     checker: &mut Checker,
     words: &[Storage],
@@ -176,7 +176,8 @@ fn waiting(types: &TypeTable, words: &[Storage], at: At, ty: TypeId) -> Option<P
     }
 }
 
-/// Keeps code 25 of a name that is given nothing, or tells what is to be asked at the end of the source.
+/// Keeps `Code::Incomplete` of a name that is given nothing, or tells what is to be asked at the end of the
+/// source.
 fn keep_bare(
     checker: &mut Checker,
     words: &[Storage],
@@ -197,7 +198,7 @@ fn keep_bare(
     Ok(None)
 }
 
-/// Keeps code 25 of a declared name, or tells what is to be asked at the end of the source.
+/// Keeps `Code::Incomplete` of a declared name, or tells what is to be asked at the end of the source.
 fn keep_complete(
     checker: &mut Checker,
     words: &[Storage],
@@ -284,7 +285,7 @@ fn size_of(types: &TypeTable, t: TypeId, init: &Init) -> Result<u64, NoMemory>
     }
 }
 
-/// Keeps code 31 of a declared name.
+/// Keeps `Code::VariableArray` of a declared name.
 fn keep_size(
     checker: &mut Checker,
     at: At,

@@ -76,7 +76,7 @@ fn result_of(types: &TypeTable, t: &Option<TypeId>) -> Option<TypeId>
     }
 }
 
-/// Keeps code 40 of a definition.
+/// Keeps `Code::OwnVararg` of a definition.
 fn keep_dots(checker: &mut Checker, at: At, t: &Option<TypeId>) -> Result<(), NoMemory>
     requires { IfSome t.now (IsKnown checker.old.types) }
     ensures kept { OnOk result (KeepsAt checker.old checker.new at

@@ -39,7 +39,7 @@ fn plain(name: &Name, meaning: Meaning, ordinal: u32) -> Result<Declared, NoMemo
 }
 
 impl Checker {
-    /// The code of a name without linkage: 21 where it may not be declared here.
+    /// The code of a name without linkage: `Code::Redeclared` where it may not be declared here.
     fn name_code(&self, name: &Name, meaning: Meaning) -> Result<Option<Code>, NoMemory>
         requires sound { IsSound self.now }
         requires meaning { IsKnownMeaning self.now.types meaning }

@@ -9,7 +9,7 @@ use crate::checker::Checker;
 use lk_base::{Code, NoMemory};
 use lk_found::{At, Breach};
 
-/// 30, where there is a bit-field.
+/// `Code::BitField`, where there is a bit-field.
 fn bit_field_code(has_bit_field: bool) -> Option<Code>
     ensures { result ≡ (if has_bit_field then Some codes.BitField else None) }
 {
@@ -44,8 +44,8 @@ impl Checker {
         Ok(())
     }
 
-    /// Keeps the codes of a member: those of its specifiers, and 30 of a bit-field;
-    /// none where a width has no type.
+    /// Keeps the codes of a member: those of its specifiers, and `Code::BitField` of a bit-field; none where
+    /// a width has no type.
     pub fn keep_member(
         &mut self,
         at: At,

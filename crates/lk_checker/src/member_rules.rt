@@ -42,7 +42,7 @@ fn size_if(is_free: bool, larger: Option<TypeSize>) -> Option<TypeSize>
     if is_free { larger } else { None }
 }
 
-/// 32, where there is no size.
+/// `Code::LargeType`, where there is no size.
 fn size_code(larger: Option<TypeSize>) -> Option<Code>
     ensures { result ≡ (if is_some larger then None else Some codes.LargeType) }
 {
@@ -53,7 +53,7 @@ fn size_code(larger: Option<TypeSize>) -> Option<Code>
 }
 
 impl Checker {
-    /// Keeps a code of a member, where there is one: 21 tells its name.
+    /// Keeps a code of a member, where there is one: `Code::Redeclared` tells its name.
     fn keep_member_code(&mut self, at: At, code: Option<Code>, name: &Name) -> Result<(), NoMemory>
         ensures { OnOk result (Tells self.old self.new at (option_map (member_breach name.now) code)) }
     {
@@ -69,7 +69,7 @@ impl Checker {
         }
     }
 
-    /// Keeps the code of a member's name behind these fields: 21 or 25. The
+    /// Keeps the code of a member's name behind these fields: `Code::Redeclared` or `Code::Incomplete`. The
     /// answer says whether there is none.
     fn keep_member_name(
         &mut self,
@@ -113,8 +113,8 @@ impl Checker {
         }
     }
 
-    /// Keeps the code of a struct with one more member: 32. The answer is how
-    /// large it is, where there is none.
+    /// Keeps the code of a struct with one more member: `Code::LargeType`. The answer is how large it is,
+    /// where there is none.
     fn keep_member_size(
         &mut self,
         at: At,

@@ -31,7 +31,7 @@ use lk_types::TypeId;
 struct AtName {
     /// What the name would stand for.
     meaning: Meaning,
-    /// 25, where that is of type `void`.
+    /// `Code::Incomplete`, where that is of type `void`.
     code: Option<Code>,
 }
 
@@ -64,7 +64,7 @@ fn unless(holds: bool, code: Option<Code>) -> Option<Code>
     if holds { None } else { code }
 }
 
-/// 32, where a type is missing because it is over a bound.
+/// `Code::LargeType`, where a type is missing because it is over a bound.
 fn missing_code(is_made: bool) -> Option<Code>
     ensures { result ≡ (if is_made then None else Some codes.LargeType) }
 {
@@ -97,7 +97,8 @@ impl Checker {
         }
     }
 
-    /// Keeps the codes at the name of a parameter: 21, and 25 of `void`.
+    /// Keeps the codes at the name of a parameter: `Code::Redeclared` where it may not be declared here, and
+    /// `Code::Incomplete` of `void`.
     fn keep_at_name(&mut self, at: At, name: &Name, t: &Option<TypeId>) -> Result<(), NoMemory>
         requires sound { IsSound self.old }
         requires known { IfSome t.now (IsKnown self.old.types) }

@@ -99,7 +99,8 @@ impl Checker {
         }
     }
 
-    /// The type of a declarator whose forms were walked; their codes are kept, and 32 of it.
+    /// The type of a declarator whose forms were walked; their codes are kept, and `Code::LargeType` of it
+    /// where it is over a bound.
     pub fn shape_whole(
         &mut self,
         d: &Declarator,

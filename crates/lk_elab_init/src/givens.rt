@@ -45,7 +45,8 @@ pub struct PartGiven<'a> {
     pub begins: Beginning<'a>,
 }
 
-/// The bytes of the literal that an expression is. What initialises an array without braces is one (27).
+/// The bytes of the literal that an expression is. What initialises an array without braces is one: any other
+/// expression is refused with `Code::Mismatch`, or inside braces with `Code::BadInitialiser`.
 fn bytes_in(e: &Expr) -> Result<&[u8], NoMemory>
     ensures { IfOk result (λ bytes. written e.now ≡ AText bytes.now) }
 {

@@ -121,8 +121,8 @@ fn element_part(element: TypeId, count: u64, number: u32) -> Result<ObjectPart, 
     }
 }
 
-/// The part of an object that the entry with this number of its list initialises
-/// (C99 6.7.8, 17). Each entry has one (27).
+/// The part of an object that the entry with this number of its list initialises (C99 6.7.8, 17). Each entry
+/// has one: a source with more is refused with `Code::BadInitialiser`.
 pub(crate) fn part_at(types: &TypeTable, t: TypeId, number: u32) -> Result<ObjectPart, NoMemory>
     ensures known { OnOk result (IsKnown types.now t) }
     ensures step { IfOk result (λ part. step_to (meaning types.now t) number ≡ Some part.step) }

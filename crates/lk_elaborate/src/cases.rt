@@ -39,7 +39,8 @@ fn case_with(value: i128, ordinal: u32) -> SwitchCase
 }
 
 /// A case with this number: its value is converted to the promoted type of the `switch`'s value
-/// (C99 6.8.4.2, 5). A value is known (24), and so is the type.
+/// (C99 6.8.4.2, 5). The value and the type are known: a value that is no constant is refused with
+/// `Code::NotConstant`.
 fn case_of(
     walk: &Elaborator,
     kind: Option<Kind>,

@@ -73,7 +73,8 @@ fn truth(walk: &Elaborator, e: &Expr) -> Result<i128, NoMemory>
     truth_of(&address)
 }
 
-/// What an integer of a kind begins with that is no constant: an address, as a `_Bool` (24, 34).
+/// What an integer of a kind begins with that is no constant: an address, as a `_Bool`. Of other kinds it is
+/// refused, with `Code::NotConstant` or `Code::IntPointerCast`.
 fn truth_for(walk: &Elaborator, kind: Kind, e: &Expr) -> Result<i128, NoMemory>
     ensures { IfOk result (IsTruthFor walk.now kind e.now) }
 {
@@ -160,7 +161,9 @@ pub(crate) enum Scalar {
     Pointer,
 }
 
-/// The scalar type with this number. What an expression initialises alone is one (27).
+/// The scalar type with this number. What an expression initialises alone is one: a struct, or an array that
+/// no text initialises, is refused with `Code::BadInitialiser` inside braces, else with `Code::Mismatch` or
+/// `Code::StructValue`.
 fn scalar_of(walk: &Elaborator, ty: TypeId) -> Result<Scalar, NoMemory>
     ensures { IfOk result (IsScalar (meaning walk.now.types ty)) }
 {

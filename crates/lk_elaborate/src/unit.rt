@@ -198,7 +198,8 @@ fn begin(alloc: Global, checked: Checked) -> Result<Elaborator, NoMemory>
 
 /// The typed tree of a source in which there is no fault, and of which this was found (`IsTypedUnit`).
 ///
-/// `Err` comes for want of memory.
+/// `Err` comes for want of memory, and where a test of what was found fails, which is not expected of a
+/// source without a fault.
 pub fn elaborate(alloc: Global, unit: &Unit, checked: Checked) -> Result<TypedUnit, NoMemory>
     requires ready { IsReady checked.types }
     requires few { HasFewElements checked.types }

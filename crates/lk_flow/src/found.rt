@@ -43,7 +43,7 @@ impl Found {
         self.set.as_slice()
     }
 
-    /// All edges are different.
+    /// Does nothing when run, and brings into the caller's proof that all edges are different.
     pub fn are_different(&self)
         ensures { AreDifferent self.now }
     {

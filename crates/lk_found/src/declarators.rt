@@ -57,7 +57,7 @@ pub fn at_declarator(d: &Declarator) -> At
     }
 }
 
-/// 32, where a type is over a bound.
+/// `Code::LargeType`, where a type is over a bound.
 pub fn large_code(is_large: bool) -> Option<Code>
     ensures { result ≡ told (unless (not is_large) codes.LargeType) }
 {

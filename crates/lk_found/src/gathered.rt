@@ -155,7 +155,7 @@ impl Gathered {
         Ok(())
     }
 
-    /// What they tell where they stand in this, with the code of specifiers as wholes: 22.
+    /// What they tell where they stand in this, with the code of specifiers as wholes: `Code::Mismatch`.
     pub fn specified(mut self, holder: Holder) -> Result<Specified, NoMemory>
         ensures { IfOk result (λ specified. (table : Table) (told : SpecifierTold) (broken : List SpecBreach) →
             IsReady table → IsGathered table self told broken →

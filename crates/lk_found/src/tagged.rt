@@ -27,7 +27,7 @@ pub fn admits(names: &Names, wanted: TagUse, tag: Option<&Name>) -> bool
     }
 }
 
-/// The code of a use of a tag: 21 where it may not stand.
+/// The code of a use of a tag: `Code::Redeclared` where it may not stand.
 pub fn tag_breach(
     names: &Names,
     wanted: TagUse,
@@ -51,7 +51,8 @@ pub fn tag_breach(
     }
 }
 
-/// The code of `enum tag`: 25 where there is no such tag, 21 where it is no enumeration's.
+/// The code of `enum tag`: `Code::Incomplete` where there is no such tag, `Code::Redeclared` where it is no
+/// enumeration's.
 pub fn enum_breach(names: &Names, name: &Name) -> Result<Option<Breach>, NoMemory>
     ensures { IfOk result (λ breach. (table : Table) (rest : Env) → optional_breach breach ≡
         enum_rules (env_in table rest names.now) name.now

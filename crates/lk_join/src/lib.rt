@@ -1,4 +1,5 @@
-//! The program that the sources make together.
+//! One program of all sources, or why they make none: one table of types, one list of structs and one of
+//! entities, with the place of each source's own in them.
 #![tactic(auto)]
 
 mod completing;

@@ -126,8 +126,9 @@ fn join(alloc: Global, units: Vec<TypedUnit>) -> Result<Whole, NoMemory>
 }
 
 /// The program that checked sources make together, where `externs` has the names that `--externs` lists
-/// (C99 5.1.2.2.1, 6.2.7, 6.9). They are refused with 60 exactly where none of them has a `main`, else with
-/// the first of 61 to 63 where one of these holds.
+/// (C99 5.1.2.2.1, 6.2.7, 6.9). They are refused with `Code::NoMain` exactly where none of them has a `main`,
+/// else with the first clash: `Code::DefinedTwice`, `Code::TypesDiffer` or `Code::NotDefined` where one of
+/// these holds. `Fault::NoMemory` comes for want of memory, or where a number would need more than 32 bits.
 pub fn link(alloc: Global, units: Vec<TypedUnit>, externs: &[Name]) -> Result<Whole, Fault>
     requires sources { AreSources units.items }
     requires few { length units.items < 2 ^ 32 }

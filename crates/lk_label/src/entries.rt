@@ -36,7 +36,8 @@ fn origins(alloc: Global, points: &Points) -> Result<Names, NoMemory>
     Ok(found)
 }
 
-/// The number of a holder, or the last of 32 bits where it is none of these.
+/// The number of a holder by its place among the holders, from 0 on, and 2^32 - 1 where it would be higher.
+/// It is 0 where the holder is none of them, which doesn't come: `holders` are all that the points have.
 fn number_of(points: &Points, holders: &HolderSet, holder: Holder) -> u32
     requires holder { IsHolder points.now holder }
     requires holders { AreHolders points.now holders.now }

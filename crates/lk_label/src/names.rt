@@ -43,7 +43,7 @@ impl Names {
         self.set.as_slice()
     }
 
-    /// All names are different.
+    /// Does nothing when run, and brings into the caller's proof that all names are different.
     pub fn are_different(&self)
         ensures { AreDifferent self.now }
     {

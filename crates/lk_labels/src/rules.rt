@@ -1,4 +1,4 @@
-//! The rules of labels and `goto`: code 26 (C99 6.8.1, 6.8.6.1).
+//! The rules of labels and `goto`: `Code::BadLabel` (C99 6.8.1, 6.8.6.1).
 ghost use Rattle.std.specs.Prelude.{◌≡◌};
 ghost use Rattle.lk_typed.specs.StatementRules as spec;
 ghost use Rattle.lk_typed.specs.StatementRules.{Around};
@@ -9,7 +9,7 @@ use crate::labels::Labels;
 use lk_base::{Code, Name};
 use lk_typed::code_if;
 
-/// The code of `goto name;`: 26 where the function has no such label (C99 6.8.6.1, 1).
+/// The code of `goto name;`: `Code::BadLabel` where the function has no such label (C99 6.8.6.1, 1).
 pub fn goto_code(labels: &Labels, name: &Name) -> Option<Code>
     ensures { (around : Around) → AreLabels labels.now around.labels →
         result ≡ told (spec.goto_rules around name.now) }
@@ -30,8 +30,8 @@ fn is_before(number: Option<u32>, other: u32) -> bool
     }
 }
 
-/// The code of `name:`, the node with this number: 26 where the function has the
-/// label before it (C99 6.8.1, 3).
+/// The code of `name:`, the node with this number: `Code::BadLabel` where the function has the label before
+/// it (C99 6.8.1, 3).
 pub fn label_code(labels: &Labels, name: &Name, ordinal: u32) -> Option<Code>
     ensures { (around : Around) → AreLabels labels.now around.labels →
         result ≡ told (spec.label_rules around name.now ordinal) }

@@ -136,7 +136,7 @@ fn clashes_of(
 }
 
 /// The clashes of names of external linkage that are used and that no source defines, nor the library, nor
-/// the list of extern functions: 63 each, at the first use (C99 6.9, 5).
+/// the list of extern functions: `Code::NotDefined` each, at the first use (C99 6.9, 5).
 pub fn not_defined(
     alloc: Global,
     units: &[TypedUnit],

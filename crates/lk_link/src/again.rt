@@ -70,8 +70,8 @@ fn push_again(
     Ok(())
 }
 
-/// The clashes of names that several sources define: 61 each, at the first definition of each later source
-/// (C99 6.9, 5).
+/// The clashes of names that several sources define: `Code::DefinedTwice` each, at the first definition of
+/// each later source (C99 6.9, 5).
 pub fn defined_twice(
     alloc: Global,
     units: &[TypedUnit],

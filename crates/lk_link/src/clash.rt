@@ -4,7 +4,7 @@ ghost use Rattle.lk_link.specs.Clashes.{IsToldBefore, IsFirstOf};
 
 use lk_base::{Code, Name, NoMemory, Spot};
 
-/// Why sources make no program together: 61 to 63.
+/// Why sources make no program together: `Code::DefinedTwice`, `Code::TypesDiffer` or `Code::NotDefined`.
 #[derive(Drop)]
 pub struct Clash {
     /// The source in which it stands, in the order of the command from 0 on.

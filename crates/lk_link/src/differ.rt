@@ -103,8 +103,8 @@ fn push_different(
     Ok(())
 }
 
-/// The clashes of declarations of one name with different types: 62 each, at the
-/// later declaration (C99 6.2.7, 2).
+/// The clashes of declarations of one name with different types: `Code::TypesDiffer` each, at the later
+/// declaration (C99 6.2.7, 2).
 ///
 /// `becomes` tells of each struct of each source what it is in the program, as `resolve` gives it.
 pub fn types_differ(

@@ -26,7 +26,8 @@ fn join(mut first: Vec<Clash>, mut second: Vec<Clash>) -> Result<Vec<Clash>, NoM
     Ok(first)
 }
 
-/// The clashes of names that several sources define, or that the library has with other types: 61 and 62.
+/// The clashes of names that several sources define, or that the library has with other types:
+/// `Code::DefinedTwice` and `Code::TypesDiffer`.
 fn of_names(alloc: Global, units: &[TypedUnit], names: &Names) -> Result<Vec<Clash>, NoMemory>
     requires sources { AreSources units.now }
     requires names { AreNames units.now names.now }
@@ -38,7 +39,7 @@ fn of_names(alloc: Global, units: &[TypedUnit], names: &Names) -> Result<Vec<Cla
     Ok(clashes)
 }
 
-/// The clashes of declarations of one name with different types: 62.
+/// The clashes of declarations of one name with different types: `Code::TypesDiffer`.
 fn of_types(alloc: Global, units: &[TypedUnit], names: &Names) -> Result<Vec<Clash>, NoMemory>
     requires sources { AreSources units.now }
     requires few { length units.now < 2 ^ 32 }
@@ -50,7 +51,7 @@ fn of_types(alloc: Global, units: &[TypedUnit], names: &Names) -> Result<Vec<Cla
     Ok(clashes)
 }
 
-/// The clashes of declarations: 61 and 62.
+/// The clashes of declarations: `Code::DefinedTwice` and `Code::TypesDiffer`.
 fn of_declarations(
     alloc: Global,
     units: &[TypedUnit],
@@ -67,7 +68,7 @@ fn of_declarations(
     Ok(clashes)
 }
 
-/// The clashes of names that are used and not defined: 63.
+/// The clashes of names that are used and not defined: `Code::NotDefined`.
 fn undefined(
     alloc: Global,
     units: &[TypedUnit],
@@ -84,7 +85,8 @@ fn undefined(
     Ok(clashes)
 }
 
-/// All clashes of the sources with these names: 61 to 63.
+/// All clashes of the sources with these names: `Code::DefinedTwice`, `Code::TypesDiffer` and
+/// `Code::NotDefined`.
 fn clashes_of(
     alloc: Global,
     units: &[TypedUnit],
@@ -102,7 +104,7 @@ fn clashes_of(
     Ok(clashes)
 }
 
-/// All clashes of the sources: 61 to 63.
+/// All clashes of the sources: `Code::DefinedTwice`, `Code::TypesDiffer` and `Code::NotDefined`.
 fn clashes(alloc: Global, units: &[TypedUnit], externs: &[Name]) -> Result<Vec<Clash>, NoMemory>
     requires sources { AreSources units.now }
     requires few { length units.now < 2 ^ 32 }
@@ -126,8 +128,8 @@ fn first_of(clashes: &[Clash]) -> Result<Option<Clash>, NoMemory>
 }
 
 /// The clash that is told of the sources of a program, where `externs` has the names of extern functions: of
-/// the codes 61 to 63 the first by the place of the source, then the number of the node, then that of the
-/// code. Nothing where none of them holds.
+/// `Code::DefinedTwice`, `Code::TypesDiffer` and `Code::NotDefined` the first by the place of the source,
+/// then the number of the node, then that of the code. Nothing where none of them holds.
 pub fn first_clash(
     alloc: Global,
     units: &[TypedUnit],

@@ -1,4 +1,5 @@
-//! The sources of a program put together.
+//! Whether sources make one program: the first clash of names or types between them, whether one has a
+//! `main`, and which of their structs are one.
 #![tactic(auto)]
 
 mod absent;

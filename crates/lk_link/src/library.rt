@@ -58,7 +58,8 @@ fn push_other(
     Ok(())
 }
 
-/// The clashes of declarations of names that the library has with other types: 62 each (C99 7.1.3, 7.1.4).
+/// The clashes of declarations of names that the library has with other types: `Code::TypesDiffer` each
+/// (C99 7.1.3, 7.1.4).
 pub fn library_differs(
     alloc: Global,
     units: &[TypedUnit],

@@ -63,8 +63,8 @@ fn push_missing(source: u32, entities: &[Entity], clashes: &mut Vec<Clash>) -> R
     Ok(())
 }
 
-/// The clashes of functions of internal linkage that their source uses and doesn't
-/// define: 63 each (C99 6.9, 3).
+/// The clashes of functions of internal linkage that their source uses and doesn't define: `Code::NotDefined`
+/// each (C99 6.9, 3).
 pub fn missing_inside(alloc: Global, units: &[TypedUnit]) -> Result<Vec<Clash>, NoMemory>
     requires { length units.now < 2 ^ 32 }
     ensures { IfOk result (λ clashes. (clash : Clash) →

@@ -212,8 +212,14 @@ fn perform(
     }
 }
 
-/// A step of a thread: it performs the action of its point, where the word makes the free choices. See
-/// `Stepped` for what may come of it.
+/// A step of a thread: it performs the action of its point, where the word makes the free choices. `Allocate`
+/// gives null where the word is 0, and always for no elements, else a new object (C99 7.20.3). `Create` gives
+/// 11, begins no thread and stores no id where the word is 0, else it begins one (POSIX pthread_create).
+/// `Compute` of anything but `pthread_equal`, and `Scan` once it has read the zero of its text, give the word
+/// converted to the type of their result (C99 6.3.1.3), or nothing where that is no integer type. No other
+/// action asks the word.
+///
+/// See `Stepped` for what may come of a step.
 #[tactic(auto, using(crate::proofs::Told::performed))]
 pub fn step(alloc: Global, points: &Points, state: State, thread: u32, word: u64) -> Stepped
     requires { IsSmall state }

@@ -105,7 +105,7 @@ impl Names {
         }
     }
 
-    /// The code of a use of a tag: 21 where it may not stand.
+    /// The code of a use of a tag: `Code::Redeclared` where it may not stand.
     pub fn tag_code(&self, wanted: TagUse, name: &Name) -> Option<Code>
         ensures { (table : Table) (rest : Env) → breaches_told result name.now ≡
             spec.tag_rules (env_in table rest self.now) (rules_use wanted) name.now }

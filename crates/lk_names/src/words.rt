@@ -233,9 +233,9 @@ fn type_alone(words: &[TypeWord], types: &[Option<TypeId>]) -> Option<Option<Typ
     }
 }
 
-/// The type that words and other types name together, or nothing where they name none, which is 22: the words
-/// are one of the combinations and there is no other type, or there is one other type and no word
-/// (C99 6.7.2, 2). A type that is missing, since it is faulty, counts as one.
+/// The type that words and other types name together, or nothing where they name none, which is
+/// `Code::Mismatch`: the words are one of the combinations and there is no other type, or there is one other
+/// type and no word (C99 6.7.2, 2). A type that is missing, since it is faulty, counts as one.
 pub fn named_type(words: &[TypeWord], types: &[Option<TypeId>]) -> Option<Option<TypeId>>
     ensures named { (table : Table) → IsReady table → option_map (option_map (meaning table)) result ≡
         told.named_type words.now (map (option_map (meaning table)) types.now) }

@@ -162,9 +162,10 @@ fn braced(
 
 /// An initialiser, with so many levels for it and what stands in it (C99 6.7.8).
 ///
-/// It answers the initialiser, with the levels that it leaves, and takes its tokens; or it refuses with 13
-/// where no tree goes on with the next token, and with 14 where only trees that are too deep do. After a
-/// refusal the cursor is at no place of use.
+/// It answers the initialiser, with the levels that it leaves, and takes its tokens; or it is refused with
+/// `Code::Syntax` at a token with which no tree goes on, or with `Code::TooDeep` at one with which only trees
+/// that need more levels do. `Fault::NoMemory` comes for want of memory. After any of these the cursor is not
+/// to be used again.
 #[cycle(initialisers)]
 pub fn read_initialiser(
     alloc: Global,

@@ -1,9 +1,9 @@
 //! The readers of nodes, with so many levels for a node and what stands in it.
 //!
-//! Each answers what was read, with the levels that are left above it, and takes its tokens; or it refuses
-//! with 13 where no tree
-//! goes on with the next token, and with 14 where only trees that are too deep do. After a refusal the cursor
-//! is at no place of use.
+//! Each answers what was read, with the levels that are left above it, and takes its tokens; or what is read
+//! is refused with `Code::Syntax` at a token with which no tree goes on, or with `Code::TooDeep` at one with
+//! which only trees that need more levels do. `Fault::NoMemory` comes for want of memory. After any of these
+//! the cursor is not to be used again.
 ghost use Rattle.lk_parse_expr.specs.Reading as spec;
 ghost use Rattle.lk_parse_expr.specs.Readers.{Gives};
 
@@ -20,6 +20,10 @@ use std::alloc::Global;
 
 /// An expression whose operators bind as tightly as `level` or more tightly: 0 for any, 1 for an assignment,
 /// 2 for a conditional.
+///
+/// Refused with `Code::Syntax` at a token with which no tree goes on, or with `Code::TooDeep` at one with
+/// which only trees of more levels do; `Fault::NoMemory` comes for want of memory. After any of these the
+/// cursor is not to be used again.
 #[cycle(nodes)]
 pub fn read_expr(
     alloc: Global,
@@ -41,7 +45,11 @@ pub fn read_expr(
     inside.expr(cursor, level)
 }
 
-/// A type name.
+/// A type name (C99 6.7.6).
+///
+/// Refused with `Code::Syntax` at a token with which no tree goes on, or with `Code::TooDeep` at one with
+/// which only trees of more levels do; `Fault::NoMemory` comes for want of memory. After any of these the
+/// cursor is not to be used again.
 #[cycle(nodes)]
 pub fn read_type_name(
     alloc: Global,
@@ -64,7 +72,11 @@ pub fn read_type_name(
     inside.type_name(cursor)
 }
 
-/// A declarator, and what it declares.
+/// A declarator, and what it declares (C99 6.7.5, 6.7.6).
+///
+/// Refused with `Code::Syntax` at a token with which no tree goes on, or with `Code::TooDeep` at one with
+/// which only trees of more levels do; `Fault::NoMemory` comes for want of memory. After any of these the
+/// cursor is not to be used again.
 #[cycle(nodes)]
 pub fn read_declarator(
     alloc: Global,
@@ -126,8 +138,12 @@ fn read_item(alloc: Global, cursor: &mut Cursor<'_>, depth: usize) -> Result<Fou
     inside.item(cursor)
 }
 
-/// Specifiers, one at least, and whether `typedef` is among them. `depth` is how many
-/// levels there are inside them.
+/// Specifiers, one at least, and whether `typedef` is among them. `depth` is how many levels there are inside
+/// them.
+///
+/// Refused with `Code::Syntax` at a token with which no tree goes on, or with `Code::TooDeep` at one with
+/// which only trees of more levels do; `Fault::NoMemory` comes for want of memory. After any of these the
+/// cursor is not to be used again.
 pub fn read_specifiers(
     alloc: Global,
     cursor: &mut Cursor<'_>,

@@ -595,7 +595,11 @@ fn begins_declaration(cursor: &Cursor<'_>) -> bool
         && !(cursor.peek() == TokenKind::Word && is_colon(cursor.second()))
 }
 
-/// A statement, with so many levels for it and what stands in it.
+/// A statement, with so many levels for it and what stands in it (C99 6.8).
+///
+/// Refused with `Code::Syntax` at a token with which no tree goes on, or with `Code::TooDeep` at one with
+/// which only trees of more levels do; `Fault::NoMemory` comes for want of memory. After any of these the
+/// cursor is not to be used again.
 pub fn read_stmt(alloc: Global, cursor: &mut Cursor<'_>, depth: usize) -> Result<Found<Stmt>, Fault>
     ensures { Gives (spec.stmt depth cursor.old) result cursor.new }
 {

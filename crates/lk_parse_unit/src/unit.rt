@@ -262,7 +262,11 @@ fn externals(
     })
 }
 
-/// External declarations up to the end, with so many levels for each and what stands in it.
+/// External declarations up to the end, with so many levels for each and what stands in it (C99 6.9).
+///
+/// Refused with `Code::Syntax` at a token with which no tree goes on, or with `Code::TooDeep` at one with
+/// which only trees of more levels do; `Fault::NoMemory` comes for want of memory. After any of these the
+/// cursor is not to be used again.
 #[tactic(auto, unfolding(crate::specs::Reading::unit))]
 pub fn read_unit(
     alloc: Global,

@@ -1,4 +1,5 @@
-//! What objects of static storage begin with, tested.
+//! Tests at run time, after lowering, that each cell with which static storage begins is there and may begin
+//! with its value, and that a point writes each pointer.
 #![tactic(auto)]
 
 mod addresses;

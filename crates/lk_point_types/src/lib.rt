@@ -1,4 +1,5 @@
-//! The types of a program's points, tested.
+//! Tests at run time, after lowering, that operands, slots, parameters and results have the types that their
+//! actions need.
 #![tactic(auto)]
 
 mod actions;

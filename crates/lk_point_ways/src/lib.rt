@@ -1,4 +1,5 @@
-//! How control goes through the points of a program, tested.
+//! Tests at run time, after lowering, that operands and successors stand in their function, that each action
+//! goes on as it must, and that waits take their mutex again.
 #![tactic(auto)]
 
 mod actions;

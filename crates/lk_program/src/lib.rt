@@ -1,4 +1,4 @@
-//! The program that accepted sources make: their typed trees, put together.
+//! From accepted sources to the linked program: the typed tree of each is made, and these are put together.
 #![tactic(auto)]
 
 mod program;

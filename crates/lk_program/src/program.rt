@@ -36,9 +36,10 @@ fn whole_of(alloc: Global, externs: &[Name], sources: Vec<AcceptedSource>) -> Re
     link(alloc, units, externs)
 }
 
-/// The program that accepted sources make: their typed trees, put together. They are refused
-/// by 60 to 63 where these speak against one another. Each place in it, and that of a
-/// refusal, stands in one of the files.
+/// The program that accepted sources make: their typed trees, put together. They are refused with
+/// `Code::NoMain`, `Code::DefinedTwice`, `Code::TypesDiffer` or `Code::NotDefined` where these speak against
+/// one another; `SourcesFault::NoMemory` is the other error. Each place in it, and that of a refusal, stands
+/// in one of the files.
 pub fn program_of(alloc: Global, accepted: Accepted) -> Result<Program, SourcesFault>
     requires checked { AreChecked accepted }
     requires few { AreFew (length accepted.sources.items) }

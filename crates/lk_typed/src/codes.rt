@@ -27,8 +27,8 @@ pub fn lesser(a: Option<Code>, b: Option<Code>) -> Option<Code>
     }
 }
 
-/// The code of an operand: 45 for a mutex or condition variable, which are no values;
-/// else 22 where its type isn't taken.
+/// The code of an operand: `Code::MutexValue` for a mutex or condition variable, which are no values; else
+/// `Code::Mismatch` where its type isn't taken.
 pub fn operand_code(is_lock: bool, is_taken: bool) -> Option<Code>
     ensures { result ≡ spec.operand_code is_lock is_taken }
 {

@@ -176,7 +176,9 @@ fn code_unless(exists: bool, code: Code) -> Option<Code>
     if exists { None } else { Some(code) }
 }
 
-/// The code that names a conversion which C and the profile don't have: 34, 35, 41 or 45, or else 22.
+/// The code that names a conversion which C and the profile don't have: `Code::IntPointerCast`,
+/// `Code::PointerCast`, `Code::StructValue` or `Code::MutexValue`, the first of these that holds, else
+/// `Code::Mismatch`.
 fn named_code(
     integer_and_pointer: bool,
     different_pointers: bool,

@@ -40,12 +40,12 @@ pub enum Callee {
     Pointer(Boxed<TypedExpr>),
 }
 
-/// When `++` or `--` gives the value of its operand (C99 6.5.2.4, 6.5.3.1).
+/// Where `++` or `--` stands, and so which value it gives (C99 6.5.2.4, 6.5.3.1).
 #[derive(Clone, Copy)]
 pub enum Change {
-    /// Before its operand is changed: `place++`.
+    /// `place++` or `place--`, behind its place: the value is the one before the step (C99 6.5.2.4).
     After,
-    /// Once its operand is changed: `++place`.
+    /// `++place` or `--place`, before its place: the value is the one after the step (C99 6.5.3.1).
     Before,
 }
 

@@ -76,7 +76,9 @@ impl CType {
         }
     }
 
-    /// Whether an object of this type is a cell: it holds a value, or is a mutex or a condition variable.
+    /// Whether an object of this type is a cell: it holds a value, or is a mutex or a condition variable. So
+    /// it counts these two as well, unlike C99 6.2.5, 21, whose scalar types are the arithmetic and the
+    /// pointer types.
     pub fn is_scalar(&self) -> bool
         ensures { result ≡ is_scalar self.now }
     {

@@ -63,21 +63,25 @@ impl TypeTable {
         self.types.at(t.index()).0
     }
 
-    /// What holds in each table.
+    /// Does nothing when run, and brings into the caller's proof what holds in each table: each type is made
+    /// of types that are there, is within the bounds of a table and stands there once, and what is kept as
+    /// its least equal is the first type that is equal but for the sizes of arrays.
     pub fn is_table(&self)
         ensures { IsTable self.now }
     {
         let _ = &self.types;
     }
 
-    /// The members of each struct are parts of objects, and no struct is over the bounds of a table.
+    /// Does nothing when run, and brings into the caller's proof that the members of each struct are parts of
+    /// objects, and no struct is over the bounds of a table.
     pub fn structs_are_sized(&self)
         ensures { HasSizedStructs self.now }
     {
         let _ = &self.structs;
     }
 
-    /// The elements of each array were complete when it came.
+    /// Does nothing when run, and brings into the caller's proof that the elements of each array were
+    /// complete when it came.
     pub fn elements_are_ordered(&self)
         ensures { IsOrdered self.now }
     {
