@@ -115,7 +115,7 @@ fn keep_redeclared(
         (name_rules env (declared_in checker.old.types declared.now))) }
     ensures same { OnOk result (IsSame checker.old checker.new) }
 {
-    let again = checker.names.may_declare(&checker.types, declared);
+    let again = checker.names.redeclaration_code(&checker.types, declared);
     checker.keep_named(named.at, again, named.name)
 }
 

@@ -47,7 +47,7 @@ impl Checker {
             name_rules env (plain_name name.now (meaning_in self.now.types meaning))) }
     {
         let declared = plain(name, meaning, 0)?;
-        let code = self.names.may_declare(&self.types, &declared);
+        let code = self.names.redeclaration_code(&self.types, &declared);
         Ok(code)
     }
 

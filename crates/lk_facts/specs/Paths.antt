@@ -31,12 +31,6 @@ pub data OnlyUnmatched (kind : ℕ → Mark) : List Mark → Type 0 where
   another : (i : ℕ) (v w : List Mark) → OnlyUnmatched kind v → Balanced w →
       OnlyUnmatched kind (v ++ kind i ∷ w)
 
-abbrev pub OnlyLeaves : List Mark → Type 0
-OnlyLeaves = OnlyUnmatched Leave
-
-abbrev pub OnlyEnters : List Mark → Type 0
-OnlyEnters = OnlyUnmatched Enter
-
 module _ (edge : ℕ → ℕ → Mark → Type 0) (global : ℕ → Bool) where
   -- a list of edges with these marks, each beginning where the one before ended, with no
   -- global label strictly inside

@@ -20,7 +20,7 @@ use Rattle.lk_facts.specs.declared.root.RootKind.{RootKind}
 use Rattle.lk_facts.specs.declared.root.RootKind.TheVariants.{Global, Static, Local, Heap, Text, Argv, Args, Function as FunctionRoot}
 use Rattle.lk_types.specs.Equal.{IsAlike}
 use Rattle.lk_types.specs.Nodes.{node_of}
-use Rattle.lk_types.specs.Objects.{is_scalar}
+use Rattle.lk_types.specs.Objects.{is_cell}
 use Rattle.lk_types.specs.Table.{Table, members_of, type_at}
 use Rattle.lk_types.specs.declared.c_type.CType.{CType}
 use Rattle.lk_types.specs.declared.c_type.CType.TheVariants.{Void, Int, ThreadId, Mutex, Cond, Pointer, Array, Struct, Function, Opaque}
@@ -253,7 +253,7 @@ module _ (program : Program) where
 
   -- an object of the type is one cell: it holds a value, or is a mutex or a condition variable
   abbrev pub HoldsCell : ℕ → Type 0
-  HoldsCell t = is_scalar (type_at program.types t) ≡ true
+  HoldsCell t = is_cell (type_at program.types t) ≡ true
 
   -- what the action of the point p of the function f takes and gives
   abbrev pub IsTyped : (p f : ℕ) → Action → Type 0

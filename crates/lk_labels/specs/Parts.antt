@@ -1,5 +1,5 @@
 -- The labels of the parts of a statement.
-use Rattle.std.specs.Prelude.{List, [], ◌∷◌, ◌++◌, Option, Some, None}
+use Rattle.std.specs.Prelude.{List, [], ◌∷◌, ◌++◌}
 use Rattle.lk_tree.specs.declared.statement.BlockItem.TheOpen.{BlockItem-F}
 use Rattle.lk_tree.specs.declared.statement.BlockItem.{BlockItem, out-BlockItem}
 use Rattle.lk_tree.specs.declared.statement.Stmt.{Stmt}
@@ -14,7 +14,3 @@ labels_of_item (BlockItem-F.Stmt inner) = labels inner
 abbrev pub labels_of_items : List BlockItem → List Label
 labels_of_items [] = []
 labels_of_items (i ∷ is) = labels_of_item (out-BlockItem i) ++ labels_of_items is
-
-abbrev pub labels_of_optional : Option Stmt → List Label
-labels_of_optional None = []
-labels_of_optional (Some s) = labels s

@@ -4,8 +4,6 @@ use Rattle.lk_base.specs.declared.kind.Kind.TheVariants.{Int as IntKind}
 use Rattle.lk_lower_expr.specs.Library.{is_text}
 use Rattle.lk_lower_expr.specs.Names.{Names}
 use Rattle.lk_lower_expr.specs.Parts.{Part, first_of, place_of}
-use Rattle.lk_typed.specs.declared.expression.Change.{Change}
-use Rattle.lk_typed.specs.declared.expression.Change.TheVariants.{After, Before}
 use Rattle.lk_typed.specs.declared.expression.TypedExpr.{TypedExpr}
 use Rattle.lk_types.specs.Table.{Table, type_at}
 use Rattle.lk_lower_expr.specs.Values.{is_pointer}
@@ -60,10 +58,6 @@ abbrev pub written_step : CType → (place computed : ℕ) → ℕ
 written_step form place computed =
     if nat_eq place computed
     then (if is_pointer form || nat_eq computed (kind_id IntKind) then 2 else 3) else 4
-
-abbrev pub changed_step : Change → CType → (place computed : ℕ) → ℕ
-changed_step After form place computed = 0
-changed_step Before form place computed = written_step form place computed
 
 -- ---- where an expression begins
 

@@ -170,7 +170,7 @@ fn may_follow(types: &TypeTable, old: &Declared, new: &Declared) -> bool
 impl Names {
     /// The code of a declaration of a name that is no tag: `Code::Redeclared` where one of its scope is there
     /// behind which it may not stand.
-    pub fn may_declare(&self, types: &TypeTable, new: &Declared) -> Option<Code>
+    pub fn redeclaration_code(&self, types: &TypeTable, new: &Declared) -> Option<Code>
         requires scope { IsKnownScope types.now self.now }
         requires new { IsKnownName types.now new.now }
         ensures { (rest : Env) → breaches_told result new.now.name ≡

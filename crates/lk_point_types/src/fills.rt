@@ -228,7 +228,7 @@ fn holds_cell(points: &Points, t: TypeId) -> bool
     requires { IsKnown points.now.types t }
     ensures { IsTrue result ↔ HoldsCell points.now t }
 {
-    form(points.types(), t).is_scalar()
+    form(points.types(), t).is_cell()
 }
 
 /// Whether a point gives a pointer to a type of which an object is one cell.

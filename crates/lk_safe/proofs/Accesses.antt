@@ -36,7 +36,7 @@ use Rattle.lk_right.specs.Sound.{IsFrameSound, accessed_at}
 use Rattle.lk_safe.specs.Soundness.{IsNoRetake}
 use Rattle.lk_sound.proofs.Acting.{accesses}
 use Rattle.lk_types.specs.Nodes.{node_of}
-use Rattle.lk_types.specs.Objects.{is_scalar}
+use Rattle.lk_types.specs.Objects.{is_cell}
 use Rattle.lk_types.specs.Table.{type_at}
 use Rattle.lk_types.specs.Walks.{is_void}
 use Rattle.lk_types.specs.declared.c_type.CType.{CType}
@@ -110,7 +110,7 @@ accesses_label basis p f a x live stands accessing leads = by (effect_at basis.p
 
 -- ---- the pointer by which a cell is touched
 
-scalar_form : (form : CType) → is_scalar form ≡ true → is_void form ≡ false
+scalar_form : (form : CType) → is_cell form ≡ true → is_void form ≡ false
 scalar_form Void h = absurd (false≢true h)
 scalar_form (Int k) h = refl
 scalar_form ThreadId h = refl

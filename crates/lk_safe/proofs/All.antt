@@ -7,10 +7,10 @@ use Rattle.lk_safe.proofs.Owning.{steps_move_owners}
 use Rattle.lk_safe.proofs.Races.{races_are_found}
 use Rattle.lk_safe.proofs.Reaching.{steps_keep_safe, reached_is_safe}
 use Rattle.lk_safe.proofs.Starting.{start_is_counted, start_is_safe}
-use Rattle.lk_safe.proofs.Verdicts.{races_are_suspect}
+use Rattle.lk_safe.proofs.Verdicts.{races_are_suspect, tables_closed}
 use Rattle.lk_facts.proofs.TableLemmas.{flow_is_closed}
-use Rattle.lk_safe.specs.Soundness.{LocksAreHeld, RacesAreFound, LinearIsOne, RacesAreSuspect, VerdictsAreSafe}
-use Rattle.lk_safe.specs.Steps.{StartIsSafe, StepsKeepSafe, ReachedIsSafe}
+use Rattle.lk_safe.specs.Soundness.{LocksAreHeld, RacesAreFound, LinearIsOne, RacesAreSuspect, VerdictsAreSafe, VerdictsFindRaces, tables_behind}
+use Rattle.lk_safe.specs.Steps.{IsFollowed, StartIsSafe, StepsKeepSafe, ReachedIsSafe}
 use Rattle.lk_trails.proofs.Counting.{counts_are_kept}
 use Rattle.lk_trails.proofs.Holding.{held_is_kept}
 use Rattle.lk_trails.proofs.Linking.{linked_own}
@@ -49,3 +49,14 @@ races_suspect = races_are_suspect races_found linear_one
 -- so it is with the verdicts of a program that was lowered
 pub verdicts_safe : VerdictsAreSafe
 verdicts_safe basis es analysed flow verdicts are = races_suspect basis es (record { analysed = analysed; closed = flow_is_closed es basis.labels basis.flow flow }) verdicts are
+
+-- and each race is found by the tables from which they follow
+pub verdicts_find : VerdictsFindRaces
+verdicts_find basis es analysed flow verdicts are s reached cell race o located =
+    let followed : IsFollowed basis es = record { analysed = analysed; closed = flow_is_closed es basis.labels basis.flow flow } in
+    let both = races_found basis es followed (tables_behind basis verdicts are) (tables_closed basis es followed verdicts are) s reached cell race o located in
+    record {
+      first = both.0;
+      second = both.1;
+      one = λ q is. linear_one basis es followed s reached q ((are.is_linear q).0 is);
+    }

@@ -12,9 +12,9 @@ use Rattle.lk_facts.specs.declared.verdict.VerdictState.{VerdictState}
 use Rattle.lk_facts.specs.declared.verdict.VerdictState.TheVariants.{Suspect}
 use Rattle.lk_meaning.specs.Laws.{mutex_in}
 use Rattle.lk_meaning.specs.Reached.{Reached}
-use Rattle.lk_safe.specs.Soundness.{OwnsPlace, IsFound, RacesAreFound, LinearIsOne, RacesAreSuspect}
+use Rattle.lk_safe.specs.Soundness.{OwnsPlace, IsFound, RacesAreFound, LinearIsOne, RacesAreSuspect, tables_behind}
 use Rattle.lk_safe.specs.Steps.{IsFollowed}
-use Rattle.lk_trails.specs.Rising.{Tables, AreClosedTables}
+use Rattle.lk_trails.specs.Rising.{AreClosedTables}
 use Rattle.lk_values.specs.declared.value.Mutex.TheVariants.{Owned}
 
 owner_is : (a b : ℕ) → Owned a ≡ Owned b → a ≡ b
@@ -22,18 +22,7 @@ owner_is a b h = cc
 
 module _ (basis : Basis) (es : List Edge) (followed : IsFollowed basis es) (verdicts : List Verdict) (are : AreVerdictsOf basis verdicts) where
   -- the tables of the analysis are closed
-  abbrev tables : Tables
-  tables = record {
-    held = are.held;
-    after = are.after;
-    has = are.has;
-    item_locks = are.item_locks;
-    races = are.races;
-    race_locks = are.race_locks;
-    linear = are.linear;
-  }
-
-  tables_closed : AreClosedTables basis tables
+  pub tables_closed : AreClosedTables basis (tables_behind basis verdicts are)
   tables_closed = record {
     lock_sets = are.lock_sets.closed;
     order = λ p q after. (are.order p q).1 after;
@@ -50,7 +39,7 @@ module _ (basis : Basis) (es : List Edge) (followed : IsFollowed basis es) (verd
         owner_is t u (same_Some (Owned t) (Owned u) (sym mine.owns ∙ (ap (λ c. mutex_in basis.program s c) same ∙ yours.owns)))
 
     by_state : {o : ℕ} {state : VerdictState} → IsVerdict basis are.races are.race_locks are.linear o state → (t u : ℕ) → (t ≡ u → ⊥) →
-        IsFound basis tables s t o → IsFound basis tables s u o → state ≡ Suspect
+        IsFound basis (tables_behind basis verdicts are) s t o → IsFound basis (tables_behind basis verdicts are) s u o → state ≡ Suspect
     by_state (unshared none) t u different mine yours = absurd (none mine.thread.frame.point (mine.child, mine.races))
     by_state (guarded {a} {q} racing guards) t u different mine yours =
         let first = guards mine.thread.frame.point (mine.child, mine.races) in
@@ -60,5 +49,5 @@ module _ (basis : Basis) (es : List Edge) (followed : IsFollowed basis es) (verd
 
 pub races_are_suspect : RacesAreFound → LinearIsOne → RacesAreSuspect
 races_are_suspect found one_cell basis es followed verdicts are s reached cell race o located verdict there =
-    let both = found basis es followed (tables basis es followed verdicts are) (tables_closed basis es followed verdicts are) s reached cell race o located in
+    let both = found basis es followed (tables_behind basis verdicts are) (tables_closed basis es followed verdicts are) s reached cell race o located in
     by_state basis es followed verdicts are one_cell s reached (are.verdicts.are o verdict there).state race.first race.second race.different both.0 both.1

@@ -102,6 +102,44 @@ LinearIsOne =
     (c d : Cell) → HasOrigin basis.program basis.labels s c q →
     HasOrigin basis.program basis.labels s d q → c ≡ d
 
+-- ---- what verdicts say of races
+
+-- the tables of the analysis from which verdicts follow
+abbrev pub tables_behind : (basis : Basis) (verdicts : List Verdict) → AreVerdictsOf basis verdicts → Tables
+tables_behind basis verdicts are = record {
+  held = are.held;
+  after = are.after;
+  has = are.has;
+  item_locks = are.item_locks;
+  races = are.races;
+  race_locks = are.race_locks;
+  linear = are.linear;
+}
+
+-- the analysis has found a race of the threads t and u at the location o: main has racing items for it from
+-- both accesses, each thread owns a mutex at the lock places of its own, and each of these that counts as
+-- linear has one mutex
+pub record IsRaceFound (basis : Basis) (tables : Tables) (s : State) (t u o : ℕ) : Type 0 where
+  pub first : IsFound basis tables s t o
+  pub second : IsFound basis tables s u o
+  pub one : (q : ℕ) → tables.linear q ≡ true → (c d : Cell) → HasOrigin basis.program basis.labels s c q →
+      HasOrigin basis.program basis.labels s d q → c ≡ d
+
+-- so it is with each race at a location in each state that is reached
+abbrev pub FindsRaces : (basis : Basis) (verdicts : List Verdict) → AreVerdictsOf basis verdicts → Type 0
+FindsRaces basis verdicts are =
+    (s : State) → Reached basis.program s → (cell : Cell) (race : Race basis.program s cell) (o : ℕ) →
+    HasLocation basis.program s cell o →
+    IsRaceFound basis (tables_behind basis verdicts are) s race.first race.second o
+
+-- so it is with the verdicts of a program that was lowered, by its labels, its
+-- edges and what flows along these
+abbrev pub VerdictsFindRaces : Type 0
+VerdictsFindRaces =
+    (basis : Basis) (es : List Edge) → IsAnalysed basis.program basis.labels es →
+    IsFlowOf es basis.labels basis.flow → (verdicts : List Verdict) (are : AreVerdictsOf basis verdicts) →
+    FindsRaces basis verdicts are
+
 -- ---- no races but at suspect locations
 
 -- no state that is reached has a race at a location that isn't called suspect

@@ -1,6 +1,7 @@
 //! What threads own, and which accesses race, in each state that a program comes to. Each function is a
 //! law, which its contract states.
-ghost use Rattle.lk_safe.specs.Soundness.{LinearIsOne, LocksAreHeld, RacesAreFound, RacesAreSuspect, VerdictsAreSafe};
+ghost use Rattle.lk_safe.specs.Soundness.{LinearIsOne, LocksAreHeld, RacesAreFound, RacesAreSuspect};
+ghost use Rattle.lk_safe.specs.Soundness.{VerdictsAreSafe, VerdictsFindRaces};
 ghost use Rattle.lk_safe.specs.Steps.{ReachedIsSafe, StartIsSafe, StepsKeepSafe, StepsMoveOwners, StepsMoveTrails};
 
 /// What a step does to the trails of threads, and which objects it makes.
@@ -43,6 +44,13 @@ pub fn races_are_found()
 /// A linear lock place has one mutex (LOCKSMITH: linearity).
 pub fn linear_is_one()
     ensures { LinearIsOne }
+{}
+
+/// Soundness of races for the verdicts of a program that was lowered: by the tables from which they follow,
+/// `main` has racing items from both accesses of each race at a location, each thread owns mutexes at the
+/// lock places of its own, and a linear lock place has one mutex.
+pub fn verdicts_find_races()
+    ensures { VerdictsFindRaces }
 {}
 
 /// No state that a program comes to has a race at a location that isn't called suspect by the verdicts that

@@ -33,7 +33,7 @@ use Rattle.lk_right.specs.Sound.{IsSound, IsFrameSound, accessed_at}
 use Rattle.lk_sound.proofs.Touching.{access_right}
 use Rattle.lk_sound.specs.Soundness.{IsAccessSound}
 use Rattle.lk_types.specs.Nodes.{node_of}
-use Rattle.lk_types.specs.Objects.{is_scalar}
+use Rattle.lk_types.specs.Objects.{is_cell}
 use Rattle.lk_types.specs.Table.{type_at}
 use Rattle.lk_types.specs.Walks.{is_void}
 use Rattle.lk_types.specs.declared.c_type.CType.{CType}
@@ -43,7 +43,7 @@ use Rattle.lk_values.specs.declared.cell.Pointer.{Pointer as PointerTo}
 use Rattle.lk_values.specs.declared.value.Value.{Value}
 use Rattle.lk_values.specs.declared.value.Value.TheVariants as of
 
-scalar_form : (form : CType) → is_scalar form ≡ true → is_void form ≡ false
+scalar_form : (form : CType) → is_cell form ≡ true → is_void form ≡ false
 scalar_form Void h = absurd (false≢true h)
 scalar_form (Int k) h = refl
 scalar_form ThreadId h = refl

@@ -25,7 +25,7 @@ use Rattle.lk_sources.specs.declared.reading.Source.{Source}
 use Rattle.lk_sources.specs.declared.reading.Texts.{Texts}
 use Rattle.lk_typed.specs.declared.whole.Whole.{Whole}
 use Rattle.lk_words.specs.Words.{Check}
-use Rattle.lk_top.specs.Analysis.{ArePointsOf, IsAtMain, IsNoProgram, IsWhole, of_places, of_points, unlinked, too_many_points, too_many_labels}
+use Rattle.lk_top.specs.Analysis.{ArePointsOf, FindsEachRace, IsAtMain, IsNoProgram, IsWhole, of_places, of_points, unlinked, too_many_points, too_many_labels}
 use Rattle.lk_top.specs.Answer as judged
 use Rattle.lk_top.specs.Answer.{JudgesWhole, ShowsVerdicts, Tells, TellsAtMain, Analyses, ShowsFault, Judges, Answers, has_points, too_many_places}
 use Rattle.lk_top.specs.Outcome as outcome
@@ -45,9 +45,9 @@ module _ (sources : code.Accepted) where
   told_at_main whole code (Refusal line) (refusal, is, (file, at_file, line_is)) why = (file, refusal, record { why = why refusal is; at = at_file }, line_is)
   told_at_main whole code (Unread line) (refusal, is, tells) why = absurd tells
 
-  shown : (whole : Whole) → IsWhole sources whole → (points : Points) → (HasMorePoints whole 65536 → ⊥) → ArePointsOf whole points → (verdicts : List Verdict) → HasVerdicts points verdicts →
-      (HasMoreLabels points 65536 → ⊥) → HasNoOtherRaces points verdicts → (answer : Answer) → ShowsVerdicts sources.files points verdicts answer → Analyses sources answer
-  shown whole is points few are verdicts has few_labels safe (Report text ends) (text_is, status_is) = (
+  shown : (whole : Whole) → IsWhole sources whole → (points : Points) → (HasMorePoints whole 65536 → ⊥) → ArePointsOf whole points → (verdicts : List Verdict) (has : HasVerdicts points verdicts) →
+      (HasMoreLabels points 65536 → ⊥) → FindsEachRace points verdicts has → HasNoOtherRaces points verdicts → (answer : Answer) → ShowsVerdicts sources.files points verdicts answer → Analyses sources answer
+  shown whole is points few are verdicts has few_labels found safe (Report text ends) (text_is, status_is) = (
     verdicts,
     record {
       whole = whole;
@@ -56,17 +56,18 @@ module _ (sources : code.Accepted) where
       points = points;
       are_points = are;
       few_labels = few_labels;
+      races_found = found;
       safe = safe;
       verdicts_are = has;
       text_is = text_is;
     },
     status_is,
   )
-  shown whole is points few are verdicts has few_labels safe (Refusal line) shows = absurd shows
-  shown whole is points few are verdicts has few_labels safe (Unread line) shows = absurd shows
+  shown whole is points few are verdicts has few_labels found safe (Refusal line) shows = absurd shows
+  shown whole is points few are verdicts has few_labels found safe (Unread line) shows = absurd shows
 
   pub of_whole : (whole : Whole) → IsWhole sources whole → (answer : Answer) → JudgesWhole sources.files whole answer → Analyses sources answer
-  of_whole whole is answer (has_points points few are (judged.shows verdicts has few_labels safe shows)) = shown whole is points few are verdicts has few_labels safe answer shows
+  of_whole whole is answer (has_points points few are (judged.shows verdicts has few_labels found safe shows)) = shown whole is points few are verdicts has few_labels found safe answer shows
   of_whole whole is answer (has_points points few are (judged.too_many more tells)) =
       told_at_main whole TooManyLabels answer tells (λ refusal at. too_many_labels whole is few (of_points points are more) at)
   of_whole whole is answer (judged.too_many_points more tells) = told_at_main whole TooManyPoints answer tells (λ refusal at. too_many_points whole is more at)

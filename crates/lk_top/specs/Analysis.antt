@@ -4,6 +4,7 @@ use Rattle.std.specs.Prelude.{ℕ, ◌≡◌, List, [], Some, slice_get}
 use Rattle.lk_base.specs.declared.code.Code.{Code}
 use Rattle.lk_base.specs.declared.code.Code.TheVariants.{TooManyPoints, TooManyLabels}
 use Rattle.lk_base.specs.declared.refusal.Refusal.{Refusal}
+use Rattle.lk_facts.specs.Facts.{basis_of, facts_of}
 use Rattle.lk_facts.specs.InRange.{IsInRange}
 use Rattle.lk_facts.specs.LabelRules.{HasMoreLabels}
 use Rattle.lk_facts.specs.Lowered.{IsLowered}
@@ -14,7 +15,7 @@ use Rattle.lk_lower_parts.specs.Mains.{spot_of_main}
 use Rattle.lk_lower_unit.specs.PointNumbers.{HasMorePoints}
 use Rattle.lk_program.specs.Program.{IsProgram, IsUnlinked}
 use Rattle.lk_report.specs.Report.{report_text}
-use Rattle.lk_safe.specs.Soundness.{HasNoOtherRaces}
+use Rattle.lk_safe.specs.Soundness.{FindsRaces, HasNoOtherRaces}
 use Rattle.lk_solve.specs.Verdicts.{HasVerdicts}
 use Rattle.lk_sources.specs.declared.accepting.Accepted as code
 use Rattle.lk_sources.specs.Accepting.{units_of}
@@ -33,6 +34,12 @@ pub record ArePointsOf (whole : Whole) (points : Program) : Type 0 where
   pub in_range : IsInRange points
   pub table : IsTable points.types
 
+-- each race in a state that a run of the program reaches was found by the analysis from which the verdicts
+-- follow, with the mutexes that its threads own (LOCKSMITH: correlation of accesses and locks)
+abbrev pub FindsEachRace : (points : Program) (verdicts : List Verdict) → HasVerdicts points verdicts → Type 0
+FindsEachRace points verdicts has =
+    FindsRaces (basis_of (facts_of points has.labels has.origins)) verdicts has.follow
+
 -- more labels than are analysed: its locations and lock places alone are more, or those of its points
 pub data HasTooManyLabels (whole : Whole) : Type 0 where
   of_places : HasMorePlaces whole 65536 → HasTooManyLabels whole
@@ -48,6 +55,7 @@ pub record IsAnalysed (sources : code.Accepted) (text : List ℕ) (verdicts : Li
   pub are_points : ArePointsOf whole points
   pub few_labels : HasMoreLabels points 65536 → ⊥
   pub verdicts_are : HasVerdicts points verdicts
+  pub races_found : FindsEachRace points verdicts verdicts_are
   -- no state that a run of the program reaches has a race at a location that isn't called suspect
   pub safe : HasNoOtherRaces points verdicts
   pub text_is : text ≡ report_text sources.files points verdicts

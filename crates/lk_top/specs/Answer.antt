@@ -22,7 +22,7 @@ use Rattle.lk_sources.specs.declared.fault.SourcesFault.{SourcesFault}
 use Rattle.lk_sources.specs.declared.fault.SourcesFault.TheVariants as fault
 use Rattle.lk_sources.specs.declared.reading.Source.{Source}
 use Rattle.lk_words.specs.Words.{Check}
-use Rattle.lk_top.specs.Analysis.{ArePointsOf, IsAnalysed, IsAtMain, IsNoProgramIn}
+use Rattle.lk_top.specs.Analysis.{ArePointsOf, FindsEachRace, IsAnalysed, IsAtMain, IsNoProgramIn}
 use Rattle.lk_top.specs.Outcome.{Becomes, Follows}
 use Rattle.lk_top.specs.Results.{IsReport, IsRefusal, status_of, is_report}
 use Rattle.lk_top.specs.Texts.{refused_line, unread_line}
@@ -60,7 +60,8 @@ HasMainIn files whole = (spot : Spot) × (spot_of_main whole ≡ Some spot) × (
 -- what points come to: they have their verdicts, or too many labels
 pub data JudgesPoints (files : List (List ℕ)) (whole : Whole) (points : Points)
     (shown : Answer) : Type 0 where
-  shows : (verdicts : List Verdict) → HasVerdicts points verdicts → (HasMoreLabels points 65536 → ⊥) →
+  shows : (verdicts : List Verdict) (has : HasVerdicts points verdicts) →
+      (HasMoreLabels points 65536 → ⊥) → FindsEachRace points verdicts has →
       HasNoOtherRaces points verdicts → ShowsVerdicts files points verdicts shown →
       JudgesPoints files whole points shown
   too_many : HasMoreLabels points 65536 → TellsAtMain files whole TooManyLabels shown →

@@ -21,7 +21,7 @@ use lk_lower_unit::lower;
 use lk_point_spots::points_stand_in_files;
 use lk_program::program_of;
 use lk_report::report;
-use lk_safe::verdicts_are_safe;
+use lk_safe::{verdicts_are_safe, verdicts_find_races};
 use lk_solve::{SolveFault, verdicts_of};
 use lk_sources::{Accepted, refused_in};
 use lk_typed::Whole;
@@ -69,7 +69,8 @@ fn are_in_range(points: &Points)
     points.types().is_table();
 }
 
-/// What a program of these points comes to. No run has a race at a location that isn't called suspect.
+/// What a program of these points comes to. Each race of a run was found by the analysis, and none is at a
+/// location that isn't called suspect.
 fn judge_points(
     alloc: Global,
     files: &Files,
@@ -83,6 +84,7 @@ fn judge_points(
     ensures { IfOk result (JudgesPoints files.now whole.now points.now) }
 {
     verdicts_are_safe();
+    verdicts_find_races();
     match verdicts_of(alloc, points) {
         Ok(verdicts) => {
             let answer = told(alloc, files, points, &verdicts)?;

@@ -51,8 +51,8 @@ is_cond (Function result params dots) = false
 is_cond (Opaque n) = false
 
 -- whether an object of this form is a cell: it holds a value, or is a mutex or a condition variable
-abbrev pub is_scalar : CType → Bool
-is_scalar form = is_value form || is_mutex form || is_cond form
+abbrev pub is_cell : CType → Bool
+is_cell form = is_value form || is_mutex form || is_cond form
 
 -- a step into a part of the same object
 abbrev pub stays_inside : Sel → Bool
@@ -67,9 +67,6 @@ is_inside entry = list_all stays_inside entry.path
 -- the parts of an object type of some forms, with their paths, indices forgotten, in the order of the walk
 abbrev pub parts_of : (CType → Bool) → Table → ℕ → List Entry
 parts_of test table t = filter (λ entry. is_inside entry && test (type_at table entry.type)) (nodes table t)
-
-abbrev pub scalar_parts : Table → ℕ → List Entry
-scalar_parts table t = parts_of is_scalar table t
 
 -- the parts that hold values: those that are locations
 abbrev pub value_parts : Table → ℕ → List Entry

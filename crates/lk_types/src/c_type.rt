@@ -1,7 +1,7 @@
 //! The forms of types.
 ghost use Rattle.std.specs.Prelude.{◌≡◌, IfOk};
 ghost use Rattle.lk_types.specs.Table.{struct_of};
-ghost use Rattle.lk_types.specs.Objects.{is_value, is_scalar};
+ghost use Rattle.lk_types.specs.Objects.{is_value, is_cell};
 
 use crate::type_id::TypeId;
 use crate::type_ids::TypeIds;
@@ -79,8 +79,8 @@ impl CType {
     /// Whether an object of this type is a cell: it holds a value, or is a mutex or a condition variable. So
     /// it counts these two as well, unlike C99 6.2.5, 21, whose scalar types are the arithmetic and the
     /// pointer types.
-    pub fn is_scalar(&self) -> bool
-        ensures { result ≡ is_scalar self.now }
+    pub fn is_cell(&self) -> bool
+        ensures { result ≡ is_cell self.now }
     {
         self.is_value() || matches!(self, CType::Mutex | CType::Cond)
     }

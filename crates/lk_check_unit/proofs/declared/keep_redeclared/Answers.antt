@@ -11,9 +11,9 @@ pub returns-clause-kept : goal.returns-clause-kept
 returns-clause-kept c =
     on_ok_weaker c.keep_named.result
     (λ tells env is_in.
-    again_kept c.args.checker.now c.keep_named.new.self c.args.named.now.at c.args.named.now.name.now c.may_declare-again.result (name_rules env (declared_in c.args.checker.now.types c.args.declared.now))
-    (ap (breaches_told c.may_declare-again.result) (sym c.requires.name) ∙
-    (c.may_declare-again.ensures env ∙ ap (λ (e : Env). name_rules e (declared_in c.args.checker.now.types c.args.declared.now)) is_in.scope))
+    again_kept c.args.checker.now c.keep_named.new.self c.args.named.now.at c.args.named.now.name.now c.redeclaration_code-again.result (name_rules env (declared_in c.args.checker.now.types c.args.declared.now))
+    (ap (breaches_told c.redeclaration_code-again.result) (sym c.requires.name) ∙
+    (c.redeclaration_code-again.ensures env ∙ ap (λ (e : Env). name_rules e (declared_in c.args.checker.now.types c.args.declared.now)) is_in.scope))
     tells)
     c.keep_named.ensures
 

@@ -1,7 +1,7 @@
 use Rattle.std.proofs.Common.{Err, All, ap, subst, sym}
 use Rattle.lk_report.specs.Report.{IsVerdictThere}
 use Rattle.lk_top.specs.Answer.{ShowsVerdicts, shows, too_many}
-use Rattle.lk_top.proofs.SafeReports.{no_other_races}
+use Rattle.lk_top.proofs.SafeReports.{finds_each_race, no_other_races}
 use Rattle.lk_top.proofs.VerdictsThere.{verdicts_there}
 use Rattle.lk_top.proofs.analysis.judge_points.Goals as goal
 
@@ -18,7 +18,8 @@ returns-in_ok-answer-in-Ok c =
     let answer = c.in_ok-answer-in-Ok.answer in
     let are = c.requires.made in
     shows verdicts c.in-Ok.ensures.ok c.in-Ok.ensures.few
-    (no_other_races c.verdicts_are_safe.ensures points verdicts are.in_range are.table are.lowered c.in-Ok.ensures.ok)
+    (finds_each_race points verdicts are.in_range are.table are.lowered c.in-Ok.ensures.ok c.verdicts_find_races.ensures)
+    (no_other_races points verdicts are.in_range are.table are.lowered c.in-Ok.ensures.ok c.verdicts_are_safe.ensures)
     (subst (λ vs. ShowsVerdicts files points vs answer) c.deref.ensures.value c.in_ok-answer-in-Ok.ensures)
 
 pub returns-in_ok-answer-in-Err-TooManyLabels : goal.returns-in_ok-answer-in-Err-TooManyLabels

@@ -2,7 +2,7 @@ use Rattle.std.proofs.Common.{◌∙◌, Some, None, refl, sym}
 use Rattle.lk_typed.specs.Names.{declared_in}
 use Rattle.lk_names.specs.InScope.{env_in}
 use Rattle.lk_names.proofs.TellingRules.{name_admitted, name_refused}
-use Rattle.lk_names.proofs.names.Names.may_declare.Goals as goal
+use Rattle.lk_names.proofs.names.Names.redeclaration_code.Goals as goal
 
 pub may_follow-requires-clause-old : goal.may_follow-requires-clause-old
 may_follow-requires-clause-old c = c.in-Some.ensures.known c.args.types.now c.requires.scope
