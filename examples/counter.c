@@ -1,5 +1,5 @@
-/* A race: the threads lock `lock` to write `count`, and `main` prints it without. `main` joins the threads first, so this
-   program has no race in fact, but the analysis doesn't know what a join says; without the joins the race is there. */
+/* `count` is written under `lock` and printed without it. The joins order that, but the analysis doesn't know what a join
+   says: `count` is suspect. `started` has a race in fact: both threads write it, without a lock. */
 #include <pthread.h>
 #include <stdio.h>
 

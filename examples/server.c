@@ -1,5 +1,5 @@
 /* A server calls the handler of a request through a table of function pointers. Each handler that the table may hold is
-   followed: `served` is guarded by the lock that the caller holds, `logged` is written by one handler without its lock. */
+   followed: `served` is touched by one thread alone, and is unshared; `logged` is written by one handler without its lock. */
 #include <pthread.h>
 #include <stdlib.h>
 
