@@ -19,8 +19,7 @@ use std::alloc::Global;
 fn to_element(alloc: Global, number: u64) -> Result<Path, NoMemory>
     ensures { IfOk result (λ path. path ≡ Index number ∷ []) }
 {
-    let path = Path::empty(alloc).with(CellStep::Index(number))?;
-    Ok(path)
+    Path::empty(alloc).with(CellStep::Index(number))
 }
 
 /// Puts bytes into the elements of an object; a char is signed here (C99 6.2.5, 15; 6.4.5, 5).
@@ -230,8 +229,7 @@ fn first_in(
     let Some(form) = object.form_at(points.types(), &path) else {
         return Ok(None);
     };
-    let first = first_value(alloc, objects, form, &initial.value)?;
-    Ok(first)
+    first_value(alloc, objects, form, &initial.value)
 }
 
 /// Gives a cell what its initialiser says (C99 6.7.8).
@@ -348,8 +346,7 @@ fn call_main(
         points.entry(main),
         values.as_slice(),
     )?;
-    let state = with_main(alloc, objects, made)?;
-    Ok(state)
+    with_main(alloc, objects, made)
 }
 
 /// The first state of a program with these strings as the arguments of main (C99 5.1.2.2.1). No string holds
@@ -362,6 +359,5 @@ pub fn start(alloc: Global, points: &Points, args: &[Vec<u8>]) -> Result<State, 
     ensures small { IfOk result spec.IsSmall }
 {
     let objects = first_objects(alloc, points, args)?;
-    let state = call_main(alloc, points, objects, args)?;
-    Ok(state)
+    call_main(alloc, points, objects, args)
 }

@@ -72,8 +72,7 @@ pub fn value_through(
     let Some(object) = object_at(state, part.object) else {
         return Ok(None);
     };
-    let read = object.value_at(types, &part.path)?;
-    Ok(read)
+    object.value_at(types, &part.path)
 }
 
 /// The mutex that a pointer leads to.
@@ -132,8 +131,7 @@ pub fn moved_by(
     let Some(object) = object_at(state, pointer.part.object) else {
         return Ok(None);
     };
-    let to = moved(types, object, pointer, by)?;
-    Ok(to)
+    moved(types, object, pointer, by)
 }
 
 /// The pointer to an element of the array that a part is.
@@ -147,8 +145,7 @@ pub fn element_of(
 {
     let path = part.path.with(CellStep::Index(0))?;
     let first = Pointer::to(part.object, path);
-    let to = moved_by(types, state, &first, by)?;
-    Ok(to)
+    moved_by(types, state, &first, by)
 }
 
 /// Whether a mutex isn't ready.

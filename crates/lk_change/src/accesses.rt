@@ -153,6 +153,5 @@ pub(crate) fn scans_current(
         spec.scans points.now state.now thread.now.frame.point word (of_operand.current thread.now a)) }
 {
     let value = current(thread, a)?;
-    let change = scans(points, state, thread.frame.point, word, value.as_ref())?;
-    Ok(change)
+    scans(points, state, thread.frame.point, word, value.as_ref())
 }

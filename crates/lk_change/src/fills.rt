@@ -217,6 +217,5 @@ pub(crate) fn fills_current(
         named.now (of_operand.current thread.now a)) }
 {
     let value = current(thread, a)?;
-    let change = fills(points, state, thread.frame.point, named, value.as_ref())?;
-    Ok(change)
+    fills(points, state, thread.frame.point, named, value.as_ref())
 }

@@ -99,14 +99,13 @@ pub(crate) fn releases_by(
         spec.releases_by points.now state.now thread.now condition mutex) }
 {
     let frame = &thread.frame;
-    let change = releases(
+    releases(
         points,
         state,
         frame.point,
         operand(frame, condition),
         operand(frame, mutex),
-    )?;
-    Ok(change)
+    )
 }
 
 /// Wakes threads that wait on a condition variable: any may wake at any time, so nothing changes

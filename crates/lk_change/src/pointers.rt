@@ -110,8 +110,7 @@ fn indexed(
     let Some(from) = pointer_in(value) else {
         return Ok(None);
     };
-    let pointer = moved_by(points.types(), state, from, by)?;
-    Ok(pointer)
+    moved_by(points.types(), state, from, by)
 }
 
 /// The pointer that an index gives (C99 6.5.2.1).

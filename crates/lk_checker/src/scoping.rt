@@ -32,7 +32,6 @@ impl Checker {
             IsIn self.old (extend (enter env) added) → IsLeft self.new env added scope) }
         ensures known { IfOk result (IsKnownLeft self.new.types (length self.new.names.structs)) }
     {
-        let scope = self.names.leave_with(self.alloc, mark)?;
-        Ok(scope)
+        self.names.leave_with(self.alloc, mark)
     }
 }

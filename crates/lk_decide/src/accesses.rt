@@ -89,8 +89,7 @@ fn index_cause(
         let cause = element_cause(points, state, value, by)?;
         return Ok(cause);
     }
-    let cause = moved_cause(points, state, value, by)?;
-    Ok(cause)
+    moved_cause(points, state, value, by)
 }
 
 /// An index: both operands are used.
@@ -155,8 +154,7 @@ pub(crate) fn scan_row(
         spec.read_cause points.now state.now (of_operand.current thread.now a)) }
 {
     let value = current(thread, a)?;
-    let cause = read_cause(points, state, value.as_ref())?;
-    Ok(cause)
+    read_cause(points, state, value.as_ref())
 }
 
 /// Whether a pointer is what an allocation gave, to an object that lives (C99 7.20.3.2, 2).
@@ -218,8 +216,7 @@ pub(crate) fn read_row(
     if raw {
         return Ok(followed(state, place));
     }
-    let cause = read_cause(points, state, place)?;
-    Ok(cause)
+    read_cause(points, state, place)
 }
 
 /// The id of a thread is written: the place.

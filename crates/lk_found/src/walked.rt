@@ -115,7 +115,6 @@ impl Walked {
             at,
             layer: Layer::Function(types, dots),
         };
-        let walked = beside.with_layer(form, holds_sizeof)?;
-        Ok(walked)
+        beside.with_layer(form, holds_sizeof)
     }
 }

@@ -13,8 +13,7 @@ pub fn in_order(alloc: Global, points: &Points) -> Result<Vec<u32>, NoMemory>
     ensures { IfOk result (λ order. AreAllBelow (length points.now.points) order.items) }
 {
     let functions = all_functions(alloc, points)?;
-    let order = in_order_of(alloc, points, &functions)?;
-    Ok(order)
+    in_order_of(alloc, points, &functions)
 }
 
 /// All functions, in the order of their numbers.

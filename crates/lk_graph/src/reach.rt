@@ -42,8 +42,7 @@ impl Graph {
             (has rows a b ≡ true) ↔ Plus (IsArrow self.now) a b) }
     {
         let back = self.turned(alloc)?;
-        let rows = self.passed(alloc, &back, order)?;
-        Ok(rows)
+        self.passed(alloc, &back, order)
     }
 
     /// The same, by the arrows the other way round.

@@ -20,8 +20,7 @@ impl Acts<'_, '_> {
         let calls = self.calls(alloc)?;
         let functions = all_functions(alloc, self.points)?;
         let callees_first = calls.ends_first(alloc, &functions)?;
-        let order = in_order_of(alloc, self.points, &callees_first)?;
-        Ok(order)
+        in_order_of(alloc, self.points, &callees_first)
     }
 
     /// An arrow from each function to each that its points run.

@@ -35,8 +35,7 @@ fn put(table: &mut TypeTable, form: CType) -> Result<TypeId, NoMemory>
     if table.count() == u32::MAX {
         return Err(NoMemory);
     }
-    let t = table.put(form)?;
-    Ok(t)
+    table.put(form)
 }
 
 /// Begins so many structs in a table. `NoMemory` over 32 bits.

@@ -47,8 +47,7 @@ fn of_types(alloc: Global, units: &[TypedUnit], names: &Names) -> Result<Vec<Cla
     ensures { IfOk result (λ clashes. AreAll (DiffersFrom units.now) clashes.items) }
 {
     let becomes = resolve(alloc, units)?;
-    let clashes = types_differ(alloc, units, becomes.as_slice(), names)?;
-    Ok(clashes)
+    types_differ(alloc, units, becomes.as_slice(), names)
 }
 
 /// The clashes of declarations: `Code::DefinedTwice` and `Code::TypesDiffer`.

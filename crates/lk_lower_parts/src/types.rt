@@ -18,8 +18,7 @@ fn put(table: &mut TypeTable, form: CType) -> Result<TypeId, NoMemory>
     if !table.is_form(&form) || table.form_size(&form).is_none() || table.count() == u32::MAX {
         return Err(NoMemory);
     }
-    let t = table.put(form)?;
-    Ok(t)
+    table.put(form)
 }
 
 /// An array of elements of a type, without a size.

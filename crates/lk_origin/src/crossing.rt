@@ -112,6 +112,5 @@ pub(crate) fn ascending(alloc: Global, list: &[u32]) -> Result<IdSet, NoMemory>
     ensures each { IfOk result (λ ids. (x : ℕ) → has_id ids x ≡ has_id list.now x) }
     ensures sorted { IfOk result IsStrictlyIncreasing }
 {
-    let set = IdSet::from_list(alloc, list)?;
-    Ok(set)
+    IdSet::from_list(alloc, list)
 }

@@ -133,8 +133,7 @@ impl Rising<'_> {
             unreachable!()
         };
         let locks = set.copy()?;
-        let passage = self.passage(alloc, item, locks, way)?;
-        Ok(passage)
+        self.passage(alloc, item, locks, way)
     }
 
     /// Offers the set to an item. It is to rise again where it was there and has fewer locks now.

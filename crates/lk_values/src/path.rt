@@ -57,8 +57,7 @@ impl Path {
     pub fn copy(&self) -> Result<Path, NoMemory>
         ensures { IfOk result (λ path. path ≡ self.now) }
     {
-        let path = Path::of(*self.steps.allocator(), self.steps.as_slice())?;
-        Ok(path)
+        Path::of(*self.steps.allocator(), self.steps.as_slice())
     }
 
     /// The path with one more step at its end.
@@ -75,8 +74,7 @@ impl Path {
         requires { count ≤ length self.now }
         ensures { IfOk result (λ path. path ≡ take count self.now) }
     {
-        let path = Path::of(*self.steps.allocator(), &self.steps.as_slice()[..count])?;
-        Ok(path)
+        Path::of(*self.steps.allocator(), &self.steps.as_slice()[..count])
     }
 
     /// The path of its first steps, with another one after them.
@@ -85,8 +83,7 @@ impl Path {
         ensures { IfOk result (λ path. path ≡ take count self.now ++ step ∷ []) }
     {
         let first = self.first(count)?;
-        let path = first.with(step)?;
-        Ok(path)
+        first.with(step)
     }
 
     /// The number of the element that it ends at, where it ends at one.
@@ -109,8 +106,7 @@ impl Path {
             let path = self.copy()?;
             return Ok(path);
         }
-        let path = self.turned(steps.len() - 1, CellStep::Index(number))?;
-        Ok(path)
+        self.turned(steps.len() - 1, CellStep::Index(number))
     }
 }
 
