@@ -94,14 +94,14 @@ module _ (words : List (List ℕ)) (check : Check) (is_command : command words �
     report_fails failed =
         published_fails words shelf out err wanted ends text.items (λ held told. report_of_words is_command (answers.2 held told)) published (is_no_fault wanted answers.1) failed
 
-    pub report_always_answers : ForSome shelf.files (λ held. NoneHasRisen shelf out err → AlwaysAnswers words held ends)
-    report_always_answers held told none sources comes = elim published [
+    pub report_always_answers : NoneHasRisen shelf out err → AlwaysAnswers words ends
+    report_always_answers none other is = elim published [
       | inl (e, got, calm, quiet) ↦ inl (ap is_report e ∙ answers.1)
       | inr (e, rose, front, line) ↦ absurd (none.out_faults rose)
     ]
 
     pub report_always : ForSome shelf.files (λ held. NoneHasRisen shelf out err → AlwaysReports words held ends)
-    report_always held told none sources comes quiet = elim published [
+    report_always held told none other is quiet = elim published [
       | inl (e, got, calm, silent) ↦ inl (ap is_report e ∙ answers.1)
       | inr (e, rose, front, line) ↦ absurd (none.out_faults rose)
     ]
@@ -131,7 +131,7 @@ module _ (words : List (List ℕ)) (check : Check) (is_command : command words �
         told_fails words shelf out err status.Refused ends (refused_line file refusal) quiet row told_line (λ e. cc) failed
 
     pub refusal_always_reports : ForSome shelf.files (λ held. NoneHasRisen shelf out err → AlwaysReports words held ends)
-    refusal_always_reports held is none sources comes quiet =
+    refusal_always_reports held is none other same quiet =
         let (file, refusal, line_is, refused_so) = answers.1 in
         absurd (quiet file refusal (refusal_of_words is_command (refused_so held is)))
 

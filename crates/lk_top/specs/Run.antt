@@ -7,12 +7,11 @@ use Rattle.lk_base.specs.declared.status.Status.TheVariants as status
 use Rattle.lk_io.specs.Shelf.{Held}
 use Rattle.lk_io.specs.Sink.{Takes}
 use Rattle.lk_words.specs.Words.{Check, command}
-use Rattle.lk_sources.specs.declared.accepting.Accepted as code
 use Rattle.lk_sources.specs.Reading as reading
 use Rattle.lk_sources.specs.Shelves.{Count, Shelved, HasRisen, IsAsBefore}
 use Rattle.lk_top.specs.Texts.{refused_line, usage_line, unread_line, unwritten_line, no_memory_line}
 use Rattle.lk_top.specs.Results.{IsReport, IsRefusal, is_report}
-use Rattle.lk_top.specs.Outcome.{Accepted, Refused, ComesTo}
+use Rattle.lk_top.specs.Outcome.{Refused, ComesTo}
 
 -- what a sink tells: what it has taken before a call and after it, and its count of faults
 pub record Sunk : Type 0 where
@@ -108,18 +107,18 @@ abbrev pub AlwaysRefuses : List (List ℕ) → Held → Status → Type 0
 AlwaysRefuses words held ends = (file : List ℕ) (refusal : Refusal) →
     ComesTo words held (Refused file refusal) → IsOrNoMemory ends status.Refused
 
--- Sources of the subset are reported, but for want of memory: they are accepted, and nothing
--- refuses the program that they make.
+-- Sources of the subset are reported, but for want of memory: those that nothing refuses, neither them nor
+-- a program that they make.
 abbrev pub AlwaysReports : List (List ℕ) → Held → Status → Type 0
 AlwaysReports words held ends =
-    (sources : code.Accepted) → ComesTo words held (Accepted sources) →
+    (check : Check) → command words ≡ Some check →
     ((file : List ℕ) (refusal : Refusal) → IsRefusal (ComesTo words held) file refusal → ⊥) →
     (is_report ends ≡ true) ⊎ (ends ≡ status.NoMemory)
 
--- sources that are accepted are reported or refused, but for want of memory
-abbrev pub AlwaysAnswers : List (List ℕ) → Held → Status → Type 0
-AlwaysAnswers words held ends = (sources : code.Accepted) → ComesTo words held (Accepted sources) →
-    (is_report ends ≡ true) ⊎ IsOrNoMemory ends status.Refused
+-- a command is reported or refused, but for want of memory
+abbrev pub AlwaysAnswers : List (List ℕ) → Status → Type 0
+AlwaysAnswers words ends =
+    (check : Check) → command words ≡ Some check → (is_report ends ≡ true) ⊎ IsOrNoMemory ends status.Refused
 
 -- the output is never written to
 abbrev pub leaves_output : Status → Bool

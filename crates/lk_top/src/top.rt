@@ -75,11 +75,10 @@ pub fn run<F: Shelf, S: Sink, E: Sink>(
         (sunk S.gone S.faults out.old out.new) (sunk E.gone E.faults err.old err.new)
         → AlwaysRefuses (map string_bytes words.now) held result) }
 
-    // Sources that are accepted are reported, or their program is refused.
-    ensures always_answers { ForSome (F.held shelf.old) (λ held.
-        NoneHasRisen (shelved F.held F.bad F.faults shelf.old shelf.new)
+    // A command is reported or refused where no count of faults rises, but for want of memory.
+    ensures always_answers { NoneHasRisen (shelved F.held F.bad F.faults shelf.old shelf.new)
         (sunk S.gone S.faults out.old out.new) (sunk E.gone E.faults err.old err.new)
-        → AlwaysAnswers (map string_bytes words.now) held result) }
+        → AlwaysAnswers (map string_bytes words.now) result }
 
     // Words that are no command: the error output has the usage line. The shelf is not read.
     ensures usage { result ≡ Status.Usage → (command (map string_bytes words.now) ≡ None)

@@ -1,4 +1,5 @@
-use Rattle.std.proofs.Common.{refl, rules}
+use Rattle.std.proofs.Common.{map, refl, rules}
+use Rattle.std.specs.Prelude.{string_bytes}
 use Rattle.lk_sources.specs.Shelves.{shelved}
 use Rattle.lk_top.specs.Run.{sunk, usage, no_memory}
 use Rattle.lk_top.proofs.RunLemmas.{told_fails, reports, report_fails, report_always, report_always_answers, report_never_refuses, refuses, refusal_fails, refusal_always_reports, misses, unread_fails}
@@ -35,7 +36,7 @@ returns-in-Ok-Report-clause-always_refuses g c =
 
 pub returns-in-Ok-Report-clause-always_answers : goal.returns-in-Ok-Report-clause-always_answers
 returns-in-Ok-Report-clause-always_answers g c =
-    report_always_answers _ _ (search rules) _ _ _ _ c.in-Ok-Report.text _ (rw c.in-Ok-Report.field-0-is at c.in-Ok-Report.ensures.answer) (rw c.deref.ensures.value at c.publish.ensures.published)
+    report_always_answers (map string_bytes c.args.words.now) _ (search rules) _ _ _ _ c.in-Ok-Report.text _ (rw c.in-Ok-Report.field-0-is at c.in-Ok-Report.ensures.answer) (rw c.deref.ensures.value at c.publish.ensures.published)
 
 pub returns-in-Ok-Refusal-clause-refuses : goal.returns-in-Ok-Refusal-clause-refuses
 returns-in-Ok-Refusal-clause-refuses g c =
