@@ -102,6 +102,7 @@ module _ (whole : Whole) (units : Units) (rows entities : List (List ℕ)) (link
 
     pub are_types : AreTypes whole
     are_types = record {
+      ready = record { table_is = h.table_is; predeclared = h.predeclared };
       struct_of = number_in h.structs;
       structs = record {
         known = subst (λ us. (s : StructOf) → IsStruct us s → number_in h.structs s < length whole.types.members) (sym linked.units_are) struct_below;

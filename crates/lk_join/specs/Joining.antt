@@ -5,6 +5,7 @@ use Rattle.lk_base.specs.declared.kind.Kind.{Kind}
 use Rattle.lk_link.specs.Sources.{Units, IsStruct, IsEntity, IsDefinition, ComesBefore}
 use Rattle.lk_link.specs.Structs.{Becomes, members_in, types_in, struct_in}
 use Rattle.lk_link.specs.declared.place.StructOf.{StructOf}
+use Rattle.lk_typed.specs.Meaning.{IsReady}
 use Rattle.lk_typed.specs.declared.entity.Entity.{Entity}
 use Rattle.lk_typed.specs.declared.entity.EntityKind.TheVariants.{Function}
 use Rattle.lk_typed.specs.declared.entity.Linkage.TheVariants as linkage
@@ -60,6 +61,8 @@ module _ (whole : Whole) where
         HasFormHere struct_of s (FunctionType a ps dots) (FunctionType b qs dots)
 
   pub record AreTypes : Type 0 where
+    -- they are a table, which begins with the predeclared types, and in which each type stands once
+    pub ready : IsReady whole.types
     pub struct_of : StructOf → ℕ
     pub structs : AreStructs struct_of
     pub has : (s t : ℕ) (form : CType) → slice_get (types_in units_of s) t ≡ Some form →

@@ -4,6 +4,7 @@ use Rattle.lk_link.specs.Sources.{Units}
 use Rattle.lk_link.specs.declared.place.StructOf.{StructOf}
 use Rattle.lk_typed.specs.declared.whole.Linked.{Linked}
 use Rattle.lk_types.specs.Building.{IsTable}
+use Rattle.lk_types.specs.Predeclared.{HasPredeclared}
 use Rattle.lk_types.specs.Table.{Table}
 use Rattle.lk_join.specs.Classes.{AreNumbers}
 use Rattle.lk_join.specs.Completing.{HasMembers}
@@ -28,4 +29,5 @@ pub record AreTypesOf (units : Units) (table : Table) (rows : List (List ℕ)) :
   pub put : AreRowsOf units structs table rows (length units)
   pub members : HasMembers units structs rows table
   pub table_is : IsTable table
+  pub predeclared : HasPredeclared table
   pub pointers : All (All (HasPointer table)) rows

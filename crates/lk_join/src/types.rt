@@ -6,6 +6,7 @@ ghost use Rattle.lk_join.specs.Forms.{ArePutAt, AreRowsOf, HasPointer, KeepsPoin
 ghost use Rattle.lk_join.specs.Large.{AreAsLargeHere, HaveTypeTables, IsJoining};
 ghost use Rattle.lk_link.specs.Sources.{AreSources};
 ghost use Rattle.lk_types.specs.Building.{IsForm, IsLonger, IsTable};
+ghost use Rattle.lk_types.specs.Predeclared.{HasPredeclared};
 ghost use Rattle.lk_types.specs.Sizes.{form_size, is_over};
 ghost use Rattle.lk_types.specs.Table.{IsKnown};
 
@@ -14,7 +15,7 @@ use crate::forms::Source;
 use crate::numbers::Numbers;
 use lk_base::{NoMemory, Seq};
 use lk_typed::TypedUnit;
-use lk_types::{CType, TypeId, TypeTable};
+use lk_types::{CType, TypeId, TypeTable, predeclared_types_stay};
 use std::alloc::Global;
 
 /// The program's types, and of each type of each source its number among them.
@@ -43,6 +44,7 @@ fn begin_structs(structs: usize, table: &mut TypeTable) -> Result<(), NoMemory>
     ensures few { OnOk result (structs < 2 ^ 32) }
     ensures count { OnOk result (length table.new.members ≡ length table.old.members + structs) }
     ensures same { OnOk result (HaveSameMembers table.old table.new) }
+    ensures types { OnOk result (table.new.types ≡ table.old.types) }
 {
     for _begun in 0..structs {
         if table.structs() == u32::MAX {
@@ -206,7 +208,9 @@ pub(crate) fn join_types(
         HasMembers units.now numbers.now.rows types.rows.items types.table) }
     ensures pointers { IfOk result (λ types. All (All (HasPointer types.table)) types.rows.items) }
     ensures table { IfOk result (λ types. IsTable types.table) }
+    ensures predeclared { IfOk result (λ types. HasPredeclared types.table) }
 {
+    predeclared_types_stay();
     let mut table = TypeTable::new(alloc)?;
     begin_structs(numbers.count, &mut table)?;
     are_type_tables(units);

@@ -5,7 +5,7 @@ use Rattle.lk_join.proofs.Completed.{begun_same}
 use Rattle.lk_join.proofs.types.begin_structs.Goals as goal
 
 pub loop-begun-init : goal.loop-begun-init
-loop-begun-init c = (omega arith, omega arith, λ n. refl)
+loop-begun-init c = (omega arith, omega arith, λ n. refl, refl)
 
 pub loop-begun-preserved : goal.loop-begun-preserved
 loop-begun-preserved c =
@@ -17,4 +17,4 @@ loop-begun-preserved c =
     let long = ap (λ (table : Table). length table.members) ok in
     let count = c.loop-begun.invariant.1 in
     let here = c.structs.ensures in
-    (omega (arith, count, here), omega (arith, long, count, length-append before.members (none ∷ [])), λ n. same n ∙ c.loop-begun.invariant.2 n)
+    (omega (arith, count, here), omega (arith, long, count, length-append before.members (none ∷ [])), λ n. same n ∙ c.loop-begun.invariant.2 n, ap (λ (table : Table). table.types) ok ∙ c.loop-begun.invariant.3)

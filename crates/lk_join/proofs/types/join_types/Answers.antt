@@ -1,5 +1,5 @@
-use Rattle.std.proofs.Common.{All, arith, length, sym, subst}
-use Rattle.lk_types.specs.Table.{IsKnown}
+use Rattle.std.proofs.Common.{◌∙◌, [], All, ap, arith, length, sym, subst}
+use Rattle.lk_types.specs.Table.{IsKnown, Table}
 use Rattle.lk_join.specs.Forms.{HasPointer}
 use Rattle.lk_join.proofs.Completed.{begun_open}
 use Rattle.lk_join.proofs.Giving.{members_by}
@@ -35,3 +35,10 @@ returns-clause-members c =
 
 pub returns-clause-pointers : goal.returns-clause-pointers
 returns-clause-pointers c = subst (All (All (HasPointer c.put_all_pointers.new.table))) c.as_slice.ensures.value c.in_ok-put_all_pointers.ensures.put
+
+pub returns-clause-predeclared : goal.returns-clause-predeclared
+returns-clause-predeclared c =
+    let stay = c.predeclared_types_stay.ensures in
+    let first = c.in_ok-begin_structs.ensures.types ∙ ap (λ (table : Table). table.types) c.in_ok-table.ensures in
+    stay c.join_rows.new.table c.put_all_pointers.new.table c.in_ok-put_all_pointers.ensures.keeps.longer
+    (stay c.begin_structs.new.table c.join_rows.new.table c.in_ok-rows.ensures.longer ([], first))
