@@ -1,5 +1,5 @@
 -- Declared names: their codes are kept one after the other, and then they are in scope.
-use Rattle.std.specs.Prelude.{IfOk, OnOk, IfSome, not, slice_get, ◌||◌, if◌then◌else◌}
+use Rattle.std.specs.Prelude.{IfOk, OnOk, IfSome, not, slice_get, ◌&&◌, ◌||◌, if◌then◌else◌}
 use Rattle.std.specs.declared.result.Result.{Result}
 use Rattle.std.proofs.lemmas.Option.{none-some}
 use Rattle.std.proofs.Common.{Ok, Err, ◌≡◌, ◌∙◌, ◌++◌, ◌⊎◌, inl, inr, ℕ, Bool, true, false, List, [], ◌∷◌, Option, Some, None, refl, sym, ap, subst}
@@ -24,7 +24,7 @@ use Rattle.lk_typed.specs.Meaning.{meaning}
 use Rattle.lk_typed.specs.Names.{declared_in}
 use Rattle.lk_typed.specs.NodeRules.{mark, name_use_rules}
 use Rattle.lk_typed.specs.Nodes.{Declares}
-use Rattle.lk_typed.specs.Redeclared.{may_stand, name_rules}
+use Rattle.lk_typed.specs.Redeclared.{is_second, may_stand, name_rules}
 use Rattle.lk_typed.specs.Sizes.{is_complete}
 use Rattle.lk_typed.specs.Stands.{Mark}
 use Rattle.lk_typed.specs.Told.{Named}
@@ -261,7 +261,7 @@ type_asked old mid new ss how named place t pending marks first second uses asks
 
 -- nothing asks which node declares a name
 any_ordinal : (env : Env) (d : Declared) (n : ℕ) → name_rules env d ≡ name_rules env (record d { ordinal = n })
-any_ordinal env d n = ap (λ b. if b then [] else breach_of Redeclared d.name ∷ []) (by (look_up_here env d.name))
+any_ordinal env d n = ap (λ b. if b && not (is_second env d) then [] else breach_of Redeclared d.name ∷ []) (by (look_up_here env d.name))
   where
     by : (o : Option Declared) → may_stand o d ≡ may_stand o (record d { ordinal = n })
     by None = refl

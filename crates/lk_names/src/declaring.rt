@@ -1,7 +1,9 @@
 //! When a name that is no tag may be declared again (C99 6.7, 3; 6.2.2; 6.9.2).
-ghost use Rattle.std.specs.Prelude.{◌≡◌, map};
+ghost use Rattle.std.specs.Prelude.{◌≡◌, ◌&&◌, ◌∷◌, [], ℕ, List, if◌then◌else◌, map, not};
+ghost use Rattle.lk_base.specs.declared.code.Code.TheVariants.{Redeclared};
 ghost use Rattle.lk_types.specs.Table.{Table, IsKnown};
 ghost use Rattle.lk_typed.specs.Env.{Env, is_one_of};
+ghost use Rattle.lk_typed.specs.Faults.{breach_of};
 ghost use Rattle.lk_typed.specs.Meaning.{meaning};
 ghost use Rattle.lk_typed.specs.Names.{declared_in, meaning_in, IsKnownName, IsKnownMeaning};
 ghost use Rattle.lk_typed.specs.Redeclared as spec;
@@ -143,6 +145,20 @@ fn is_faulty(meaning: Meaning) -> bool
     }
 }
 
+/// Whether a declaration that isn't faulty has a body or an initialiser.
+fn is_given(declared: &Declared) -> bool
+    ensures { (table : Table) → result ≡ spec.is_given (declared_in table declared.now) }
+{
+    is_whole(declared.defines) && !is_faulty(declared.meaning)
+}
+
+/// Whether a declaration gives a name a body or an initialiser.
+pub(crate) fn gives_name(declared: &Declared, name: &Name) -> bool
+    ensures { (table : Table) → result ≡ spec.gives_name name.now (declared_in table declared.now) }
+{
+    is_given(declared) && declared.name == *name
+}
+
 /// Whether two declarations of one entity may stand in one scope: they reach equally far, at most one has a
 /// body or an initialiser, and their types are equal but for absent sizes of arrays.
 fn are_of_one_entity(types: &TypeTable, old: &Declared, new: &Declared) -> bool
@@ -167,9 +183,30 @@ fn may_follow(types: &TypeTable, old: &Declared, new: &Declared) -> bool
         || (is_library_type(&new.name) && are_same_typedefs(types, old.meaning, new.meaning))
 }
 
+/// `Code::Redeclared`, unless a declaration may follow the latest one of its name and gives no second body or
+/// initialiser.
+fn unless_admitted(may_follow: bool, is_second: bool) -> Option<Code>
+    ensures { (name : List ℕ) → breaches_told result name ≡
+        (if may_follow && not is_second then [] else breach_of Redeclared name ∷ []) }
+{
+    if may_follow && !is_second {
+        None
+    } else {
+        Some(Code::Redeclared)
+    }
+}
+
 impl Names {
+    /// Whether a declaration gives its name a second body or initialiser.
+    fn is_second(&self, new: &Declared) -> bool
+        ensures { (table : Table) (rest : Env) →
+            result ≡ spec.is_second (env_in table rest self.now) (declared_in table new.now) }
+    {
+        is_given(new) && self.is_given_here(&new.name)
+    }
+
     /// The code of a declaration of a name that is no tag: `Code::Redeclared` where one of its scope is there
-    /// behind which it may not stand.
+    /// behind which it may not stand, or where it has a body or an initialiser, and an earlier one has, too.
     pub fn redeclaration_code(&self, types: &TypeTable, new: &Declared) -> Option<Code>
         requires scope { IsKnownScope types.now self.now }
         requires new { IsKnownName types.now new.now }
@@ -177,13 +214,7 @@ impl Names {
             spec.name_rules (env_in types.now rest self.now) (declared_in types.now new.now) }
     {
         match self.look_up_here(&new.name) {
-            Some(old) => {
-                if may_follow(types, old, new) {
-                    None
-                } else {
-                    Some(Code::Redeclared)
-                }
-            }
+            Some(old) => unless_admitted(may_follow(types, old, new), self.is_second(new)),
             None => None,
         }
     }

@@ -6,12 +6,14 @@ ghost use Rattle.lk_types.specs.Table.{Table};
 ghost use Rattle.lk_typed.specs.Env as spec;
 ghost use Rattle.lk_typed.specs.Env.{Env, Begins, Completes, is_name, latest};
 ghost use Rattle.lk_typed.specs.Names.{declared_in, tag_in, IsKnownName};
+ghost use Rattle.lk_typed.specs.Redeclared.{is_given_here};
 ghost use Rattle.lk_typed.specs.Told.{steps};
 ghost use Rattle.lk_typed.specs.Typings.{members_in, HasKnownFields};
 ghost use Rattle.lk_typed.specs.declared.members.Members.TheVariants.{NotYet};
 ghost use Rattle.lk_names.specs.InScope.{env_in, nothing_in_scope, HasStruct, IsKnownScope};
 ghost use Rattle.lk_names.specs.Growing.{Adds, Enters, GivesBack, IsKnownLeft, IsMarkOf, Leaves, in_innermost, left, name_added, scope_added, tag_added};
 
+use crate::declaring::gives_name;
 use crate::scoped::{Scoped, latest_behind, latest_of};
 use lk_base::{Name, NoMemory, Seq};
 use lk_scopes::Declarations;
@@ -114,6 +116,21 @@ impl Names {
             IfSome (option_copied result) (IsKnownName table) }
     {
         latest_behind(&self.declared, self.base, name)
+    }
+
+    /// Whether a declaration of a name in the innermost scope gives it a body or an initialiser.
+    pub(crate) fn is_given_here(&self, name: &Name) -> bool
+        ensures { (table : Table) (rest : Env) →
+            result ≡ is_given_here (env_in table rest self.now) name.now }
+    {
+        let mut place = self.declared.len();
+        while place > self.base {
+            place -= 1;
+            if gives_name(&self.declared.get(place).item, name) {
+                return true;
+            }
+        }
+        false
     }
 
     /// The innermost declaration of a tag.

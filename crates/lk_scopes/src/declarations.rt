@@ -1,5 +1,5 @@
 //! A list of what is declared by names.
-ghost use Rattle.std.specs.Prelude.{◌≡◌, ◌≤◌, ◌-◌, vec_capacity, cond, IsSome, ◌++◌, ◌∷◌, [], List, ℕ, length, reverse, take, drop, OnOk, OnErr, IfOk, MatchOption};
+ghost use Rattle.std.specs.Prelude.{◌≡◌, ◌<◌, ◌≤◌, ◌-◌, Some, slice_get, vec_capacity, cond, IsSome, ◌++◌, ◌∷◌, [], List, ℕ, length, reverse, take, drop, OnOk, OnErr, IfOk, MatchOption};
 ghost use Rattle.std.specs.Map.{lookup};
 ghost use Rattle.std.specs.Option.{option_copied};
 ghost use Rattle.lk_scopes.specs.Latest.{latest, is_name};
@@ -78,6 +78,14 @@ impl<T: Named> Declarations<T> {
         ensures { result ≡ length self.now }
     {
         self.entries.len()
+    }
+
+    /// The one that was declared behind so many others.
+    pub fn get(&self, place: usize) -> &T
+        requires { place < length self.now }
+        ensures { slice_get self.now place ≡ Some result.now }
+    {
+        &self.entries[place].item
     }
 
     /// The latest one whose name has these bytes.

@@ -1,11 +1,12 @@
 -- When a name may be declared again (C99 6.7, 3; 6.2.2; 6.9.2): code 21.
-use Rattle.std.specs.Prelude.{Bool, true, false, not, ◌&&◌, ◌||◌, Option, Some, None, List, [], ◌∷◌, codes, if◌then◌else◌}
+use Rattle.std.specs.Prelude.{Bool, true, false, not, ◌&&◌, ◌||◌, Option, Some, None, List, [], ◌∷◌, codes, drop, if◌then◌else◌}
+use Rattle.std.specs.List.{list_any}
 use Rattle.lk_base.specs.declared.code.Code.TheVariants.{Redeclared}
 use Rattle.lk_typed.specs.declared.entity.Linkage.{Linkage}
 use Rattle.lk_typed.specs.declared.entity.Linkage.TheVariants as linkage
 use Rattle.lk_typed.specs.declared.entity.Defines.{Defines}
 use Rattle.lk_typed.specs.declared.entity.Defines.TheVariants as defines
-use Rattle.lk_typed.specs.Env.{Env, Name, Declared, Meaning, AnObject, AFunction, ATypedef, AnEnumerator, AnInitialiserWord, AFaultyName, Tag, TagMeaning, AStructTag, AnEnumTag, AFaultyTag, Members, NotYet, Begun, Known, Faulty, is_one_of, look_up_here, look_up_tag, look_up_tag_here, members_of}
+use Rattle.lk_typed.specs.Env.{Env, Name, Declared, Meaning, AnObject, AFunction, ATypedef, AnEnumerator, AnInitialiserWord, AFaultyName, Tag, TagMeaning, AStructTag, AnEnumTag, AFaultyTag, Members, NotYet, Begun, Known, Faulty, is_name, is_one_of, look_up_here, look_up_tag, look_up_tag_here, members_of}
 use Rattle.lk_typed.specs.Faults.{Breach, breach_of}
 use Rattle.lk_typed.specs.Ty.{Ty, is_same, is_redeclarable}
 
@@ -92,10 +93,27 @@ abbrev pub may_stand : Option Declared → Declared → Bool
 may_stand None new = true
 may_stand (Some old) new = may_follow old new
 
+-- a declaration that isn't faulty has a body or an initialiser
+abbrev pub is_given : Declared → Bool
+is_given d = is_whole d.defines && not (is_faulty d.meaning)
+
+abbrev pub gives_name : Name → Declared → Bool
+gives_name name d = is_given d && is_name d.name name
+
+-- one of the declarations of the name in this scope has one
+abbrev pub is_given_here : Env → Name → Bool
+is_given_here env name = list_any (gives_name name) (drop env.base env.declared)
+
+-- a second body or initialiser of one name, also where a declaration without one stands between (C99 6.9, 3
+-- and 5)
+abbrev pub is_second : Env → Declared → Bool
+is_second env new = is_given new && is_given_here env new.name
+
 -- 21 of a name that is no tag
 abbrev pub name_rules : Env → Declared → List Breach
 name_rules env new =
-    if may_stand (look_up_here env new.name) new then [] else breach_of Redeclared new.name ∷ []
+    if may_stand (look_up_here env new.name) new && not (is_second env new) then []
+    else breach_of Redeclared new.name ∷ []
 
 -- ---- tags (C99 6.7.2.3): a struct whose definition has begun may not be defined again, inside its own definition neither
 

@@ -1,0 +1,2 @@
+int puts(const char *);
+int puts(const char *s) { return *s; }

@@ -1,0 +1,3 @@
+int n = 1;
+extern int n;
+int n = 2;
