@@ -12,7 +12,7 @@ use crate::acts::Acts;
 use crate::states::States;
 use lk_base::NoMemory;
 use lk_facts::Label;
-use lk_links::{Link, empty_set, held_as, risen};
+use lk_links::{Link, held_as, risen};
 use lk_sets::IdSet;
 use std::alloc::Global;
 
@@ -98,7 +98,7 @@ impl Acts<'_, '_> {
         }
         match self.brought(alloc, point, states)? {
             Some(ids) => Ok(ids),
-            None => empty_set(alloc),
+            None => Ok(IdSet::empty(alloc)),
         }
     }
 

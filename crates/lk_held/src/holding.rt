@@ -15,7 +15,6 @@ ghost use Rattle.lk_sets.specs.Ids.{has_id};
 use crate::acts::Acts;
 use crate::states::States;
 use lk_base::NoMemory;
-use lk_links::empty_set;
 use lk_sets::IdSet;
 use std::alloc::Global;
 
@@ -134,8 +133,7 @@ impl Acts<'_, '_> {
         if self.points.live(point) && !entries.has(point) {
             return Ok(None);
         }
-        let none = empty_set(alloc)?;
-        Ok(Some(none))
+        Ok(Some(IdSet::empty(alloc)))
     }
 
     /// The first set of each point.

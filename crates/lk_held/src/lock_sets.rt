@@ -16,7 +16,7 @@ use crate::acts::Acts;
 use crate::states::States;
 use lk_base::NoMemory;
 use lk_facts::{Facts, Held};
-use lk_links::{Links, empty_set};
+use lk_links::Links;
 use lk_sets::IdSet;
 use std::alloc::Global;
 
@@ -43,7 +43,7 @@ fn copy_of(alloc: Global, set: &IdSet) -> Result<IdSet, NoMemory>
     ensures value { IfOk result (λ copy. copy ≡ set.now) }
     ensures sorted { IfOk result IsStrictlyIncreasing }
 {
-    let none = empty_set(alloc)?;
+    let none = IdSet::empty(alloc);
     prove!(none.ids().len() <= set.ids().len());
     let copy = set.union(&none)?;
     Ok(copy)

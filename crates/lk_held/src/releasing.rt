@@ -10,7 +10,7 @@ ghost use Rattle.lk_sets.specs.Ids.{has_id};
 
 use crate::acts::Acts;
 use lk_base::NoMemory;
-use lk_links::{Link, empty_set, has_all, outside};
+use lk_links::{Link, has_all, outside};
 use lk_sets::IdSet;
 use std::alloc::Global;
 
@@ -34,7 +34,7 @@ fn empty_sets(alloc: Global, count: u32) -> Result<Vec<IdSet>, NoMemory>
 {
     let mut sets = Vec::new(alloc);
     for _ in 0..count {
-        sets.push(empty_set(alloc)?)?;
+        sets.push(IdSet::empty(alloc))?;
     }
     Ok(sets)
 }
@@ -80,7 +80,7 @@ impl Acts<'_, '_> {
             (IsOutside (basis_in self.now).flow (Releases released.now) x)) }
         ensures in_range { IfOk result (λ ids. All (λ x. x < length self.now.labels.now.entries) ids) }
     {
-        let mut all = empty_set(alloc)?;
+        let mut all = IdSet::empty(alloc);
         for link in self.links.at(point) {
             self.join_outside(alloc, link, released, &mut all)?;
         }

@@ -29,11 +29,6 @@ has_id-one m x = (
 pub All-one : (P : ℕ → Type 0) (x : ℕ) → P x → All P (x ∷ [])
 All-one P x holds = All-from_has_id P (x ∷ []) (λ y there. subst P (sym ((has_id-one x y).0 there)) holds)
 
--- a set of no numbers
-pub no_members : (ids : List ℕ) → IsSetOf (has_id []) ids → ids ≡ []
-no_members [] is = refl
-no_members (x ∷ xs) is = absurd (both_ways (has_id (x ∷ xs) x) (is.members x) (or_left _ _ (eq-eqb x x refl)))
-
 -- a test of each number
 pub all_pass : (p : ℕ → Bool) (ids : List ℕ) → list_all p ids ≡ true → (x : ℕ) → has_id ids x ≡ true → p x ≡ true
 all_pass p [] passes x there = absurd (false≢true there)

@@ -10,4 +10,4 @@ mod sets;
 pub use link::Link;
 pub use links::Links;
 pub use over::{clash, held_as, only_in_row, outside, push_over, risen, rises_as};
-pub use sets::{empty_set, has_all};
+pub use sets::has_all;

@@ -10,7 +10,6 @@ ghost use Rattle.lk_sets.specs.Ids.{has_id};
 ghost use Rattle.lk_sets.specs.Rows.{row_of};
 
 use crate::link::Link;
-use crate::sets::empty_set;
 use lk_base::{NoMemory, Seq};
 use lk_facts::{Effect, Facts, Label, RootKind, Way};
 use lk_sets::IdSet;
@@ -154,7 +153,7 @@ fn functions_at(alloc: Global, facts: &Facts<'_>, a: u32) -> Result<IdSet, NoMem
     ensures in_range { IfOk result (λ ids. All (λ g. g < length facts.now.program.functions) ids) }
 {
     let Some(target) = facts.labels().target(a) else {
-        return empty_set(alloc);
+        return Ok(IdSet::empty(alloc));
     };
     let ids = functions_named(alloc, facts, target)?;
     let functions = IdSet::from_list(alloc, &ids)?;

@@ -9,7 +9,6 @@ ghost use Rattle.lk_sets.specs.Ids.{has_id, IsSetOf};
 
 use lk_base::{NoMemory, Seq};
 use lk_facts::{Facts, Racing, Verdict, VerdictState};
-use lk_links::empty_set;
 use lk_rise::Conflicts;
 use lk_sets::IdSet;
 use std::alloc::Global;
@@ -59,10 +58,7 @@ fn common(alloc: Global, accesses: &[Racing]) -> Result<IdSet, NoMemory>
             let common = meet_all(alloc, first.locks.ids(), others)?;
             Ok(common)
         }
-        None => {
-            let none = empty_set(alloc)?;
-            Ok(none)
-        }
+        None => Ok(IdSet::empty(alloc)),
     }
 }
 

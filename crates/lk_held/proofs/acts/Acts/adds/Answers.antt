@@ -1,5 +1,4 @@
 use Rattle.std.proofs.Common.{[], ◌∷◌, subst, sym}
-use Rattle.std.proofs.lemmas.Result.{IfOk-weaker}
 use Rattle.lk_facts.specs.Flow.{IsOnly, IsHeldAs}
 use Rattle.lk_held.specs.Acts.{basis_in}
 use Rattle.lk_held.specs.Holding.{AreAdded, AreBrought}
@@ -27,7 +26,5 @@ returns-in-None c =
     let basis = basis_in c.args.self.now in
     let at = holds c.args.states.now in
     let links = links_at c.args.self.now.links.now c.args.point in
-    IfOk-weaker c.empty_set.result _ _ (λ set is.
-    subst (AreAdded basis at c.args.point) (sym is)
-    (added_none basis at c.args.point links (c.requires.linked.each c.args.point c.requires.point) c.in_default.ensures.value (subst (AreBrought basis at links) c.in-None.is c.in_ok-ids.ensures)))
-    c.empty_set.ensures
+    subst (AreAdded basis at c.args.point) (sym c.empty.ensures)
+    (added_none basis at c.args.point links (c.requires.linked.each c.args.point c.requires.point) c.in_default.ensures.value (subst (AreBrought basis at links) c.in-None.is c.in_ok-ids.ensures))
