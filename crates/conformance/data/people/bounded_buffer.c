@@ -1,0 +1,397 @@
+# 5 "include/posix/errno.h"
+int lsrace_errno(void);
+# 3 "include/posix/sys/types.h"
+typedef long ssize_t;
+typedef long off_t;
+typedef long time_t;
+typedef long clock_t;
+typedef long suseconds_t;
+typedef long blkcnt_t;
+typedef long blksize_t;
+typedef int pid_t;
+typedef int clockid_t;
+typedef unsigned int id_t;
+typedef unsigned int uid_t;
+typedef unsigned int gid_t;
+typedef unsigned int mode_t;
+typedef unsigned int useconds_t;
+typedef unsigned long dev_t;
+typedef unsigned long ino_t;
+typedef unsigned long nlink_t;
+# 4 "include/posix/sched.h"
+struct sched_param {
+    int sched_priority;
+};
+
+
+
+int sched_yield(void);
+int sched_get_priority_max(int policy);
+int sched_get_priority_min(int policy);
+# 4 "include/posix/stddef.h"
+typedef long ptrdiff_t;
+typedef int wchar_t;
+# 5 "include/posix/time.h"
+struct timespec {
+    time_t tv_sec;
+    long tv_nsec;
+};
+struct tm {
+    int tm_sec;
+    int tm_min;
+    int tm_hour;
+    int tm_mday;
+    int tm_mon;
+    int tm_year;
+    int tm_wday;
+    int tm_yday;
+    int tm_isdst;
+};
+# 26
+clock_t clock(void);
+time_t time(time_t *to);
+# 35
+int clock_gettime(clockid_t clock, struct timespec *to);
+
+int clock_gettime(clockid_t clock, struct timespec *to) {
+    if (rand()) return -1;
+    to->tv_sec = (time_t)((unsigned long
+# 39
+                         )rand() << 32
+# 39
+                         ^ (unsigned
+# 39
+                         long)rand()
+# 39
+                         );
+    to->tv_nsec = (long)((unsigned
+# 40
+                   long )rand() << 32
+# 40
+                        ^ (unsigned
+# 40
+                   long )rand());
+    return 0;
+}
+
+int clock_getres(clockid_t clock, struct timespec *to);
+# 55
+int nanosleep(const struct timespec *how_long, struct timespec *left);
+# 67
+int clock_nanosleep(clockid_t clock, int flags, const struct timespec *until, struct timespec *left);
+# 10 "include/posix/pthread.h"
+typedef struct { pthread_mutex_t nothing; } lsrace_attributes;
+# 31
+int pthread_attr_init(lsrace_attributes
+# 31
+                                     *attributes);
+int pthread_attr_destroy(lsrace_attributes
+# 32
+                                        *attributes);
+int pthread_attr_setdetachstate(lsrace_attributes
+# 33
+                                               *attributes, int state);
+int pthread_attr_setguardsize(lsrace_attributes
+# 34
+                                             *attributes, size_t size);
+int pthread_attr_setinheritsched(lsrace_attributes
+# 35
+                                                *attributes, int inherit);
+int pthread_attr_setschedpolicy(lsrace_attributes
+# 36
+                                               *attributes, int policy);
+int pthread_attr_setscope(lsrace_attributes
+# 37
+                                         *attributes, int scope);
+int pthread_attr_setstacksize(lsrace_attributes
+# 38
+                                             *attributes, size_t size);
+int pthread_mutexattr_init(lsrace_attributes   *attributes);
+int pthread_mutexattr_destroy(lsrace_attributes   *attributes);
+int pthread_mutexattr_setprotocol(lsrace_attributes   *attributes, int protocol);
+int pthread_mutexattr_setpshared(lsrace_attributes   *attributes, int shared);
+int pthread_mutexattr_settype(lsrace_attributes   *attributes, int type);
+int pthread_condattr_init(lsrace_attributes  *attributes);
+int pthread_condattr_destroy(lsrace_attributes  *attributes);
+int pthread_condattr_setclock(lsrace_attributes  *attributes, clockid_t clock);
+int pthread_condattr_setpshared(lsrace_attributes  *attributes, int shared);
+
+int pthread_attr_setschedparam(lsrace_attributes
+# 49
+                                              *attributes, const struct sched_param *parameters);
+# 56
+int pthread_attr_getdetachstate(const lsrace_attributes
+# 56
+                                                     *attributes, int *to);
+# 63
+int pthread_attr_getstacksize(const lsrace_attributes
+# 63
+                                                   *attributes, size_t *to);
+# 72
+int pthread_setconcurrency(int level);
+int pthread_yield(void);
+# 78
+void pthread_testcancel(void);
+int pthread_setcancelstate(int state, int *old);
+# 86
+int pthread_setcanceltype(int type, int *old);
+# 112
+static int pthread_cond_timedwait(pthread_cond_t *condition, pthread_mutex_t *mutex, const struct timespec *until) {
+    until->tv_sec, until->tv_nsec;
+    pthread_cond_wait(condition, mutex);
+    return rand();
+}
+
+
+
+typedef pthread_mutex_t pthread_spinlock_t;
+# 128
+typedef struct { pthread_mutex_t lock; } pthread_once_t;
+# 140
+typedef struct { pthread_mutex_t nothing; } pthread_barrier_t;
+# 145
+int lsrace_barrier_init  (
+# 145
+                         pthread_barrier_t *barrier, const lsrace_attributes     *attributes, unsigned count);
+int lsrace_barrier_destroy  (
+# 146
+                            pthread_barrier_t *barrier);
+int lsrace_barrier_wait  (
+# 147
+                         pthread_barrier_t *barrier);
+
+
+typedef struct { pthread_mutex_t nothing; } pthread_rwlock_t;
+typedef unsigned int pthread_key_t;
+# 18 "include/posix/stdio.h"
+typedef struct { pthread_mutex_t nothing; } FILE;
+extern FILE lsrace_stdin;
+
+
+
+extern FILE lsrace_stdout;
+
+
+
+extern FILE lsrace_stderr;
+
+FILE lsrace_stderr;
+# 47
+int remove(const char *path);
+# 53
+int rename(const char *from, const char *to);
+# 60
+int fflush(FILE *stream);
+int fclose(FILE *stream);
+int pclose(FILE *stream);
+int feof(FILE *stream);
+int ferror(FILE *stream);
+int fileno(FILE *stream);
+int ungetc(int character, FILE *stream);
+int fseek(FILE *stream, long offset, int from);
+long ftell(FILE *stream);
+void clearerr(FILE *stream);
+void rewind(FILE *stream);
+void flockfile(FILE *stream);
+int ftrylockfile(FILE *stream);
+void funlockfile(FILE *stream);
+
+typedef struct lsrace_buffer *(*lsrace_no_buffer)(void);
+void setbuf(FILE *stream, lsrace_no_buffer buffer);
+int setvbuf(FILE *stream, lsrace_no_buffer buffer, int mode, size_t size);
+
+char *fgets(char *to, int size, FILE *stream);
+# 90
+int sprintf(char *to, int length);
+# 99
+int snprintf(char *to, size_t size, int length);
+# 111
+size_t fread(void *to, size_t size, size_t count, FILE *stream);
+# 120
+size_t fwrite(const void *from, size_t size, size_t count, FILE *stream);
+# 7 "include/posix/stdlib.h"
+void srand(unsigned seed);
+long random(void);
+void srandom(unsigned seed);
+int abs(int number);
+long labs(long number);
+long long llabs(long long number);
+# 17
+int system(const char *command);
+# 23
+char *getenv(const char *name);
+# 29
+long strtol(const char *text, char **end, int base);
+# 38
+unsigned long strtoul(const char *text, char **end, int base);
+# 47
+long long strtoll(const char *text, char **end, int base);
+# 56
+unsigned long long strtoull(const char *text, char **end, int base);
+# 16 "include/posix/string.h"
+int strncmp(const char *one, const char *other, size_t size);
+# 26
+int strncasecmp(const char *one, const char *other, size_t size);
+# 35
+size_t strnlen(const char *text, size_t size);
+# 43
+char *strcpy(char *to, const char *from);
+# 51
+char *stpcpy(char *to, const char *from);
+# 61
+char *strncpy(char *to, const char *from, size_t size);
+# 73
+char *strcat(char *to, const char *from);
+# 82
+char *strncat(char *to, const char *from, size_t size);
+# 95
+char *strchr(const char *text, int character);
+# 105
+char *strrchr(const char *text, int character);
+# 115
+char *strpbrk(const char *text, const char *accepted);
+# 124
+char *strstr(const char *text, const char *part);
+# 135
+char *strtok_r(char *text, const char *separators, char **next);
+# 155
+char *strdup(char *to, const char *from);
+# 165
+char *strndup(char *to, const char *from, size_t size);
+# 201
+int memcmp(const void *one, const void *other, size_t size);
+# 15 "examples/people/bounded_buffer.c"
+struct buffer {
+    pthread_mutex_t mutex;
+    pthread_cond_t not_empty;
+    pthread_cond_t not_full;
+    int item[8];
+    int in, out, count;
+};
+
+static struct buffer buffer = {
+    PTHREAD_MUTEX_INITIALIZER, PTHREAD_COND_INITIALIZER, PTHREAD_COND_INITIALIZER, { 0 }, 0, 0, 0
+};
+
+static void put(struct buffer *b, int value)
+{
+    pthread_mutex_lock(&b->mutex);
+    while (b->count == 8)
+        pthread_cond_wait(&b->not_full, &b->mutex);
+    b->item[b->in] = value;
+    b->in = (b->in + 1) % 8;
+    b->count++;
+    pthread_cond_signal(&b->not_empty);
+    pthread_mutex_unlock(&b->mutex);
+}
+
+
+static int get(struct buffer *b, int *value, int seconds)
+{
+    struct timespec deadline;
+    int rc = 0;
+
+    clock_gettime(0             , &deadline);
+    deadline.tv_sec += seconds;
+    pthread_mutex_lock(&b->mutex);
+    while (b->count == 0 && rc == 0)
+        rc = pthread_cond_timedwait(&b->not_empty, &b->mutex, &deadline);
+    if (b->count > 0) {
+        *value = b->item[b->out];
+        b->out = (b->out + 1) % 8;
+        b->count--;
+        pthread_cond_signal(&b->not_full);
+        rc = 0;
+    }
+    pthread_mutex_unlock(&b->mutex);
+    return rc;
+}
+
+static void *producer(void *arg)
+{
+    (void)arg;
+    for (int i = 0; i < 100  ; i++)
+        put(&buffer, i);
+    return ((void *)
+# 66
+           0);
+}
+
+static void *consumer(void *arg)
+{
+    long total = 0;
+    int value = 0, rc;
+
+    (void)arg;
+    while ((rc = get(&buffer, &value, 2)) == 0)
+        total += value;
+    if (rc != 110)
+        (printf         (
+# 78
+                        "get: %s\n", ((void)  (
+# 78
+                                              rc)
+# 78
+                                     , "error"
+# 78
+                                     )) + ((void
+# 78
+                                     )((&lsrace_stderr
+# 78
+                                     )), 0));
+    printf("the total is %ld\n", total);
+    return ((void *)
+# 80
+           0);
+}
+
+int main(void)
+{
+    pthread_t p, c;
+    int rc;
+
+    if ((rc = pthread_create((
+# 88
+                             &p  ) + ((void
+# 88
+                                 )(((void *
+# 88
+                                 )0)), 0),
+# 88
+                                 0   , producer, ((void *)
+# 88
+                                                 0)  )) != 0 ||
+        (rc = pthread_create((
+# 89
+                             &c  ) + ((void
+# 89
+                                 )(((void *
+# 89
+                                 )0)), 0),
+# 89
+                                 0   , consumer, ((void *)
+# 89
+                                                 0)  )) != 0) {
+        (printf         (
+# 90
+                        "pthread_create: %s\n", ((void)  (
+# 90
+                                                         rc)
+# 90
+                                                , "error"
+# 90
+                                                )) + ((void
+# 90
+                                                )((&lsrace_stderr
+# 90
+                                                )), 0));
+        exit(1);
+    }
+    pthread_join(p, ((void *)
+# 93
+                    0));
+    pthread_join(c, ((void *)
+# 94
+                    0));
+    return 0;
+}

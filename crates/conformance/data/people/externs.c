@@ -1,0 +1,14 @@
+clock
+lsrace_barrier_destroy
+lsrace_barrier_init
+lsrace_barrier_wait
+lsrace_errno
+lsrace_sem_destroy
+lsrace_sem_init
+lsrace_sem_post
+lsrace_sem_wait
+pthread_mutexattr_destroy
+pthread_mutexattr_init
+pthread_mutexattr_setprotocol
+toupper
+usleep
