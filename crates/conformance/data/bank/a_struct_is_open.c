@@ -1,0 +1,4 @@
+# 0 "bank.c"
+# 1 "bank.c"
+# 1 "queue.h" 1
+typedef struct job { int to;

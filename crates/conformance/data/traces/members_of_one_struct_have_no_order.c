@@ -1,0 +1,4 @@
+struct pair { int a, b; } s;
+int main(void) {
+  return &s.a + 1 <= &s.b;
+}
