@@ -1,7 +1,7 @@
 -- A number of the table leads back to its code.
 use Rattle.std.proofs.Common.{ℕ, ◌≡◌, ◌∙◌, sym, ap, refl, if◌then◌else◌, nat_eq}
 use Rattle.lk_base.specs.declared.code.Code.{Code}
-use Rattle.lk_base.specs.declared.code.Code.TheVariants.{Byte, Token, UnsupportedWord, Syntax, TooDeep, TooLong, BadExterns, Undeclared, Redeclared, Mismatch, NotAPlace, NotConstant, Incomplete, BadLabel, BadInitialiser, BitField, VariableArray, LargeType, IntPointerCast, PointerCast, TryLock, LongJmp, Atomic, OwnVararg, StructValue, SizeofStruct, UnknownExternal, Attribute, MutexValue, StartRoutine, AllocShape, CallsMain, JoinResult, NoMain, DefinedTwice, TypesDiffer, NotDefined, TooManyPoints, TooManyLabels}
+use Rattle.lk_base.specs.declared.code.Code.TheVariants.{Byte, Token, UnsupportedWord, Syntax, TooDeep, TooLong, BadExterns, BadSchedule, BadCertificate, Undeclared, Redeclared, Mismatch, NotAPlace, NotConstant, Incomplete, BadLabel, BadInitialiser, BitField, VariableArray, LargeType, IntPointerCast, PointerCast, TryLock, LongJmp, Atomic, OwnVararg, StructValue, SizeofStruct, UnknownExternal, Attribute, MutexValue, StartRoutine, AllocShape, CallsMain, JoinResult, NoMain, DefinedTwice, TypesDiffer, NotDefined, TooManyPoints, TooManyLabels, CertificateTooLarge, CertificateFails}
 use Rattle.lk_base.specs.Code.{number_of, IsNumberOfOne}
 
 abbrev code_at : ℕ → Code
@@ -13,6 +13,8 @@ code_at n =
     if nat_eq n 14 then TooDeep else (
     if nat_eq n 15 then TooLong else (
     if nat_eq n 16 then BadExterns else (
+    if nat_eq n 17 then BadSchedule else (
+    if nat_eq n 18 then BadCertificate else (
     if nat_eq n 20 then Undeclared else (
     if nat_eq n 21 then Redeclared else (
     if nat_eq n 22 then Mismatch else (
@@ -44,7 +46,9 @@ code_at n =
     if nat_eq n 62 then TypesDiffer else (
     if nat_eq n 63 then NotDefined else (
     if nat_eq n 64 then TooManyPoints else (
-    TooManyLabels))))))))))))))))))))))))))))))))))))))
+    if nat_eq n 70 then TooManyLabels else (
+    if nat_eq n 71 then CertificateTooLarge else (
+    CertificateFails))))))))))))))))))))))))))))))))))))))))))
 
 code_at-number_of : (c : Code) → code_at (number_of c) ≡ c
 code_at-number_of Byte = refl
@@ -54,6 +58,8 @@ code_at-number_of Syntax = refl
 code_at-number_of TooDeep = refl
 code_at-number_of TooLong = refl
 code_at-number_of BadExterns = refl
+code_at-number_of BadSchedule = refl
+code_at-number_of BadCertificate = refl
 code_at-number_of Undeclared = refl
 code_at-number_of Redeclared = refl
 code_at-number_of Mismatch = refl
@@ -86,6 +92,8 @@ code_at-number_of TypesDiffer = refl
 code_at-number_of NotDefined = refl
 code_at-number_of TooManyPoints = refl
 code_at-number_of TooManyLabels = refl
+code_at-number_of CertificateTooLarge = refl
+code_at-number_of CertificateFails = refl
 
 pub one_number : IsNumberOfOne
 one_number a b same = sym (code_at-number_of a) ∙ ap code_at same ∙ code_at-number_of b

@@ -1,7 +1,7 @@
 -- The table of the codes: the number and the word of each.
 use Rattle.std.specs.Prelude.{ℕ, List, ◌≡◌, codes}
 use Rattle.lk_base.specs.declared.code.Code.{Code}
-use Rattle.lk_base.specs.declared.code.Code.TheVariants.{Byte, Token, UnsupportedWord, Syntax, TooDeep, TooLong, BadExterns, Undeclared, Redeclared, Mismatch, NotAPlace, NotConstant, Incomplete, BadLabel, BadInitialiser, BitField, VariableArray, LargeType, IntPointerCast, PointerCast, TryLock, LongJmp, Atomic, OwnVararg, StructValue, SizeofStruct, UnknownExternal, Attribute, MutexValue, StartRoutine, AllocShape, CallsMain, JoinResult, NoMain, DefinedTwice, TypesDiffer, NotDefined, TooManyPoints, TooManyLabels}
+use Rattle.lk_base.specs.declared.code.Code.TheVariants.{Byte, Token, UnsupportedWord, Syntax, TooDeep, TooLong, BadExterns, BadSchedule, BadCertificate, Undeclared, Redeclared, Mismatch, NotAPlace, NotConstant, Incomplete, BadLabel, BadInitialiser, BitField, VariableArray, LargeType, IntPointerCast, PointerCast, TryLock, LongJmp, Atomic, OwnVararg, StructValue, SizeofStruct, UnknownExternal, Attribute, MutexValue, StartRoutine, AllocShape, CallsMain, JoinResult, NoMain, DefinedTwice, TypesDiffer, NotDefined, TooManyPoints, TooManyLabels, CertificateTooLarge, CertificateFails}
 
 pub record Entry : Type 0 where
   pub number : ℕ
@@ -18,6 +18,8 @@ entry_of Syntax = entry 13 (codes "Syntax")
 entry_of TooDeep = entry 14 (codes "TooDeep")
 entry_of TooLong = entry 15 (codes "TooLong")
 entry_of BadExterns = entry 16 (codes "BadExterns")
+entry_of BadSchedule = entry 17 (codes "BadSchedule")
+entry_of BadCertificate = entry 18 (codes "BadCertificate")
 entry_of Undeclared = entry 20 (codes "Undeclared")
 entry_of Redeclared = entry 21 (codes "Redeclared")
 entry_of Mismatch = entry 22 (codes "Mismatch")
@@ -50,6 +52,8 @@ entry_of TypesDiffer = entry 62 (codes "TypesDiffer")
 entry_of NotDefined = entry 63 (codes "NotDefined")
 entry_of TooManyPoints = entry 64 (codes "TooManyPoints")
 entry_of TooManyLabels = entry 70 (codes "TooManyLabels")
+entry_of CertificateTooLarge = entry 71 (codes "CertificateTooLarge")
+entry_of CertificateFails = entry 72 (codes "CertificateFails")
 
 abbrev pub number_of : Code → ℕ
 number_of c = (entry_of c).number

@@ -19,6 +19,10 @@ pub enum Code {
     TooLong,
     /// 16. A line of the externs file is neither empty nor one identifier.
     BadExterns,
+    /// 17. A line of a schedule file is neither empty nor a turn.
+    BadSchedule,
+    /// 18. A line that can't stand where it stands in a certificate.
+    BadCertificate,
     /// 20. A name without a declaration in scope.
     Undeclared,
     /// 21. A name or tag declared in a way that its scope does not allow.
@@ -83,10 +87,14 @@ pub enum Code {
     TooManyPoints,
     /// 70. The program has more labels than the limit.
     TooManyLabels,
+    /// 71. The certificate has more bytes than the limit.
+    CertificateTooLarge,
+    /// 72. The certificate doesn't pass one of the checker's rules.
+    CertificateFails,
 }
 
 impl Code {
-    /// The code's number, from 10 to 70.
+    /// The code's number, from 10 to 72.
     pub fn number(&self) -> u32
         ensures { result ≡ number_of self.now }
     {
@@ -98,6 +106,8 @@ impl Code {
             Code::TooDeep => 14,
             Code::TooLong => 15,
             Code::BadExterns => 16,
+            Code::BadSchedule => 17,
+            Code::BadCertificate => 18,
             Code::Undeclared => 20,
             Code::Redeclared => 21,
             Code::Mismatch => 22,
@@ -130,6 +140,8 @@ impl Code {
             Code::NotDefined => 63,
             Code::TooManyPoints => 64,
             Code::TooManyLabels => 70,
+            Code::CertificateTooLarge => 71,
+            Code::CertificateFails => 72,
         }
     }
 
@@ -145,6 +157,8 @@ impl Code {
             Code::TooDeep => "TooDeep",
             Code::TooLong => "TooLong",
             Code::BadExterns => "BadExterns",
+            Code::BadSchedule => "BadSchedule",
+            Code::BadCertificate => "BadCertificate",
             Code::Undeclared => "Undeclared",
             Code::Redeclared => "Redeclared",
             Code::Mismatch => "Mismatch",
@@ -177,6 +191,8 @@ impl Code {
             Code::NotDefined => "NotDefined",
             Code::TooManyPoints => "TooManyPoints",
             Code::TooManyLabels => "TooManyLabels",
+            Code::CertificateTooLarge => "CertificateTooLarge",
+            Code::CertificateFails => "CertificateFails",
         }
     }
 }

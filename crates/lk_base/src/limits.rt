@@ -6,6 +6,15 @@ pub const LONGEST_SOURCES: u64 = 1_048_576;
 /// The most bytes of the file of `--externs`. Beyond it: `TooLong`.
 pub const LONGEST_EXTERNS: u64 = 65_536;
 
+/// The most bytes of a schedule file. Beyond it: `TooLong`.
+pub const LONGEST_SCHEDULE: u64 = 65_536;
+
+/// The most bytes of a certificate. Beyond it: `TooLong` of one that is read, `CertificateTooLarge` of one that is written.
+pub const LONGEST_CERTIFICATE: u64 = 16_777_216;
+
+/// The most steps of a play.
+pub const MOST_STEPS: u32 = 65_536;
+
 /// The most FILE words of a command. Beyond it: the usage line.
 pub const MOST_FILES: usize = 64;
 
