@@ -1,0 +1,4 @@
+pub mod Cuts
+pub mod Racing
+pub mod Taking
+pub mod Turns
