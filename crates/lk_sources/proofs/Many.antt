@@ -10,7 +10,7 @@ use Rattle.lk_sources.specs.declared.checking.AcceptedSource.{AcceptedSource}
 use Rattle.lk_sources.specs.declared.reading.Source.{Source}
 use Rattle.lk_tree.specs.declared.statement.Unit.{Unit}
 use Rattle.lk_typed.specs.Env.{Name}
-use Rattle.lk_words.specs.Words.{Check, is_count, is_in_bounds}
+use Rattle.lk_words.specs.Words.{Command, is_count, is_in_bounds}
 
 as_many : {sources : List Source} {lists : List (List Token)} {units : List Unit} → AreTrees sources lists units → length units ≡ length sources
 as_many nothing = refl
@@ -22,9 +22,9 @@ pub accepted_all : {names last : List (List ℕ)} {externs : List Name} (sources
 accepted_all sources accepted are = sym (length-map accepted (λ (s : AcceptedSource). s.parsed.unit)) ∙ as_many are.trees
 
 -- a command has 1 to 64
-pub read_few : (check : Check) (sources : List Source) → is_in_bounds check ≡ true → map (λ s. s.name) sources ≡ check.files → AreFew (length sources)
-read_few check sources bounds names =
-    let counted = (and_parts (is_count (length check.files)) _ bounds).0 in
-    let parts = and_parts (nat_le 1 (length check.files)) (nat_le (length check.files) 64) counted in
+pub read_few : (command : Command) (sources : List Source) → is_in_bounds command ≡ true → map (λ s. s.name) sources ≡ command.files → AreFew (length sources)
+read_few command sources bounds names =
+    let counted = (and_parts (is_count (length command.files)) _ bounds).0 in
+    let parts = and_parts (nat_le 1 (length command.files)) (nat_le (length command.files) 64) counted in
     let same = sym (length-map sources (λ (s : Source). s.name)) ∙ ap length names in
-    record { some = omega (arith, same, leb-true 1 (length check.files) parts.0); few = omega (arith, same, leb-true (length check.files) 64 parts.1) }
+    record { some = omega (arith, same, leb-true 1 (length command.files) parts.0); few = omega (arith, same, leb-true (length command.files) 64 parts.1) }

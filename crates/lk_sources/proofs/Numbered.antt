@@ -10,7 +10,7 @@ use Rattle.std.proofs.lemmas.Slice.Eq.{bytes_eq-Decides}
 use Rattle.lk_base.specs.Files.{has_name, with_name, AreDifferent}
 use Rattle.lk_base.specs.declared.memory.NoMemory.{NoMemory}
 use Rattle.lk_lex.specs.Answer.{Extends}
-use Rattle.lk_words.specs.Words.{Check}
+use Rattle.lk_words.specs.Words.{Command, beside}
 use Rattle.lk_sources.specs.Numbers.{number_of, numbered}
 use Rattle.lk_sources.specs.Reading.{names_of}
 use Rattle.lk_sources.specs.Readable.{AreNamed}
@@ -72,11 +72,12 @@ of_sources names [] all = tt
 of_sources names (s ∷ sources) all = (all.0, of_sources names sources all.1)
 
 -- the names of a command's sources have numbers
-pub sources_named : (check : Check) (names : List (List ℕ)) (sources : List Source) → names ≡ numbered check → map (λ s. s.name) sources ≡ check.files → AreNamed names sources
-sources_named check names sources are named =
-    let there = all_there_still (names_of check.externs) (fold with_name [] check.files) check.files (all_there check.files []) in
-    let here = subst (λ list. AllByRecursion (λ name. has_name (numbered check) name ≡ true) list) (sym named) there in
-    subst (λ l. AreNamed l sources) (sym are) (All-from_recursion (λ s. has_name (numbered check) s.name ≡ true) sources (of_sources (numbered check) sources here))
+pub sources_named : (command : Command) (names : List (List ℕ)) (sources : List Source) → names ≡ numbered command → map (λ s. s.name) sources ≡ command.files → AreNamed names sources
+sources_named command names sources are named =
+    let first = all_there_still (names_of command.externs) (fold with_name [] command.files) command.files (all_there command.files []) in
+    let there = all_there_still (names_of (beside command.task)) (fold with_name (fold with_name [] command.files) (names_of command.externs)) command.files first in
+    let here = subst (λ list. AllByRecursion (λ name. has_name (numbered command) name ≡ true) list) (sym named) there in
+    subst (λ l. AreNamed l sources) (sym are) (All-from_recursion (λ s. has_name (numbered command) s.name ≡ true) sources (of_sources (numbered command) sources here))
 
 -- ---- the number of a name that is put
 

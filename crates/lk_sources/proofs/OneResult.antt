@@ -75,34 +75,38 @@ module _ (has_one_list : HasOneList) (never_both : NeverBoth) (one_tree : HasOne
   names_alike : (one other : List (List ℕ)) → Names one ≡ Names other → one ≡ other
   names_alike one other is = cc
 
+  names_are_one : (externs : List Source) (one other : List Name) → listed (externs_text externs) ≡ Names one → listed (externs_text externs) ≡ Names other → one ≡ other
+  names_are_one externs one other first second = names_alike one other (sym first ∙ second)
+
   pub has_one_result : HasOneResult
   has_one_result names externs sources one other first second =
-      let same = names_alike one.externs.items other.externs.items (sym first.names_listed ∙ second.names_listed) in
+      let same = names_are_one externs first.listing second.listing first.names_listed second.names_listed in
       let both =
-      one_accepted names one.files one.externs.items sources (units_of one.sources.items) first.are other.files (units_of other.sources.items)
-      (subst (λ l. AreAccepted names l sources other.files (units_of other.sources.items)) (sym same) second.are) in
-      record { externs = same; units = both.0; files = both.1 }
+      one_accepted names one.files first.listing sources (units_of one.sources.items) first.is.are other.files (units_of other.sources.items)
+      (subst (λ l. AreAccepted names l sources other.files (units_of other.sources.items)) (sym same) second.is.are) in
+      record { externs = first.is.listing_is ∙ (same ∙ sym second.is.listing_is); units = both.0; files = both.1 }
 
   pub never_refused : NeverRefused
-  never_refused names externs sources accepted file refusal is (bad_externs first others line whole bad file_is told) =
-      let clash = sym bad ∙ (ap (λ l. listed (externs_text l)) (sym whole) ∙ is.names_listed) in cc
-  never_refused names externs sources accepted file refusal is (sources_refused more last listing told there) =
-      let same = names_alike accepted.externs.items more (sym is.names_listed ∙ listing) in
-      never_refused_sources names accepted.files accepted.externs.items sources (units_of accepted.sources.items) is.are last refusal (subst (λ l. AreRefused names l sources last refusal) (sym same) told)
+  never_refused names externs sources accepted file refusal is (bad_externs why) =
+      let clash = sym why.bad ∙ (ap (λ l. listed (externs_text l)) (sym why.are) ∙ is.names_listed) in cc
+  never_refused names externs sources accepted file refusal is (sources_refused more listing why) =
+      let same = names_are_one externs is.listing more is.names_listed listing in
+      never_refused_sources names accepted.files is.listing sources (units_of accepted.sources.items) is.is.are why.last refusal (subst (λ l. AreRefused names l sources why.last refusal) (sym same) why.why)
 
   -- ---- commands
 
-  moved : (P : List Source → List Source → Type 0) (externs sources others more : List Source) → (externs ≡ others) × (sources ≡ more) → P externs sources → P others more
-  moved P externs sources others more same holds = subst (λ l. P l more) same.0 (subst (P externs) same.1 holds)
+  moved : (P : List Source → List Source → Type 0) (externs sources others more : List Source) → externs ≡ others → sources ≡ more → P externs sources → P others more
+  moved P externs sources others more same same2 holds = subst (λ l. P l more) same (subst (P externs) same2 holds)
 
   pub has_one_result_for : HasOneResultFor
-  has_one_result_for check held one other first second =
-      let same = has_one_reading check held first.externs first.sources second.externs second.sources first.read second.read in
-      has_one_result (numbered check) second.externs second.sources one other
-      (moved (λ e s. IsAccepted (numbered check) e s one) first.externs first.sources second.externs second.sources same first.is) second.is
+  has_one_result_for named held one other first second =
+      let same = has_one_reading named held first.externs first.others first.sources second.externs second.others second.sources first.read second.read in
+      has_one_result (numbered named) second.externs second.sources one other
+      (moved (λ e s. IsAccepted (numbered named) e s one) first.externs first.sources second.externs second.sources same.0 same.2 first.is) second.is
 
   pub never_refused_for : NeverRefusedFor
-  never_refused_for check held accepted file refusal is (too_long long told) = never_too_long check held is.externs is.sources file is.read long
-  never_refused_for check held accepted file refusal is (refused externs sources read told) =
-      let same = has_one_reading check held is.externs is.sources externs sources is.read read in
-      never_refused (numbered check) externs sources accepted file refusal (moved (λ e s. IsAccepted (numbered check) e s accepted) is.externs is.sources externs sources same is.is) told
+  never_refused_for named held accepted file refusal is (too_long long told) = never_too_long named held is.externs is.others is.sources file is.read long
+  never_refused_for named held accepted file refusal is (refused externs others sources read told) =
+      let same = has_one_reading named held is.externs is.others is.sources externs others sources is.read read in
+      never_refused (numbered named) externs sources accepted file refusal
+      (moved (λ e s. IsAccepted (numbered named) e s accepted) is.externs is.sources externs sources same.0 same.2 is.is) told

@@ -9,7 +9,7 @@ use Rattle.lk_tree.specs.declared.statement.Unit.{Unit}
 use Rattle.lk_typed.specs.Elements.{HasFewElements}
 use Rattle.lk_typed.specs.Env.{Name}
 use Rattle.lk_typed.specs.Meaning.{IsReady}
-use Rattle.lk_words.specs.Words.{Check}
+use Rattle.lk_words.specs.Words.{Command}
 use Rattle.lk_checker.specs.Sources.{IsBehind, RecordsOf, TellsFirst}
 use Rattle.lk_sources.specs.Externs.{externs_text, listed, Names, BadLine}
 use Rattle.lk_sources.specs.Faults.{AreFaultless, AreFaulty}
@@ -23,7 +23,6 @@ use Rattle.lk_sources.specs.declared.fault.SourcesFault.{SourcesFault}
 use Rattle.lk_sources.specs.declared.fault.SourcesFault.TheVariants as told
 use Rattle.lk_sources.specs.declared.checking.AcceptedSource.{AcceptedSource}
 use Rattle.lk_sources.specs.declared.reading.Source.{Source}
-use Rattle.lk_sources.specs.declared.reading.Texts.{Texts}
 
 -- ---- sources, where --externs lists these names, and the names of files grow from the first to the last
 
@@ -81,38 +80,59 @@ pub record AreChecked (accepted : Accepted) : Type 0 where
   pub each : All (IsCheckedSource accepted.externs.items) accepted.sources.items
   pub placed : ArePlaced accepted
 
+-- the sources are accepted, where --externs lists these names
+pub record IsAcceptedWith (names : List (List ℕ)) (listing : List Name) (sources : List Source)
+    (accepted : Accepted) : Type 0 where
+  pub listing_is : accepted.externs.items ≡ listing
+  pub are : AreAccepted names listing sources accepted.files (units_of accepted.sources.items)
+
+-- they are refused, and the place of that stands in this file
+pub record IsRefusedWith (names : List (List ℕ)) (listing : List Name) (sources : List Source)
+    (file : List ℕ) (refusal : Refusal) : Type 0 where
+  pub last : List (List ℕ)
+  pub why : AreRefused names listing sources last refusal
+  pub at : slice_get last refusal.spot.file ≡ Some file
+
+-- the file of --externs, the first of these, has a line that is neither empty nor a name, and is refused there
+pub record HasBadExterns (names : List (List ℕ)) (externs : List Source) (file : List ℕ)
+    (refusal : Refusal) : Type 0 where
+  pub first : Source
+  pub others : List Source
+  pub line : ℕ
+  pub are : externs ≡ first ∷ others
+  pub bad : listed first.bytes ≡ BadLine line
+  pub file_is : file ≡ first.name
+  pub is : refusal ≡ refusal_at names file BadExterns line
+
 -- the lines of the externs file are names, and the sources are accepted
 pub record IsAccepted (names : List (List ℕ)) (externs sources : List Source)
     (accepted : Accepted) : Type 0 where
-  pub names_listed : listed (externs_text externs) ≡ Names accepted.externs.items
-  pub are : AreAccepted names accepted.externs.items sources accepted.files (units_of accepted.sources.items)
+  pub listing : List Name
+  pub names_listed : listed (externs_text externs) ≡ Names listing
+  pub is : IsAcceptedWith names listing sources accepted
 
--- Why they are refused, and the file in which the place of that stands: a line of the externs file is no
--- name; or the sources are refused.
+-- why they are refused: a line of the externs file is no name; or the sources are refused
 pub data IsRefused (names : List (List ℕ)) (externs sources : List Source) (file : List ℕ)
     (refusal : Refusal) : Type 0 where
-  bad_externs : (first : Source) (others : List Source) (line : ℕ) → externs ≡ first ∷ others →
-      listed first.bytes ≡ BadLine line → file ≡ first.name →
-      refusal ≡ refusal_at names file BadExterns line → IsRefused names externs sources file refusal
-  sources_refused : (listed_names : List Name) (last : List (List ℕ)) →
-      listed (externs_text externs) ≡ Names listed_names →
-      AreRefused names listed_names sources last refusal → slice_get last refusal.spot.file ≡ Some file →
-      IsRefused names externs sources file refusal
+  bad_externs : HasBadExterns names externs file refusal → IsRefused names externs sources file refusal
+  sources_refused : (listing : List Name) → listed (externs_text externs) ≡ Names listing →
+      IsRefusedWith names listing sources file refusal → IsRefused names externs sources file refusal
 
 -- ---- a command over the files that a shelf holds
 
-pub record IsAcceptedFor (check : Check) (held : Held) (accepted : Accepted) : Type 0 where
+pub record IsAcceptedFor (command : Command) (held : Held) (accepted : Accepted) : Type 0 where
   pub externs : List Source
+  pub others : List Source
   pub sources : List Source
-  pub read : IsRead check held externs sources
-  pub is : IsAccepted (numbered check) externs sources accepted
+  pub read : IsRead command held externs others sources
+  pub is : IsAccepted (numbered command) externs sources accepted
 
 -- a file is too long, or the files are refused that were read
-pub data IsRefusedFor (check : Check) (held : Held) (file : List ℕ) (refusal : Refusal) : Type 0 where
-  too_long : IsTooLong check held file → refusal ≡ refusal_at (numbered check) file TooLong 1 →
-      IsRefusedFor check held file refusal
-  refused : (externs sources : List Source) → IsRead check held externs sources →
-      IsRefused (numbered check) externs sources file refusal → IsRefusedFor check held file refusal
+pub data IsRefusedFor (command : Command) (held : Held) (file : List ℕ) (refusal : Refusal) : Type 0 where
+  too_long : IsTooLong command held file → refusal ≡ refusal_at (numbered command) file TooLong 1 →
+      IsRefusedFor command held file refusal
+  refused : (externs others sources : List Source) → IsRead command held externs others sources →
+      IsRefused (numbered command) externs sources file refusal → IsRefusedFor command held file refusal
 
 -- ---- what the calls answer
 
@@ -123,7 +143,19 @@ IsInFile files refusal (told.Refused file is) =
 IsInFile files refusal (told.Unread name) = ⊥
 IsInFile files refusal told.NoMemory = ⊤
 
-abbrev pub Refuses : Texts → SourcesFault → Type 0
-Refuses texts (told.Refused file refusal) = IsRefused texts.files texts.externs texts.sources file refusal
-Refuses texts (told.Unread name) = ⊥
-Refuses texts told.NoMemory = ⊤
+-- this refusal, in the file of this name
+abbrev pub IsRefusedAt : List ℕ → Refusal → SourcesFault → Type 0
+IsRefusedAt name refusal (told.Refused file is) = (file ≡ name) × (is ≡ refusal)
+IsRefusedAt name refusal (told.Unread other) = ⊥
+IsRefusedAt name refusal told.NoMemory = ⊤
+
+abbrev pub RefusesExterns : List (List ℕ) → List Source → SourcesFault → Type 0
+RefusesExterns names externs (told.Refused file refusal) = HasBadExterns names externs file refusal
+RefusesExterns names externs (told.Unread name) = ⊥
+RefusesExterns names externs told.NoMemory = ⊤
+
+abbrev pub RefusesSources : List (List ℕ) → List Name → List Source → SourcesFault → Type 0
+RefusesSources names listing sources (told.Refused file refusal) =
+    IsRefusedWith names listing sources file refusal
+RefusesSources names listing sources (told.Unread name) = ⊥
+RefusesSources names listing sources told.NoMemory = ⊤

@@ -6,16 +6,16 @@ use Rattle.std.specs.Option.{ForSome}
 use Rattle.lk_base.specs.declared.code.Code.TheVariants.{BadExterns, TooLong}
 use Rattle.lk_base.specs.declared.fault.Fault.{Fault}
 use Rattle.lk_base.specs.declared.fault.Fault.TheVariants as fault
-use Rattle.lk_base.specs.declared.refusal.Refusal.{Refusal}
 use Rattle.lk_io.specs.Shelf.{IsFileName, IsLonger}
 use Rattle.lk_lex.specs.Answer.{first_refused}
 use Rattle.lk_lex.specs.TokenList.{IsInside}
 use Rattle.lk_lex.specs.Tokens.{Splits, start_of}
 use Rattle.lk_lex.specs.declared.token.Token.{Token}
-use Rattle.lk_words.specs.Words.{Check}
+use Rattle.lk_words.specs.Words.{Command, beside}
+use Rattle.lk_sources.specs.Accepting.{IsRefusedAt}
 use Rattle.lk_sources.specs.Externs.{Listed, Names, BadLine, is_identifier}
 use Rattle.lk_sources.specs.Numbers.{refusal_at}
-use Rattle.lk_sources.specs.Reading.{longest_externs, longest_sources, names_of, AreRead, Passes, IsAmong, Reaches, IsRead, IsNamed, IsTooLong, ComesTo}
+use Rattle.lk_sources.specs.Reading.{longest_beside, longest_externs, longest_sources, names_of, AreOwnRead, AreRead, Passes, IsAmong, Reaches, IsRead, IsNamed, IsTooLong, ComesTo}
 use Rattle.lk_sources.specs.Shelves.{Shelved, HasRisen, IsAsBefore}
 use Rattle.lk_sources.specs.Splitting.{AreFiled, AreSplit, StopsIn, word_in, first_word}
 use Rattle.lk_sources.specs.Readable.{AreShort}
@@ -64,22 +64,33 @@ AreNoFiles names most shelf (unread.Unread name) =
     × ForSome shelf.files (λ held. Reaches held most names name)
 AreNoFiles names most shelf unread.NoMemory = ⊤
 
--- the files of a command
-pub record AreBoth (check : Check) (shelf : Shelved) (files : Both) : Type 0 where
+-- the files of a command but its sources
+pub record AreOwn (command : Command) (shelf : Shelved) (externs others : List Source) : Type 0 where
   pub calm : IsAsBefore shelf.faults
-  pub externs_names : map (λ s. s.name) files.externs ≡ names_of check.externs
-  pub names : map (λ s. s.name) files.sources ≡ check.files
-  pub short_externs : AreShort longest_externs files.externs
-  pub short : AreShort longest_sources files.sources
-  pub read : ForSome shelf.files (λ held. IsRead check held files.externs files.sources)
+  pub externs_names : map (λ s. s.name) externs ≡ names_of command.externs
+  pub others_names : map (λ s. s.name) others ≡ names_of (beside command.task)
+  pub short_externs : AreShort longest_externs externs
+  pub short_others : AreShort (longest_beside command.task) others
+  pub read : ForSome shelf.files (λ held. AreOwnRead command held externs others)
 
-abbrev pub AreNotBoth : Check → Shelved → ReadingFault → Type 0
-AreNotBoth check shelf (unread.TooLong name) =
-    IsAsBefore shelf.faults × ForSome shelf.files (λ held. IsTooLong check held name)
-AreNotBoth check shelf (unread.Unread name) =
-    HasRisen shelf.faults × IsNamed check name × ForSome shelf.bad (λ bad. bad ≡ name)
-    × ForSome shelf.files (λ held. ComesTo check held name)
-AreNotBoth check shelf unread.NoMemory = ⊤
+-- the files of a command
+pub record AreBoth (command : Command) (shelf : Shelved) (files : Both) : Type 0 where
+  pub calm : IsAsBefore shelf.faults
+  pub externs_names : map (λ s. s.name) files.externs ≡ names_of command.externs
+  pub others_names : map (λ s. s.name) files.beside ≡ names_of (beside command.task)
+  pub names : map (λ s. s.name) files.sources ≡ command.files
+  pub short_externs : AreShort longest_externs files.externs
+  pub short_others : AreShort (longest_beside command.task) files.beside
+  pub short : AreShort longest_sources files.sources
+  pub read : ForSome shelf.files (λ held. IsRead command held files.externs files.beside files.sources)
+
+abbrev pub AreNotBoth : Command → Shelved → ReadingFault → Type 0
+AreNotBoth command shelf (unread.TooLong name) =
+    IsAsBefore shelf.faults × ForSome shelf.files (λ held. IsTooLong command held name)
+AreNotBoth command shelf (unread.Unread name) =
+    HasRisen shelf.faults × IsNamed command name × ForSome shelf.bad (λ bad. bad ≡ name)
+    × ForSome shelf.files (λ held. ComesTo command held name)
+AreNotBoth command shelf unread.NoMemory = ⊤
 
 -- ---- the file of --externs
 
@@ -124,12 +135,6 @@ IsSplitFault names sources last (fault.Refused refusal) =
 abbrev pub IsFaultIn : ℕ → Fault → Type 0
 IsFaultIn files fault.NoMemory = ⊤
 IsFaultIn files (fault.Refused refusal) = refusal.spot.file < files
-
--- this refusal in the file of this name
-abbrev pub IsRefusedAt : List ℕ → Refusal → SourcesFault → Type 0
-IsRefusedAt name refusal (told.Refused file is) = (file ≡ name) × (is ≡ refusal)
-IsRefusedAt name refusal (told.Unread other) = ⊥
-IsRefusedAt name refusal told.NoMemory = ⊤
 
 -- what the fault of reading comes to
 abbrev pub IsUnread : List (List ℕ) → ReadingFault → SourcesFault → Type 0

@@ -1,17 +1,14 @@
 -- What the calls inside this crate answer about trees and faults, which private contracts alone cite.
 use Rattle.std.specs.Bool.{⊤}
-use Rattle.std.specs.Prelude.{ℕ, ◌≡◌, List, Some, slice_get}
+use Rattle.std.specs.Prelude.{ℕ, List}
 use Rattle.lk_base.specs.declared.fault.Fault.{Fault}
 use Rattle.lk_base.specs.declared.fault.Fault.TheVariants as fault
 use Rattle.lk_lex.specs.declared.token.Token.{Token}
 use Rattle.lk_tree.specs.declared.statement.Unit.{Unit}
 use Rattle.lk_typed.specs.Env.{Name}
-use Rattle.lk_sources.specs.Accepting.{AreAccepted, AreRefused, units_of}
+use Rattle.lk_sources.specs.Accepting.{AreRefused}
 use Rattle.lk_sources.specs.Faults.{AreFaulty}
 use Rattle.lk_sources.specs.Trees.{HasNoTree}
-use Rattle.lk_sources.specs.declared.accepting.Accepted.{Accepted}
-use Rattle.lk_sources.specs.declared.fault.SourcesFault.{SourcesFault}
-use Rattle.lk_sources.specs.declared.fault.SourcesFault.TheVariants as told
 use Rattle.lk_sources.specs.declared.reading.Source.{Source}
 
 -- ---- trees
@@ -31,15 +28,3 @@ IsFaulty externs units (fault.Refused refusal) = AreFaulty externs units refusal
 abbrev pub IsJudged : List (List ℕ) → List Name → List Source → List (List ℕ) → Fault → Type 0
 IsJudged names externs sources last fault.NoMemory = ⊤
 IsJudged names externs sources last (fault.Refused refusal) = AreRefused names externs sources last refusal
-
-abbrev pub AcceptsSources : List (List ℕ) → List Name → List Source → Accepted → Type 0
-AcceptsSources names externs sources accepted =
-    (accepted.externs.items ≡ externs)
-    × AreAccepted names externs sources accepted.files (units_of accepted.sources.items)
-
-abbrev pub RefusesSources : List (List ℕ) → List Name → List Source → SourcesFault → Type 0
-RefusesSources names externs sources (told.Refused file refusal) =
-    (last : List (List ℕ)) × AreRefused names externs sources last refusal
-    × (slice_get last refusal.spot.file ≡ Some file)
-RefusesSources names externs sources (told.Unread name) = ⊥
-RefusesSources names externs sources told.NoMemory = ⊤

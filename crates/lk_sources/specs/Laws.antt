@@ -2,7 +2,7 @@
 use Rattle.std.specs.Prelude.{ℕ, ◌≡◌, true, List, Some}
 use Rattle.lk_base.specs.declared.refusal.Refusal.{Refusal}
 use Rattle.lk_io.specs.Shelf.{Held}
-use Rattle.lk_words.specs.Words.{Check, Word, command, is_in_bounds}
+use Rattle.lk_words.specs.Words.{Command, Word, command, is_in_bounds}
 use Rattle.lk_sources.specs.Accepting.{IsAcceptedFor, IsRefusedFor, IsAccepted, IsRefused, units_of}
 use Rattle.lk_sources.specs.Reading.{IsRead, IsTooLong}
 use Rattle.lk_sources.specs.declared.accepting.Accepted.{Accepted}
@@ -10,18 +10,20 @@ use Rattle.lk_sources.specs.declared.reading.Source.{Source}
 
 -- what words spell is in bounds
 abbrev pub CommandsAreInBounds : Type 0
-CommandsAreInBounds = (words : List Word) (named : Check) → command words ≡ Some named →
+CommandsAreInBounds = (words : List Word) (named : Command) → command words ≡ Some named →
     is_in_bounds named ≡ true
 
 -- a command's files are read in one way
 abbrev pub HasOneReading : Type 0
-HasOneReading = (check : Check) (held : Held) (externs sources others more : List Source) →
-    IsRead check held externs sources → IsRead check held others more → (externs ≡ others) × (sources ≡ more)
+HasOneReading =
+    (named : Command) (held : Held) (externs others sources externs2 others2 sources2 : List Source) →
+    IsRead named held externs others sources → IsRead named held externs2 others2 sources2 →
+    (externs ≡ externs2) × (others ≡ others2) × (sources ≡ sources2)
 
 -- where they are read, none is too long
 abbrev pub NeverTooLong : Type 0
-NeverTooLong = (check : Check) (held : Held) (externs sources : List Source) (name : List ℕ) →
-    IsRead check held externs sources → IsTooLong check held name → ⊥
+NeverTooLong = (named : Command) (held : Held) (externs others sources : List Source) (name : List ℕ) →
+    IsRead named held externs others sources → IsTooLong named held name → ⊥
 
 -- two results of one command have the same names, trees and numbers of files
 pub record IsAlike (one other : Accepted) : Type 0 where
@@ -43,9 +45,9 @@ NeverRefused =
 
 -- the same of a command over the files that a shelf holds
 abbrev pub HasOneResultFor : Type 0
-HasOneResultFor = (check : Check) (held : Held) (one other : Accepted) → IsAcceptedFor check held one →
-    IsAcceptedFor check held other → IsAlike one other
+HasOneResultFor = (named : Command) (held : Held) (one other : Accepted) → IsAcceptedFor named held one →
+    IsAcceptedFor named held other → IsAlike one other
 
 abbrev pub NeverRefusedFor : Type 0
-NeverRefusedFor = (check : Check) (held : Held) (accepted : Accepted) (file : List ℕ) (refusal : Refusal) →
-    IsAcceptedFor check held accepted → IsRefusedFor check held file refusal → ⊥
+NeverRefusedFor = (named : Command) (held : Held) (accepted : Accepted) (file : List ℕ) (refusal : Refusal) →
+    IsAcceptedFor named held accepted → IsRefusedFor named held file refusal → ⊥

@@ -5,9 +5,9 @@ use Rattle.std.specs.List.{All}
 use Rattle.std.specs.Option.{ForSome}
 use Rattle.lk_base.specs.Files.{has_name}
 use Rattle.lk_base.specs.declared.code.Code.TheVariants.{TooLong}
-use Rattle.lk_words.specs.Words.{Check}
+use Rattle.lk_words.specs.Words.{Command, beside}
 use Rattle.lk_sources.specs.Numbers.{numbered, refusal_at}
-use Rattle.lk_sources.specs.Reading.{longest_externs, longest_sources, names_of, IsRead, IsNamed, IsTooLong, ComesTo}
+use Rattle.lk_sources.specs.Reading.{longest_beside, longest_externs, longest_sources, names_of, IsRead, IsNamed, IsTooLong, ComesTo}
 use Rattle.lk_sources.specs.Shelves.{Shelved, HasRisen, IsAsBefore}
 use Rattle.lk_sources.specs.declared.fault.SourcesFault.{SourcesFault}
 use Rattle.lk_sources.specs.declared.fault.SourcesFault.TheVariants as told
@@ -34,21 +34,23 @@ pub record IsReadable (texts : Texts) : Type 0 where
   pub named : AreNamed texts.files texts.sources
 
 -- the files of a command
-pub record Reads (check : Check) (shelf : Shelved) (texts : Texts) : Type 0 where
+pub record Reads (command : Command) (shelf : Shelved) (texts : Texts) : Type 0 where
   pub calm : IsAsBefore shelf.faults
-  pub files : texts.files ≡ numbered check
-  pub externs_names : map (λ s. s.name) texts.externs ≡ names_of check.externs
-  pub names : map (λ s. s.name) texts.sources ≡ check.files
+  pub files : texts.files ≡ numbered command
+  pub externs_names : map (λ s. s.name) texts.externs ≡ names_of command.externs
+  pub others_names : map (λ s. s.name) texts.beside ≡ names_of (beside command.task)
+  pub short_others : AreShort (longest_beside command.task) texts.beside
+  pub names : map (λ s. s.name) texts.sources ≡ command.files
   pub few : AreFew (length texts.sources)
   pub readable : IsReadable texts
-  pub read : ForSome shelf.files (λ held. IsRead check held texts.externs texts.sources)
+  pub read : ForSome shelf.files (λ held. IsRead command held texts.externs texts.beside texts.sources)
 
 -- a file is too long; or one of the command's can't be read, to which the reading comes; or want of memory
-abbrev pub FailsToRead : Check → Shelved → SourcesFault → Type 0
-FailsToRead check shelf (told.Refused file refusal) =
-    IsAsBefore shelf.faults × (refusal ≡ refusal_at (numbered check) file TooLong 1)
-    × ForSome shelf.files (λ held. IsTooLong check held file)
-FailsToRead check shelf (told.Unread name) =
-    HasRisen shelf.faults × IsNamed check name × ForSome shelf.bad (λ bad. bad ≡ name)
-    × ForSome shelf.files (λ held. ComesTo check held name)
-FailsToRead check shelf told.NoMemory = ⊤
+abbrev pub FailsToRead : Command → Shelved → SourcesFault → Type 0
+FailsToRead command shelf (told.Refused file refusal) =
+    IsAsBefore shelf.faults × (refusal ≡ refusal_at (numbered command) file TooLong 1)
+    × ForSome shelf.files (λ held. IsTooLong command held file)
+FailsToRead command shelf (told.Unread name) =
+    HasRisen shelf.faults × IsNamed command name × ForSome shelf.bad (λ bad. bad ≡ name)
+    × ForSome shelf.files (λ held. ComesTo command held name)
+FailsToRead command shelf told.NoMemory = ⊤

@@ -1,8 +1,8 @@
--- The reading of a command's files: that of --externs first, then each FILE in the order of the words. A FILE
--- that is named twice is read twice, and counts twice.
+-- The reading of a command's files: that of --externs first, then the one that its task reads beside the sources,
+-- then each FILE in the order of the words. A FILE that is named twice is read twice, and counts twice.
 use Rattle.std.specs.Prelude.{ℕ, ◌≡◌, ◌-◌, ◌≤◌, ◌⊎◌, List, [], ◌∷◌, ◌++◌, length, Option, Some, None}
 use Rattle.lk_io.specs.Shelf.{Held, IsLonger}
-use Rattle.lk_words.specs.Words.{Check}
+use Rattle.lk_words.specs.Words.{Check, Command, Play, Task, beside}
 use Rattle.lk_sources.specs.declared.reading.Source.{Source}
 
 -- the most bytes of the file of --externs, and those of all sources together
@@ -12,7 +12,12 @@ longest_externs = 65536
 abbrev pub longest_sources : ℕ
 longest_sources = 1048576
 
--- the file of --externs, where the command names one
+-- the most bytes of the file that a task reads beside them
+abbrev pub longest_beside : Task → ℕ
+longest_beside Check = 0
+longest_beside (Play schedule) = 65536
+
+-- a file, where the command names it
 abbrev pub names_of : Option (List ℕ) → List (List ℕ)
 names_of None = []
 names_of (Some name) = name ∷ []
@@ -50,26 +55,41 @@ pub record Reaches (held : Held) (most : ℕ) (names : List (List ℕ)) (name : 
 
 -- ---- the files of a command
 
-pub record IsRead (check : Check) (held : Held) (externs sources : List Source) : Type 0 where
+-- the file of --externs and the one beside the sources
+pub record AreOwnRead (command : Command) (held : Held) (externs others : List Source) : Type 0 where
   pub externs_left : ℕ
-  pub externs_read : AreRead held longest_externs (names_of check.externs) externs externs_left
+  pub externs_read : AreRead held longest_externs (names_of command.externs) externs externs_left
+  pub others_left : ℕ
+  pub others_read : AreRead held (longest_beside command.task) (names_of (beside command.task)) others others_left
+
+-- all of them
+pub record IsRead (command : Command) (held : Held) (externs others sources : List Source) : Type 0 where
+  pub own : AreOwnRead command held externs others
   pub sources_left : ℕ
-  pub sources_read : AreRead held longest_sources check.files sources sources_left
+  pub sources_read : AreRead held longest_sources command.files sources sources_left
 
 -- the command names this file
-abbrev pub IsNamed : Check → List ℕ → Type 0
-IsNamed check name = IsAmong (names_of check.externs) name ⊎ IsAmong check.files name
+abbrev pub IsNamed : Command → List ℕ → Type 0
+IsNamed command name =
+    IsAmong (names_of command.externs) name
+    ⊎ (IsAmong (names_of (beside command.task)) name ⊎ IsAmong command.files name)
 
 -- the first file that is too long
-pub data IsTooLong (check : Check) (held : Held) (name : List ℕ) : Type 0 where
-  long_externs : Passes held longest_externs (names_of check.externs) name → IsTooLong check held name
-  long_sources : (read : List Source) (left : ℕ) →
-      AreRead held longest_externs (names_of check.externs) read left →
-      Passes held longest_sources check.files name → IsTooLong check held name
+pub data IsTooLong (command : Command) (held : Held) (name : List ℕ) : Type 0 where
+  long_externs : Passes held longest_externs (names_of command.externs) name → IsTooLong command held name
+  long_beside : (read : List Source) (left : ℕ) →
+      AreRead held longest_externs (names_of command.externs) read left →
+      Passes held (longest_beside command.task) (names_of (beside command.task)) name → IsTooLong command held name
+  long_sources : (externs others : List Source) → AreOwnRead command held externs others →
+      Passes held longest_sources command.files name →
+      IsTooLong command held name
 
 -- the reading comes to this file
-pub data ComesTo (check : Check) (held : Held) (name : List ℕ) : Type 0 where
-  at_externs : Reaches held longest_externs (names_of check.externs) name → ComesTo check held name
-  at_sources : (read : List Source) (left : ℕ) →
-      AreRead held longest_externs (names_of check.externs) read left →
-      Reaches held longest_sources check.files name → ComesTo check held name
+pub data ComesTo (command : Command) (held : Held) (name : List ℕ) : Type 0 where
+  at_externs : Reaches held longest_externs (names_of command.externs) name → ComesTo command held name
+  at_beside : (read : List Source) (left : ℕ) →
+      AreRead held longest_externs (names_of command.externs) read left →
+      Reaches held (longest_beside command.task) (names_of (beside command.task)) name → ComesTo command held name
+  at_sources : (externs others : List Source) → AreOwnRead command held externs others →
+      Reaches held longest_sources command.files name →
+      ComesTo command held name

@@ -1,7 +1,6 @@
 //! Why the sources of a command make no program.
 ghost use Rattle.std.specs.Prelude.{◌<◌, length};
-ghost use Rattle.lk_sources.specs.Accepting.{IsInFile};
-ghost use Rattle.lk_sources.specs.Calls.{IsRefusedAt};
+ghost use Rattle.lk_sources.specs.Accepting.{IsInFile, IsRefusedAt};
 ghost use Rattle.lk_sources.specs.Numbers as numbers;
 
 use crate::numbers::refusal_at;
@@ -51,8 +50,9 @@ pub fn refused_in(files: &Files, refusal: Refusal) -> SourcesFault
     }
 }
 
-/// The refusal with this code at a line of the file of this name.
-pub(crate) fn refused_at(
+/// The refusal with this code and an empty name at the first byte of a line of the file of this name, or want of
+/// memory.
+pub fn refused_at(
     alloc: Global,
     files: &mut Files,
     file: Name,

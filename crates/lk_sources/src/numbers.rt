@@ -7,7 +7,7 @@ ghost use Rattle.lk_sources.specs.Numbers as spec;
 ghost use Rattle.lk_sources.specs.Reading.{names_of};
 
 use lk_base::{Code, Files, Name, NameFault, NoMemory, Refusal, Spot};
-use lk_words::Check;
+use lk_words::Command;
 use std::alloc::Global;
 
 /// A name of 255 bytes at most, as a value of its own.
@@ -62,13 +62,15 @@ fn put_some(alloc: Global, files: &mut Files, name: Option<&str>) -> Result<(), 
     }
 }
 
-/// The names of the FILEs, in the order of the words, and behind them that of the file of `--externs`.
-pub(crate) fn numbered(alloc: Global, check: &Check<'_>) -> Result<Files, NoMemory>
-    ensures { IfOk result (λ files. files ≡ spec.numbered (seen check.now)) }
+/// The names of the FILEs, in the order of the words, and behind them those of the file of `--externs` and of the
+/// one beside the sources.
+pub(crate) fn numbered(alloc: Global, command: &Command<'_>) -> Result<Files, NoMemory>
+    ensures { IfOk result (λ files. files ≡ spec.numbered (seen command.now)) }
 {
     let mut files = Files::new(alloc);
-    put_names(alloc, &mut files, check.files.as_slice())?;
-    put_some(alloc, &mut files, check.externs)?;
+    put_names(alloc, &mut files, command.files.as_slice())?;
+    put_some(alloc, &mut files, command.externs)?;
+    put_some(alloc, &mut files, command.task.beside())?;
     Ok(files)
 }
 

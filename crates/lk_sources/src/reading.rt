@@ -2,10 +2,11 @@
 ghost use Rattle.std.specs.Prelude.{◌≡◌, ◌≤◌, true, [], map, All, IfOk, IfErr};
 ghost use Rattle.std.specs.Option.{option_map};
 ghost use Rattle.lk_io.specs.Shelf.{IsFileName};
-ghost use Rattle.lk_words.specs.Seen.{seen};
-ghost use Rattle.lk_words.specs.Words.{is_in_bounds};
-ghost use Rattle.lk_sources.specs.Calls.{AreFileNames, AreFiles, AreBoth, AreNoFiles, AreNotBoth, IsFile, IsNoFile, IsUnread};
+ghost use Rattle.lk_words.specs.Seen.{seen, seen_task};
+ghost use Rattle.lk_words.specs.Words.{beside, is_in_bounds};
+ghost use Rattle.lk_sources.specs.Calls.{AreFileNames, AreFiles, AreBoth, AreOwn, AreNoFiles, AreNotBoth, IsFile, IsNoFile, IsUnread};
 ghost use Rattle.lk_sources.specs.Readable.{FailsToRead, Reads};
+ghost use Rattle.lk_sources.specs.Reading as spec;
 ghost use Rattle.lk_sources.specs.Reading.{names_of};
 ghost use Rattle.lk_sources.specs.Shelves.{shelved};
 
@@ -13,7 +14,7 @@ use crate::fault::{SourcesFault, refused_at};
 use crate::numbers::{name_of, numbered};
 use lk_base::{Code, Files, LONGEST_EXTERNS, LONGEST_SOURCES, Name, NoMemory, Seq};
 use lk_io::{ReadFault, Shelf, read_whole};
-use lk_words::Check;
+use lk_words::{Command, Task};
 use std::alloc::{AllocFailed, Global};
 
 /// A file that was read.
@@ -39,18 +40,29 @@ pub(crate) enum ReadingFault {
 /// The files of a command, and the numbers of their names.
 #[derive(Drop)]
 pub struct Texts {
-    /// The names of the FILEs, in the order of the words, and behind them that of the file of `--externs`.
+    /// The names of the FILEs, in the order of the words, and behind them those of the file of `--externs` and of
+    /// the one beside the sources.
     pub files: Files,
     /// The file of `--externs`, where there is one.
     pub externs: Seq<Source>,
+    /// The file that the task reads beside the sources, where there is one.
+    pub beside: Seq<Source>,
     /// The sources, in their order.
     pub sources: Seq<Source>,
 }
 
-/// The file of `--externs`, where there is one, and the sources.
+/// The file of `--externs` and the one beside the sources, where there are such.
+#[derive(Drop)]
+struct Own {
+    externs: Seq<Source>,
+    beside: Seq<Source>,
+}
+
+/// These, and the sources.
 #[derive(Drop)]
 struct Both {
     externs: Seq<Source>,
+    beside: Seq<Source>,
     sources: Seq<Source>,
 }
 
@@ -110,42 +122,94 @@ fn no_sources(alloc: Global) -> Seq<Source>
     Seq::new(Vec::new(alloc))
 }
 
-/// Reads the file of `--externs`, where there is one.
-fn read_externs<F: Shelf>(
+/// Reads the file of this name, of at most `most` bytes, where there is one.
+fn read_named<F: Shelf>(
     alloc: Global,
     shelf: &mut F,
     name: Option<&str>,
+    most: u64,
 ) -> Result<Seq<Source>, ReadingFault>
     requires { AreFileNames (names_of (option_map (λ name. name.now) name)) }
-    ensures ok { IfOk result (AreFiles (names_of (option_map (λ name. name.now) name.entry)) 65536
+    ensures ok { IfOk result (AreFiles (names_of (option_map (λ name. name.now) name.entry)) most
         (shelved F.held F.bad F.faults shelf.old shelf.new)) }
-    ensures err { IfErr result (AreNoFiles (names_of (option_map (λ name. name.now) name.entry)) 65536
+    ensures err { IfErr result (AreNoFiles (names_of (option_map (λ name. name.now) name.entry)) most
         (shelved F.held F.bad F.faults shelf.old shelf.new)) }
     ensures held { F.held shelf.new ≡ F.held shelf.old }
     ensures later { F.faults shelf.old ≤ F.faults shelf.new }
 {
     match name {
-        Some(name) => read_files(alloc, shelf, &[name], LONGEST_EXTERNS),
+        Some(name) => read_files(alloc, shelf, &[name], most),
         None => Ok(no_sources(alloc)),
     }
 }
 
-/// Reads the files of a command: that of `--externs` first, and then each FILE.
-fn read_both<F: Shelf>(
+/// The most bytes of the file that a task reads beside the sources.
+fn longest_beside(task: &Task<'_>) -> u64
+    ensures { result ≡ spec.longest_beside (seen_task task.now) }
+{
+    match task {
+        Task::Check => 0,
+        Task::Play { schedule: _ } => LONGEST_EXTERNS,
+    }
+}
+
+/// Reads the file that a task reads beside the sources, where there is one.
+fn read_beside<F: Shelf>(
     alloc: Global,
-    check: &Check<'_>,
     shelf: &mut F,
-) -> Result<Both, ReadingFault>
-    requires { is_in_bounds (seen check.now) ≡ true }
-    ensures ok { IfOk result (AreBoth (seen check.now) (shelved F.held F.bad F.faults shelf.old shelf.new)) }
-    ensures err { IfErr result (AreNotBoth (seen check.now)
+    task: &Task<'_>,
+) -> Result<Seq<Source>, ReadingFault>
+    requires { AreFileNames (names_of (beside (seen_task task.now))) }
+    ensures ok { IfOk result (AreFiles (names_of (beside (seen_task task.now)))
+        (spec.longest_beside (seen_task task.now)) (shelved F.held F.bad F.faults shelf.old shelf.new)) }
+    ensures err { IfErr result (AreNoFiles (names_of (beside (seen_task task.now)))
+        (spec.longest_beside (seen_task task.now)) (shelved F.held F.bad F.faults shelf.old shelf.new)) }
+    ensures held { F.held shelf.new ≡ F.held shelf.old }
+    ensures later { F.faults shelf.old ≤ F.faults shelf.new }
+{
+    read_named(alloc, shelf, task.beside(), longest_beside(task))
+}
+
+/// Reads the files of a command but its sources: that of `--externs` first.
+fn read_own<F: Shelf>(
+    alloc: Global,
+    command: &Command<'_>,
+    shelf: &mut F,
+) -> Result<Own, ReadingFault>
+    requires { is_in_bounds (seen command.now) ≡ true }
+    ensures ok { IfOk result (λ own. AreOwn (seen command.now)
+        (shelved F.held F.bad F.faults shelf.old shelf.new) own.externs own.beside) }
+    ensures err { IfErr result (AreNotBoth (seen command.now)
         (shelved F.held F.bad F.faults shelf.old shelf.new)) }
     ensures held { F.held shelf.new ≡ F.held shelf.old }
     ensures later { F.faults shelf.old ≤ F.faults shelf.new }
 {
-    let externs = read_externs(alloc, shelf, check.externs)?;
-    let sources = read_files(alloc, shelf, check.files.as_slice(), LONGEST_SOURCES)?;
-    Ok(Both { externs, sources })
+    let externs = read_named(alloc, shelf, command.externs, LONGEST_EXTERNS)?;
+    let beside = read_beside(alloc, shelf, &command.task)?;
+    Ok(Own { externs, beside })
+}
+
+/// Reads the files of a command: its own first, and then each FILE.
+fn read_both<F: Shelf>(
+    alloc: Global,
+    command: &Command<'_>,
+    shelf: &mut F,
+) -> Result<Both, ReadingFault>
+    requires { is_in_bounds (seen command.now) ≡ true }
+    ensures ok { IfOk result (AreBoth (seen command.now) (shelved F.held F.bad F.faults shelf.old shelf.new)) }
+    ensures err { IfErr result (AreNotBoth (seen command.now)
+        (shelved F.held F.bad F.faults shelf.old shelf.new)) }
+    ensures held { F.held shelf.new ≡ F.held shelf.old }
+    ensures later { F.faults shelf.old ≤ F.faults shelf.new }
+{
+    let own = read_own(alloc, command, shelf)?;
+    let sources = read_files(alloc, shelf, command.files.as_slice(), LONGEST_SOURCES)?;
+    let Own { externs, beside } = own;
+    Ok(Both {
+        externs,
+        beside,
+        sources,
+    })
 }
 
 /// Why the files of a command are not read.
@@ -159,25 +223,32 @@ fn unread(alloc: Global, files: &mut Files, fault: ReadingFault) -> SourcesFault
     }
 }
 
-/// Reads the files of a command: that of `--externs` first, and then each FILE. It stops at the first that
-/// can't be read or that is too long.
+/// Reads the files of a command: that of `--externs` first, then the one that its task reads beside the sources,
+/// and then each FILE. It stops at the first that can't be read or that is too long.
 pub fn read<F: Shelf>(
     alloc: Global,
-    check: &Check<'_>,
+    command: &Command<'_>,
     shelf: &mut F,
 ) -> Result<Texts, SourcesFault>
-    requires { is_in_bounds (seen check.now) ≡ true }
-    ensures ok { IfOk result (Reads (seen check.now) (shelved F.held F.bad F.faults shelf.old shelf.new)) }
-    ensures err { IfErr result (FailsToRead (seen check.now)
+    requires { is_in_bounds (seen command.now) ≡ true }
+    ensures ok { IfOk result (Reads (seen command.now) (shelved F.held F.bad F.faults shelf.old shelf.new)) }
+    ensures err { IfErr result (FailsToRead (seen command.now)
         (shelved F.held F.bad F.faults shelf.old shelf.new)) }
     ensures held { F.held shelf.new ≡ F.held shelf.old }
     ensures later { F.faults shelf.old ≤ F.faults shelf.new }
 {
-    let mut files = numbered(alloc, check)?;
-    match read_both(alloc, check, shelf) {
-        Ok(Both { externs, sources }) => Ok(Texts {
+    let mut files = numbered(alloc, command)?;
+    match read_both(alloc, command, shelf) {
+        Ok(
+            Both {
+                externs,
+                beside,
+                sources,
+            },
+        ) => Ok(Texts {
             files,
             externs,
+            beside,
             sources,
         }),
         Err(fault) => Err(unread(alloc, &mut files, fault)),

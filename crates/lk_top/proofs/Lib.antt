@@ -3,4 +3,5 @@ pub mod MainSpot
 pub mod OneOutcome
 pub mod RunLemmas
 pub mod SafeReports
+pub mod Suspects
 pub mod VerdictsThere

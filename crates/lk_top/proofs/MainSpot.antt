@@ -1,5 +1,5 @@
 -- Where the program's `main` stands: at a declaration of the source that defines it.
-use Rattle.std.proofs.Common.{◌≡◌, ◌∙◌, inl, inr, ℕ, All, Bool, true, false, if◌then◌else◌, List, [], ◌∷◌, None, Option, Some, ap, refl, sym}
+use Rattle.std.proofs.Common.{◌≡◌, ◌∙◌, inl, inr, ℕ, All, Bool, true, false, if◌then◌else◌, List, [], ◌∷◌, None, Option, Some, ap, sym}
 use Rattle.std.proofs.lemmas.Option.{none-some, same_Some, slice_get-map}
 use Rattle.std.specs.List.{find, slice_get}
 use Rattle.std.specs.Option.{option_and_then, option_map, option_or}

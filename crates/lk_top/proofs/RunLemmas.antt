@@ -8,13 +8,14 @@ use Rattle.lk_base.specs.declared.status.Status.TheVariants as status
 use Rattle.lk_io.specs.Shelf.{Held}
 use Rattle.lk_io.specs.Sink.{Takes}
 use Rattle.lk_sources.specs.Shelves.{Shelved, HasRisen}
-use Rattle.lk_words.specs.Words.{Check, command}
-use Rattle.lk_top.specs.Texts.{unwritten_line, refused_line, unread_line}
+use Rattle.lk_words.specs.Words.{Command, command}
+use Rattle.lk_top.specs.Texts.{refused_line, unwritten_line, unread_line}
 use Rattle.lk_top.specs.declared.answer.Answer.TheVariants.{Report, Refusal, Unread}
 use Rattle.lk_top.specs.Answer.{Answers}
-use Rattle.lk_top.specs.Outcome.{Refused, ComesTo, Follows, checks}
-use Rattle.lk_top.specs.Results.{IsReport, IsRefusal, of_sources, of_program, is_report}
+use Rattle.lk_top.specs.Outcome.{ComesTo, Follows, Refused, follows}
+use Rattle.lk_top.specs.Results.{IsReport, IsRefusal, is_report}
 use Rattle.lk_top.specs.Run.{Sunk, Got, GotFront, GotNothing, NoneHasRisen, Reports, Refuses, Misses, AlwaysAnswers, AlwaysReports, AlwaysRefuses, Line, refused, unread, Fails, Told, Published}
+use Rattle.lk_top.proofs.AnswerLemmas.{more_refusal, more_report}
 use Rattle.lk_top.proofs.OneOutcome.{AreLaws, one_outcome}
 
 whole_front : (sink : Sunk) (text : List ℕ) → Got sink text → GotFront sink text
@@ -58,27 +59,19 @@ is_no_fault : (wanted : Status) → is_report wanted ≡ true → wanted ≢ sta
 is_no_fault wanted report e = let clash : false ≡ true = sym (ap is_report e) ∙ report in cc
 
 -- what a command comes to, its words come to
-report_of_words : {words : List (List ℕ)} {check : Check} {held : Held} {text : List ℕ} {ends : Status} → command words ≡ Some check → IsReport (Follows check held) text ends →
+report_of_words : {words : List (List ℕ)} {asked : Command} {held : Held} {text : List ℕ} {ends : Status} → command words ≡ Some asked → IsReport (Follows asked held) text ends →
     IsReport (ComesTo words held) text ends
-report_of_words {check = check} is report = record {
-  sources = report.sources;
-  gives = checks check _ is report.gives;
-  verdicts = report.verdicts;
-  analysed = report.analysed;
-  status = report.status;
-}
+report_of_words {asked = asked} is report = more_report _ _ (λ found gives. follows asked found is gives) report
 
-refusal_of_words : {words : List (List ℕ)} {check : Check} {held : Held} {file : List ℕ} {refusal : base.Refusal} → command words ≡ Some check → IsRefusal (Follows check held) file refusal →
-    IsRefusal (ComesTo words held) file refusal
-refusal_of_words {check = check} is (of_sources follows) = of_sources (checks check _ is follows)
-refusal_of_words {check = check} is (of_program sources follows none) = of_program sources (checks check _ is follows) none
+refusal_of_words : {words : List (List ℕ)} {asked : Command} {held : Held} (file : List ℕ) (refusal : base.Refusal) → command words ≡ Some asked → IsRefusal (Follows asked held) file refusal → IsRefusal (ComesTo words held) file refusal
+refusal_of_words {asked = asked} file refusal is refused_so = more_refusal _ _ (λ found gives. follows asked found is gives) file refusal refused_so
 
 no_refusal : AreLaws → {words : List (List ℕ)} {held : Held} {text : List ℕ} {ends : Status} (file : List ℕ) (refusal : base.Refusal) →
     IsReport (ComesTo words held) text ends → ComesTo words held (Refused file refusal) → ⊥
 no_refusal one file refusal report other = one_outcome one report.gives other
 
-module _ (words : List (List ℕ)) (check : Check) (is_command : command words ≡ Some check) (shelf : Shelved) (out err : Sunk) (ends : Status) where
-  module _ (text : Vec ℕ Global) (wanted : Status) (answers : Answers check shelf (Report text wanted)) (published : Published wanted text.items out err ends) where
+module _ (words : List (List ℕ)) (asked : Command) (is_command : command words ≡ Some asked) (shelf : Shelved) (out err : Sunk) (ends : Status) where
+  module _ (text : Vec ℕ Global) (wanted : Status) (answers : Answers asked shelf (Report text wanted)) (published : Published wanted text.items out err ends) where
     pub reports : IsTrue (is_report ends) → ForSome shelf.files (λ held. Reports words held out ends)
     reports report held told =
         elim published [
@@ -109,7 +102,7 @@ module _ (words : List (List ℕ)) (check : Check) (is_command : command words �
     pub report_never_refuses : AreLaws → ForSome shelf.files (λ held. NoneHasRisen shelf out err → AlwaysRefuses words held ends)
     report_never_refuses laws held told none file refusal comes = absurd (no_refusal laws file refusal (report_of_words is_command (answers.2 held told)) comes)
 
-  module _ (line : Vec ℕ Global) (answers : Answers check shelf (Refusal line)) (told : Told status.Refused line.items err ends) where
+  module _ (line : Vec ℕ Global) (answers : Answers asked shelf (Refusal line)) (told : Told status.Refused line.items err ends) where
     pub refuses : ends ≡ status.Refused → ForSome shelf.files (λ held. Refuses words held err)
     refuses refusing held is =
         let (file, refusal, line_is, refused_so) = answers.1 in
@@ -117,7 +110,7 @@ module _ (words : List (List ℕ)) (check : Check) (is_command : command words �
           | inl (e, got, calm) ↦ record {
             file = file;
             refusal = refusal;
-            is = refusal_of_words is_command (refused_so held is);
+            is = refusal_of_words file refusal is_command (refused_so held is);
             line = subst (Got err) line_is got;
           }
           | inr (e, rose, front) ↦ absurd (let clash = sym refusing ∙ e in cc)
@@ -126,23 +119,23 @@ module _ (words : List (List ℕ)) (check : Check) (is_command : command words �
     pub refusal_fails : GotNothing out → ends ≡ status.WriteFault → Fails words shelf out err
     refusal_fails quiet failed =
         let (file, refusal, line_is, refused_so) = answers.1 in
-        let row : Line words shelf (refused_line file refusal) = refused file refusal (λ held is. refusal_of_words is_command (refused_so held is)) in
+        let row : Line words shelf (refused_line file refusal) = refused file refusal (λ held is. refusal_of_words file refusal is_command (refused_so held is)) in
         let told_line = subst (λ l. Told status.Refused l err ends) line_is told in
         told_fails words shelf out err status.Refused ends (refused_line file refusal) quiet row told_line (λ e. cc) failed
 
     pub refusal_always_reports : ForSome shelf.files (λ held. NoneHasRisen shelf out err → AlwaysReports words held ends)
     refusal_always_reports held is none other same quiet =
         let (file, refusal, line_is, refused_so) = answers.1 in
-        absurd (quiet file refusal (refusal_of_words is_command (refused_so held is)))
+        absurd (quiet file refusal (refusal_of_words file refusal is_command (refused_so held is)))
 
-  module _ (line : Vec ℕ Global) (answers : Answers check shelf (Unread line)) (told : Told status.ReadFault line.items err ends) where
+  module _ (line : Vec ℕ Global) (answers : Answers asked shelf (Unread line)) (told : Told status.ReadFault line.items err ends) where
     pub misses : ends ≡ status.ReadFault → Misses words shelf err
     misses missing =
         let (name, named, bad, reached, line_is) = answers.1 in
         elim told [
           | inl (e, got, calm) ↦ record {
-            check = check;
-            command = is_command;
+            asked = asked;
+            is_command = is_command;
             name = name;
             named = named;
             rose = answers.0;
@@ -157,4 +150,4 @@ module _ (words : List (List ℕ)) (check : Check) (is_command : command words �
     unread_fails quiet failed =
         let (name, named, bad, reached, line_is) = answers.1 in
         let told_line = subst (λ l. Told status.ReadFault l err ends) line_is told in
-        told_fails words shelf out err status.ReadFault ends (unread_line name) quiet (unread check name is_command named answers.0) told_line (λ e. cc) failed
+        told_fails words shelf out err status.ReadFault ends (unread_line name) quiet (unread asked name is_command named answers.0) told_line (λ e. cc) failed

@@ -1,5 +1,5 @@
 -- What an answer says of the words, the shelf's files and its count of faults.
-use Rattle.std.specs.Prelude.{ℕ, ◌≡◌, ◌<◌, true, List, Some, length, slice_get}
+use Rattle.std.specs.Prelude.{ℕ, ◌≡◌, ◌<◌, ◌⊎◌, true, List, Some, length, slice_get, ⊤}
 use Rattle.std.specs.Option.{ForSome}
 use Rattle.lk_base.specs.declared.refusal.Refusal.{Refusal}
 use Rattle.lk_base.specs.declared.spot.Spot.{Spot}
@@ -14,20 +14,28 @@ use Rattle.lk_lower_unit.specs.PointNumbers.{HasMorePoints}
 use Rattle.lk_report.specs.Report.{report_text}
 use Rattle.lk_safe.specs.Soundness.{HasNoOtherRaces}
 use Rattle.lk_solve.specs.Verdicts.{HasVerdicts}
+use Rattle.lk_typed.specs.Env.{Name}
 use Rattle.lk_typed.specs.declared.whole.Whole.{Whole}
 use Rattle.lk_sources.specs.declared.accepting.Accepted as code
+use Rattle.lk_sources.specs.Accepting.{HasBadExterns}
+use Rattle.lk_sources.specs.Externs.{Names, externs_text, listed}
 use Rattle.lk_sources.specs.Reading as reading
 use Rattle.lk_sources.specs.Shelves.{Shelved, HasRisen, IsAsBefore}
 use Rattle.lk_sources.specs.declared.fault.SourcesFault.{SourcesFault}
 use Rattle.lk_sources.specs.declared.fault.SourcesFault.TheVariants as fault
+use Rattle.lk_play.specs.declared.schedules.Turn.{Turn}
 use Rattle.lk_sources.specs.declared.reading.Source.{Source}
-use Rattle.lk_words.specs.Words.{Check}
-use Rattle.lk_top.specs.Analysis.{ArePointsOf, FindsEachRace, IsAnalysed, IsAtMain, IsNoProgramIn}
-use Rattle.lk_top.specs.Outcome.{Becomes, Follows}
-use Rattle.lk_top.specs.Results.{IsReport, IsRefusal, status_of, is_report}
+use Rattle.lk_sources.specs.declared.reading.Texts.{Texts}
+use Rattle.lk_words.specs.Words.{Command, Task}
+use Rattle.lk_top.specs.Analysis.{ArePointsOf, FindsEachRace, IsAtMain, IsNoProgramIn}
+use Rattle.lk_top.specs.Errands.{seen_errand}
+use Rattle.lk_top.specs.Outcome.{AsksNothing, Becomes, Checks, Errand, Follows, IsErrand, IsFor, Outcome, Plays}
+use Rattle.lk_top.specs.Plays.{TellsLines}
+use Rattle.lk_top.specs.Results.{IsAnswered, IsReport, IsRefusal, status_of, is_report}
 use Rattle.lk_top.specs.Texts.{refused_line, unread_line}
 use Rattle.lk_top.specs.declared.answer.Answer.{Answer}
 use Rattle.lk_top.specs.declared.answer.Answer.TheVariants as answer
+use Rattle.lk_top.specs.declared.errand.Asked.{Asked}
 
 -- ---- a report, or the line of a refusal
 
@@ -51,39 +59,47 @@ ShowsVerdicts files points verdicts (answer.Report text status) =
 ShowsVerdicts files points verdicts (answer.Refusal line) = ⊥
 ShowsVerdicts files points verdicts (answer.Unread line) = ⊥
 
+-- the text of a play
+abbrev pub ShowsPlay : List (List ℕ) → Points → List Turn → Answer → Type 0
+ShowsPlay files points turns (answer.Report text status) = TellsLines files points turns text.items status
+ShowsPlay files points turns (answer.Refusal line) = ⊥
+ShowsPlay files points turns (answer.Unread line) = ⊥
+
 -- ---- accepted sources
 
 -- main stands in one of the files
 abbrev pub HasMainIn : List (List ℕ) → Whole → Type 0
 HasMainIn files whole = (spot : Spot) × (spot_of_main whole ≡ Some spot) × (spot.file < length files)
 
--- what points come to: they have their verdicts, or too many labels
+-- what points come to: they have their verdicts, or a play, or too many labels
 pub data JudgesPoints (files : List (List ℕ)) (whole : Whole) (points : Points)
-    (shown : Answer) : Type 0 where
+    (shown : Answer) : Errand → Type 0 where
   shows : (verdicts : List Verdict) (has : HasVerdicts points verdicts) →
       (HasMoreLabels points 65536 → ⊥) → FindsEachRace points verdicts has →
       HasNoOtherRaces points verdicts → ShowsVerdicts files points verdicts shown →
-      JudgesPoints files whole points shown
-  too_many : HasMoreLabels points 65536 → TellsAtMain files whole TooManyLabels shown →
-      JudgesPoints files whole points shown
+      JudgesPoints files whole points shown Checks
+  plays : {turns : List Turn} → (HasMoreLabels points 65536 → ⊥) → ShowsPlay files points turns shown →
+      JudgesPoints files whole points shown (Plays turns)
+  too_many : {errand : Errand} → HasMoreLabels points 65536 → TellsAtMain files whole TooManyLabels shown →
+      JudgesPoints files whole points shown errand
 
 -- what a program comes to: it has points, or too many of them, or of their places
-pub data JudgesWhole (files : List (List ℕ)) (whole : Whole) (shown : Answer) : Type 0 where
+pub data JudgesWhole (errand : Errand) (files : List (List ℕ)) (whole : Whole) (shown : Answer) : Type 0 where
   has_points : (points : Points) → (HasMorePoints whole 65536 → ⊥) → ArePointsOf whole points →
-      JudgesPoints files whole points shown → JudgesWhole files whole shown
+      JudgesPoints files whole points shown errand → JudgesWhole errand files whole shown
   too_many_points : HasMorePoints whole 65536 → TellsAtMain files whole TooManyPoints shown →
-      JudgesWhole files whole shown
+      JudgesWhole errand files whole shown
   too_many_places : (HasMorePoints whole 65536 → ⊥) → HasMorePlaces whole 65536 →
-      TellsAtMain files whole TooManyLabels shown → JudgesWhole files whole shown
+      TellsAtMain files whole TooManyLabels shown → JudgesWhole errand files whole shown
 
 -- the report of sources that are accepted, or the line of why they make no program
-abbrev pub Analyses : code.Accepted → Answer → Type 0
-Analyses sources (answer.Report text status) =
-    (verdicts : List Verdict) × IsAnalysed sources text.items verdicts × (status ≡ status_of verdicts)
-Analyses sources (answer.Refusal line) =
+abbrev pub Analyses : Errand → code.Accepted → Answer → Type 0
+Analyses errand sources (answer.Report text status) =
+    (is_report status ≡ true) × IsAnswered errand sources text.items status
+Analyses errand sources (answer.Refusal line) =
     (file : List ℕ) × (refusal : Refusal) × IsNoProgramIn sources file refusal
     × (line.items ≡ refused_line file refusal)
-Analyses sources (answer.Unread line) = ⊥
+Analyses errand sources (answer.Unread line) = ⊥
 
 -- the line of why files are not read or not accepted; for want of memory there is none
 abbrev pub ShowsFault : SourcesFault → Answer → Type 0
@@ -95,27 +111,53 @@ ShowsFault (fault.Unread name) (answer.Refusal line) = ⊥
 ShowsFault (fault.Unread name) (answer.Unread line) = line.items ≡ unread_line name
 ShowsFault fault.NoMemory shown = ⊥
 
--- ---- files that are read, where these are the names of files so far
+-- ---- what is asked of sources, and what they and the files beside them come to
 
-abbrev pub Judges : List (List ℕ) → List Source → List Source → Answer → Type 0
-Judges names externs sources (answer.Report text status) =
-    (is_report status ≡ true) × IsReport (Becomes names externs sources) text.items status
-Judges names externs sources (answer.Refusal line) =
+-- why the file beside the sources asks nothing
+abbrev pub RefusesErrand : Task → List (List ℕ) → List Source → SourcesFault → Type 0
+RefusesErrand task names others (fault.Refused file refusal) = AsksNothing task names others file refusal
+RefusesErrand task names others (fault.Unread name) = ⊥
+RefusesErrand task names others fault.NoMemory = ⊤
+
+-- --externs lists these names, and this is the errand
+pub record IsAsked (task : Task) (externs others : List Source) (asked : Asked) : Type 0 where
+  pub listed_so : listed (externs_text externs) ≡ Names asked.externs.items
+  pub errand_is : IsErrand task others (seen_errand asked.errand)
+
+-- why nothing is asked
+abbrev pub RefusesAsked : Task → List (List ℕ) → List Source → List Source → SourcesFault → Type 0
+RefusesAsked task names externs others (fault.Refused file refusal) =
+    HasBadExterns names externs file refusal
+    ⊎ ((listing : List Name) × (listed (externs_text externs) ≡ Names listing)
+    × AsksNothing task names others file refusal)
+RefusesAsked task names externs others (fault.Unread name) = ⊥
+RefusesAsked task names externs others fault.NoMemory = ⊤
+
+-- the report of what they come to, or the line of a refusal
+abbrev pub Comes : (Outcome → Type 0) → Answer → Type 0
+Comes Gives (answer.Report text status) = (is_report status ≡ true) × IsReport Gives text.items status
+Comes Gives (answer.Refusal line) =
     (file : List ℕ) × (refusal : Refusal) × (line.items ≡ refused_line file refusal)
-    × IsRefusal (Becomes names externs sources) file refusal
-Judges names externs sources (answer.Unread line) = ⊥
+    × IsRefusal Gives file refusal
+Comes Gives (answer.Unread line) = ⊥
+
+abbrev pub JudgesFor : Errand → List (List ℕ) → List Name → List Source → Answer → Type 0
+JudgesFor errand names listing sources shown = Comes (IsFor errand names listing sources) shown
+
+abbrev pub Judges : Task → Texts → Answer → Type 0
+Judges task texts shown = Comes (Becomes task texts.files texts.externs texts.beside texts.sources) shown
 
 -- ---- a command over a shelf
 
-abbrev pub Answers : Check → Shelved → Answer → Type 0
-Answers check shelf (answer.Report text status) =
+abbrev pub Answers : Command → Shelved → Answer → Type 0
+Answers asked shelf (answer.Report text status) =
     IsAsBefore shelf.faults × (is_report status ≡ true)
-    × ForSome shelf.files (λ held. IsReport (Follows check held) text.items status)
-Answers check shelf (answer.Refusal line) =
+    × ForSome shelf.files (λ held. IsReport (Follows asked held) text.items status)
+Answers asked shelf (answer.Refusal line) =
     IsAsBefore shelf.faults × ((file : List ℕ) × (refusal : Refusal)
     × (line.items ≡ refused_line file refusal)
-    × ForSome shelf.files (λ held. IsRefusal (Follows check held) file refusal))
-Answers check shelf (answer.Unread line) =
-    HasRisen shelf.faults × ((name : List ℕ) × reading.IsNamed check name
+    × ForSome shelf.files (λ held. IsRefusal (Follows asked held) file refusal))
+Answers asked shelf (answer.Unread line) =
+    HasRisen shelf.faults × ((name : List ℕ) × reading.IsNamed asked name
     × ForSome shelf.bad (λ told. told ≡ name)
-    × ForSome shelf.files (λ held. reading.ComesTo check held name) × (line.items ≡ unread_line name))
+    × ForSome shelf.files (λ held. reading.ComesTo asked held name) × (line.items ≡ unread_line name))

@@ -9,7 +9,8 @@ use Rattle.lk_facts.specs.declared.verdict.VerdictState.{VerdictState}
 use Rattle.lk_facts.specs.declared.verdict.VerdictState.TheVariants.{Guarded, Unshared, Suspect}
 use Rattle.lk_sources.specs.declared.accepting.Accepted as code
 use Rattle.lk_top.specs.Analysis.{IsAnalysed, IsNoProgramIn}
-use Rattle.lk_top.specs.Outcome.{Outcome, Accepted, Refused}
+use Rattle.lk_top.specs.Outcome.{Accepted, Checks, Errand, Outcome, Plays, Refused}
+use Rattle.lk_top.specs.Plays.{IsPlayed}
 
 abbrev pub is_suspect : VerdictState → Bool
 is_suspect Guarded = false
@@ -37,16 +38,25 @@ is_report status.NoMemory = false
 -- ---- what an outcome shows, where `Gives` says which outcomes there are
 
 -- the report of sources that are accepted, with the status of its verdicts
-pub record IsReport (Gives : Outcome → Type 0) (text : List ℕ) (ends : Status) : Type 0 where
-  pub sources : code.Accepted
-  pub gives : Gives (Accepted sources)
+pub record IsChecked (sources : code.Accepted) (text : List ℕ) (ends : Status) : Type 0 where
   pub verdicts : List Verdict
   pub analysed : IsAnalysed sources text verdicts
   pub status : ends ≡ status_of verdicts
 
--- a refusal, with the name of the file in which its place stands: of sources, or of the
--- program that accepted sources make
+-- the text of an errand, with its status
+abbrev pub IsAnswered : Errand → code.Accepted → List ℕ → Status → Type 0
+IsAnswered Checks sources text ends = IsChecked sources text ends
+IsAnswered (Plays turns) sources text ends = IsPlayed turns sources text ends
+
+-- the text of sources that are accepted
+pub record IsReport (Gives : Outcome → Type 0) (text : List ℕ) (ends : Status) : Type 0 where
+  pub errand : Errand
+  pub sources : code.Accepted
+  pub gives : Gives (Accepted errand sources)
+  pub answered : IsAnswered errand sources text ends
+
+-- a refusal: of sources, or of the program that accepted sources make
 pub data IsRefusal (Gives : Outcome → Type 0) (file : List ℕ) (refusal : Refusal) : Type 0 where
   of_sources : Gives (Refused file refusal) → IsRefusal Gives file refusal
-  of_program : (sources : code.Accepted) → Gives (Accepted sources) → IsNoProgramIn sources file refusal →
-      IsRefusal Gives file refusal
+  of_program : (errand : Errand) (sources : code.Accepted) → Gives (Accepted errand sources) →
+      IsNoProgramIn sources file refusal → IsRefusal Gives file refusal

@@ -6,12 +6,12 @@ use Rattle.lk_base.specs.declared.status.Status.{Status}
 use Rattle.lk_base.specs.declared.status.Status.TheVariants as status
 use Rattle.lk_io.specs.Shelf.{Held}
 use Rattle.lk_io.specs.Sink.{Takes}
-use Rattle.lk_words.specs.Words.{Check, command}
+use Rattle.lk_words.specs.Words.{Command, command}
 use Rattle.lk_sources.specs.Reading as reading
 use Rattle.lk_sources.specs.Shelves.{Count, Shelved, HasRisen, IsAsBefore}
-use Rattle.lk_top.specs.Texts.{refused_line, usage_line, unread_line, unwritten_line, no_memory_line}
+use Rattle.lk_top.specs.Texts.{refused_line, usage_lines, unread_line, unwritten_line, no_memory_line}
 use Rattle.lk_top.specs.Results.{IsReport, IsRefusal, is_report}
-use Rattle.lk_top.specs.Outcome.{Refused, ComesTo}
+use Rattle.lk_top.specs.Outcome.{ComesTo, Refused}
 
 -- what a sink tells: what it has taken before a call and after it, and its count of faults
 pub record Sunk : Type 0 where
@@ -57,22 +57,22 @@ pub record Refuses (words : List (List ℕ)) (held : Held) (err : Sunk) : Type 0
 -- A file of the command can't be read: the shelf's count rose, a told bad name is that file's, the reading of
 -- told files comes to it, and the error output has the line with its name.
 pub record Misses (words : List (List ℕ)) (shelf : Shelved) (err : Sunk) : Type 0 where
-  pub check : Check
-  pub command : command words ≡ Some check
+  pub asked : Command
+  pub is_command : command words ≡ Some asked
   pub name : List ℕ
-  pub named : reading.IsNamed check name
+  pub named : reading.IsNamed asked name
   pub rose : HasRisen shelf.faults
   pub bad : ForSome shelf.bad (λ told. told ≡ name)
-  pub reached : ForSome shelf.files (λ held. reading.ComesTo check held name)
+  pub reached : ForSome shelf.files (λ held. reading.ComesTo asked held name)
   pub line : Got err (unread_line name)
 
 -- the lines that the error output may get where the output did not fail
 pub data Line (words : List (List ℕ)) (shelf : Shelved) : List ℕ → Type 0 where
-  usage : command words ≡ None → Line words shelf usage_line
+  usage : command words ≡ None → Line words shelf usage_lines
   refused : (file : List ℕ) (refusal : Refusal) →
       ForSome shelf.files (λ held. IsRefusal (ComesTo words held) file refusal) →
       Line words shelf (refused_line file refusal)
-  unread : (check : Check) (name : List ℕ) → command words ≡ Some check → reading.IsNamed check name →
+  unread : (asked : Command) (name : List ℕ) → command words ≡ Some asked → reading.IsNamed asked name →
       HasRisen shelf.faults → Line words shelf (unread_line name)
   no_memory : Line words shelf no_memory_line
 
@@ -111,14 +111,14 @@ AlwaysRefuses words held ends = (file : List ℕ) (refusal : Refusal) →
 -- a program that they make.
 abbrev pub AlwaysReports : List (List ℕ) → Held → Status → Type 0
 AlwaysReports words held ends =
-    (check : Check) → command words ≡ Some check →
+    (asked : Command) → command words ≡ Some asked →
     ((file : List ℕ) (refusal : Refusal) → IsRefusal (ComesTo words held) file refusal → ⊥) →
     (is_report ends ≡ true) ⊎ (ends ≡ status.NoMemory)
 
 -- a command is reported or refused, but for want of memory
 abbrev pub AlwaysAnswers : List (List ℕ) → Status → Type 0
 AlwaysAnswers words ends =
-    (check : Check) → command words ≡ Some check → (is_report ends ≡ true) ⊎ IsOrNoMemory ends status.Refused
+    (asked : Command) → command words ≡ Some asked → (is_report ends ≡ true) ⊎ IsOrNoMemory ends status.Refused
 
 -- the output is never written to
 abbrev pub leaves_output : Status → Bool

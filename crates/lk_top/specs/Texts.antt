@@ -20,9 +20,11 @@ refused_line file r =
     place file r.spot
     ++ (codes ": refused " ++ (decimal (number_of r.code) ++ (codes " " ++ (word_of r.code ++ (named r.name ++ (10 ∷ []))))))
 
--- the line for words that are no command
-abbrev pub usage_line : List ℕ
-usage_line = codes "usage: lsrace check [--externs FILE] FILE..." ++ 10 ∷ []
+-- the lines for words that are no command
+abbrev pub usage_lines : List ℕ
+usage_lines =
+    codes "usage: lsrace check [--externs FILE] FILE..."
+    ++ (10 ∷ [] ++ (codes "usage: lsrace play --schedule FILE [--externs FILE] FILE..." ++ 10 ∷ []))
 
 -- the line for a file that can't be read
 abbrev pub unread_line : List ℕ → List ℕ

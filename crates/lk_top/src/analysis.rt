@@ -10,9 +10,13 @@ ghost use Rattle.lk_sources.specs.Accepting.{AreChecked};
 ghost use Rattle.lk_sources.specs.Readable.{AreFew};
 ghost use Rattle.lk_top.specs.Analysis.{ArePointsOf};
 ghost use Rattle.lk_top.specs.Answer.{Analyses, HasMainIn, JudgesPoints, JudgesWhole, ShowsVerdicts, TellsAtMain};
+ghost use Rattle.lk_top.specs.Errands.{seen_errand};
+ghost use Rattle.lk_top.specs.Outcome.{Checks};
 ghost use Rattle.lk_types.specs.Building.{IsTable};
 
 use crate::answer::{Answer, refuse};
+use crate::errand::Errand;
+use crate::playing::play_points;
 use crate::status::status_of;
 use lk_base::{Code, Files, Name, NoMemory, Refusal};
 use lk_facts::{Points, Verdict};
@@ -28,7 +32,7 @@ use lk_typed::Whole;
 use std::alloc::Global;
 
 /// The line of a refusal with this code, without a name, at the name of `main`.
-fn refuse_at_main(
+pub(crate) fn refuse_at_main(
     alloc: Global,
     files: &Files,
     whole: &Whole,
@@ -69,9 +73,9 @@ fn are_in_range(points: &Points)
     points.types().is_table();
 }
 
-/// What a program of these points comes to. Each race of a run was found by the analysis, and none is at a
-/// location that isn't called suspect.
-fn judge_points(
+/// What a program of these points comes to where it is checked. Each race of a run was found by the analysis, and
+/// none is at a location that isn't called suspect.
+fn check_points(
     alloc: Global,
     files: &Files,
     whole: &Whole,
@@ -81,7 +85,7 @@ fn judge_points(
     requires named { CanBeNamed files.now points.now }
     requires places { ArePlaceNodes points.now }
     requires made { ArePointsOf whole.now points.now }
-    ensures { IfOk result (JudgesPoints files.now whole.now points.now) }
+    ensures { IfOk result (λ shown. JudgesPoints files.now whole.now points.now shown Checks) }
 {
     verdicts_are_safe();
     verdicts_find_races();
@@ -98,19 +102,51 @@ fn judge_points(
     }
 }
 
+/// What a program of these points comes to.
+fn judge_points(
+    alloc: Global,
+    files: &Files,
+    whole: &Whole,
+    points: &Points,
+    errand: &Errand,
+) -> Result<Answer, NoMemory>
+    requires main { HasMainIn files.now whole.now }
+    requires named { CanBeNamed files.now points.now }
+    requires places { ArePlaceNodes points.now }
+    requires made { ArePointsOf whole.now points.now }
+    ensures { IfOk result (λ shown.
+        JudgesPoints files.now whole.now points.now shown (seen_errand errand.now)) }
+{
+    match errand {
+        Errand::Check => {
+            let answer = check_points(alloc, files, whole, points)?;
+            Ok(answer)
+        }
+        Errand::Play { turns } => {
+            let answer = play_points(alloc, files, whole, points, turns)?;
+            Ok(answer)
+        }
+    }
+}
+
 /// What the program that sources make comes to. Each location and lock place is a label.
-fn judge_whole(alloc: Global, files: &Files, whole: &Whole) -> Result<Answer, NoMemory>
+fn judge_whole(
+    alloc: Global,
+    files: &Files,
+    whole: &Whole,
+    errand: &Errand,
+) -> Result<Answer, NoMemory>
     requires of_sources { IsOfSources whole.now }
     requires some { 0 < length files.now }
     requires main { HasMainIn files.now whole.now }
     requires stand { StandIn (length files.now) (map (λ linked. linked.unit) whole.now.sources) }
-    ensures { IfOk result (JudgesWhole files.now whole.now) }
+    ensures { IfOk result (JudgesWhole (seen_errand errand.now) files.now whole.now) }
 {
     points_stand_in_files();
     match lower(alloc, whole) {
         Ok(points) => {
             are_in_range(&points);
-            let answer = judge_points(alloc, files, whole, &points)?;
+            let answer = judge_points(alloc, files, whole, &points, errand)?;
             Ok(answer)
         }
         Err(LowerFault::TooManyPoints) => {
@@ -126,14 +162,18 @@ fn judge_whole(alloc: Global, files: &Files, whole: &Whole) -> Result<Answer, No
 }
 
 /// What accepted sources come to.
-pub(crate) fn analyse(alloc: Global, accepted: Accepted) -> Result<Answer, NoMemory>
+pub(crate) fn analyse(
+    alloc: Global,
+    accepted: Accepted,
+    errand: &Errand,
+) -> Result<Answer, NoMemory>
     requires checked { AreChecked accepted }
     requires few { AreFew (length accepted.sources.items) }
-    ensures { IfOk result (Analyses accepted) }
+    ensures { IfOk result (Analyses (seen_errand errand.now) accepted) }
 {
     match program_of(alloc, accepted) {
         Ok(program) => {
-            let answer = judge_whole(alloc, &program.files, &program.whole)?;
+            let answer = judge_whole(alloc, &program.files, &program.whole, errand)?;
             Ok(answer)
         }
         Err(fault) => {

@@ -3,6 +3,8 @@
 
 mod analysis;
 mod answer;
+mod errand;
+mod playing;
 mod status;
 mod texts;
 mod top;

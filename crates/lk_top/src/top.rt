@@ -3,18 +3,20 @@ ghost use Rattle.std.specs.Prelude.{◌≡◌, None, map, IsTrue, string_bytes};
 ghost use Rattle.std.specs.Option.{ForSome};
 ghost use Rattle.lk_words.specs.Words.{command};
 ghost use Rattle.lk_sources.specs.Shelves.{shelved, HasRisen};
-ghost use Rattle.lk_top.specs.Texts.{usage_line, no_memory_line};
+ghost use Rattle.lk_top.specs.Texts.{usage_lines, no_memory_line};
 ghost use Rattle.lk_top.specs.Results.{is_report};
 ghost use Rattle.lk_top.specs.Run.{sunk, Got, NoneHasRisen, Reports, Refuses, Misses, Fails, AlwaysAnswers, AlwaysReports, AlwaysRefuses, IsOrNoMemory, Told, Published, leaves_output};
 
 use crate::answer::{Answer, examine};
 use lk_base::{NoMemory, Status};
 use lk_io::{Failed, Shelf, Sink, write_whole};
+use lk_play::schedules_are_one;
 use lk_sources::{commands_are_in_bounds, one_reading, one_result};
 use lk_words::{WordsFault, command};
 use std::alloc::Global;
 
-const USAGE_LINE: &[u8] = b"usage: lsrace check [--externs FILE] FILE...\n";
+const USAGE_LINES: &[u8] =
+    b"usage: lsrace check [--externs FILE] FILE...\nusage: lsrace play --schedule FILE [--externs FILE] FILE...\n";
 
 const UNWRITTEN_LINE: &[u8] = b"lsrace: cannot write\n";
 
@@ -42,8 +44,8 @@ fn publish<S: Sink, E: Sink>(out: &mut S, err: &mut E, text: &[u8], status: Stat
     }
 }
 
-/// Runs the command that the words spell, `check` with its FILEs: reads the files from the shelf, and writes
-/// the report to `out` or a line to `err`.
+/// Runs the command that the words spell: reads its files from the shelf, and writes the report of a check, or the
+/// text of a play, to `out` or a line to `err`.
 ///
 /// The status says which, and its clauses when each comes. What is said of the words' outcome is said
 /// where the shelf tells its files.
@@ -54,9 +56,10 @@ pub fn run<F: Shelf, S: Sink, E: Sink>(
     out: &mut S,
     err: &mut E,
 ) -> Status
-    // Verdicts: the output has the whole report, and no run of the program that the sources make comes to a race at a
-    // location that this doesn't call suspect (`IsAnalysed`). It comes only if no count of faults rises. Sources of the
-    // subset are reported, but for want of memory.
+    // A text: the output has it whole. Of a check it is the report, and no run of the program that the sources make comes
+    // to a race at a location that this doesn't call suspect (`IsAnalysed`); of a play it is that of the turns, and each
+    // race that it tells is at a location that the verdicts call suspect (`IsPlayed`). It comes only if no count of faults
+    // rises. Sources of the subset are reported, but for want of memory.
     ensures reports { IsTrue (is_report result) → ForSome (F.held shelf.old) (λ held.
         Reports (map string_bytes words.now) held (sunk S.gone S.faults out.old out.new) result) }
     ensures reports_quietly { IsTrue (is_report result) → (F.faults shelf.new ≡ F.faults shelf.old)
@@ -82,7 +85,7 @@ pub fn run<F: Shelf, S: Sink, E: Sink>(
 
     // Words that are no command: the error output has the usage line. The shelf is not read.
     ensures usage { result ≡ Status.Usage → (command (map string_bytes words.now) ≡ None)
-        × Got (sunk E.gone E.faults err.old err.new) usage_line × (shelf.new ≡ shelf.old) }
+        × Got (sunk E.gone E.faults err.old err.new) usage_lines × (shelf.new ≡ shelf.old) }
     ensures always_usage { command (map string_bytes words.now) ≡ None
         → (HasRisen (sunk E.gone E.faults err.old err.new).faults → ⊥) → IsOrNoMemory result Status.Usage }
 
@@ -102,15 +105,16 @@ pub fn run<F: Shelf, S: Sink, E: Sink>(
     ensures untouched { IsTrue (leaves_output result) → out.new ≡ out.old }
     ensures held { F.held shelf.new ≡ F.held shelf.old }
 {
-    let check = match command(alloc, words) {
-        Ok(check) => check,
-        Err(WordsFault::Usage) => return tell(err, USAGE_LINE, Status::Usage),
+    let asked = match command(alloc, words) {
+        Ok(asked) => asked,
+        Err(WordsFault::Usage) => return tell(err, USAGE_LINES, Status::Usage),
         Err(WordsFault::NoMemory) => return tell(err, NO_MEMORY_LINE, Status::NoMemory),
     };
     commands_are_in_bounds();
     one_reading();
     one_result();
-    match examine(alloc, &check, shelf) {
+    schedules_are_one();
+    match examine(alloc, &asked, shelf) {
         Ok(Answer::Report { text, status }) => publish(out, err, &text, status),
         Ok(Answer::Refusal { line }) => tell(err, &line, Status::Refused),
         Ok(Answer::Unread { line }) => tell(err, &line, Status::ReadFault),

@@ -1,7 +1,9 @@
-pub mod Shapes
 pub mod Bounds
+pub mod Commands
 pub mod Matches
+pub mod Options
 pub mod Rows
+pub mod Shapes
 pub mod Texts
 pub mod Turns
 pub mod Whole

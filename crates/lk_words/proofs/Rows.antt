@@ -1,96 +1,152 @@
 -- What `clap` holds of the words so far.
-use Rattle.std.proofs.Common.{◌≡◌, ◌∙◌, ◌++◌, ap, sym, Bool, true, false, List, [], ◌∷◌, Some, is_some, refl, codes}
+use Rattle.std.proofs.Common.{◌≡◌, ◌∙◌, ◌++◌, ap, sym, subst, Bool, true, false, List, [], ◌∷◌, Some, is_some, refl}
 use Rattle.std.specs.Prelude.{unwrap_or}
 use Rattle.std.specs.Str.{bytes_eq}
 use Rattle.std.proofs.lemmas.Slice.Eq.{bytes_eq-Decides}
 use Rattle.clap.specs.Walk.{Row, Text, all_of, first_of, has_row, with_values, without}
-use Rattle.clap.specs.declared.builder.value_parser.Reading.{Reading}
 use Rattle.clap.specs.declared.parser.matches.ValueSource.TheVariants.{CommandLine}
-use Rattle.lk_words.specs.Words.{Check, Word, with_externs, with_file}
-
-abbrev pub externs_id : Text
-externs_id = codes "externs"
-
-abbrev pub file_id : Text
-file_id = codes "file"
+use Rattle.lk_words.specs.Words.{Named, Word, file_of, with_file, with_given}
+use Rattle.lk_words.proofs.Options.{file_id, how}
 
 -- the files of the rows
-abbrev pub files_in : List Row → List Word
-files_in rows = unwrap_or (all_of file_id rows) []
+abbrev pub files_of_rows : List Row → List Word
+files_of_rows rows = unwrap_or (all_of file_id rows) []
 
-pub record Holds (named : Check) (rows : List Row) : Type 0 where
-  pub externs : first_of externs_id rows ≡ named.externs
-  pub has : has_row externs_id rows ≡ is_some named.externs
-  pub files : files_in rows ≡ named.files
+-- the rows have what was named: of options, whose names are none of the files', and of the files
+pub record Holds (named : Named) (rows : List Row) : Type 0 where
+  pub first : (name : Text) → bytes_eq name file_id ≡ false → first_of name rows ≡ file_of name named
+  pub has : (name : Text) → bytes_eq name file_id ≡ false → has_row name rows ≡ is_some (file_of name named)
+  pub files : files_of_rows rows ≡ named.files
+
+-- one use of what has this id, with one value
+abbrev pub with_use : Text → Word → List Row → List Row
+with_use id value rows = with_values id how CommandLine (value ∷ []) rows
+
+differs : (a b : Text) → bytes_eq a b ≡ false → bytes_eq b a ≡ false
+differs a b not_same = by (bytes_eq b a) refl
+  where
+    by : (t : Bool) → bytes_eq b a ≡ t → bytes_eq b a ≡ false
+    by true t = let bad : true ≡ false = sym ((bytes_eq-Decides a b).1 (sym ((bytes_eq-Decides b a).0 t))) ∙ not_same in cc
+    by false t = t
 
 -- no id is both
-one_id : (id : Text) → bytes_eq id file_id ≡ true → bytes_eq id externs_id ≡ true → ⊥
-one_id id f e =
-    let same : file_id ≡ externs_id = sym ((bytes_eq-Decides id file_id).0 f) ∙ (bytes_eq-Decides id externs_id).0 e in
+one_id : (id a b : Text) → bytes_eq a b ≡ false → bytes_eq id a ≡ true → bytes_eq id b ≡ true → ⊥
+one_id id a b not_same is_a is_b =
+    let same : a ≡ b = sym ((bytes_eq-Decides id a).0 is_a) ∙ (bytes_eq-Decides id b).0 is_b in
+    let bad : true ≡ false = sym ((bytes_eq-Decides a b).1 same) ∙ not_same in
     cc
 
--- a file is put at the end of the files, and what `--externs` names stays
-abbrev pub with_word : Reading → Word → List Row → List Row
-with_word how f rows = with_values file_id how CommandLine (f ∷ []) rows
+-- ---- what is of another id stays
 
-file_keeps : (how : Reading) (f : Word) (r : Row) (rows : List Row)
-    → (first_of externs_id (with_word how f rows) ≡ first_of externs_id rows) × (has_row externs_id (with_word how f rows) ≡ has_row externs_id rows)
-    × (files_in (with_word how f rows) ≡ files_in rows ++ f ∷ [])
-    → (a b : Bool) → bytes_eq r.id file_id ≡ a → bytes_eq r.id externs_id ≡ b
-    → (first_of externs_id (with_word how f (r ∷ rows)) ≡ first_of externs_id (r ∷ rows))
-    × (has_row externs_id (with_word how f (r ∷ rows)) ≡ has_row externs_id (r ∷ rows))
-    × (files_in (with_word how f (r ∷ rows)) ≡ files_in (r ∷ rows) ++ f ∷ [])
-file_keeps how f r rows later true true a b = absurd (one_id r.id a b)
-file_keeps how f r rows later true false a b = (rw (a, b) refl, rw (a, b) refl, rw (a, a) refl)
-file_keeps how f r rows later false true a b = (rw (a, b) refl, rw (a, b) refl, rw (a, a) (later.2))
-file_keeps how f r rows later false false a b = (rw (a, b) (later.0), rw (a, b) (later.1), rw (a, a) (later.2))
+module _ (id name : Text) (value : Word) (apart : bytes_eq name id ≡ false) where
+  other_first : (rows : List Row) → first_of name (with_use id value rows) ≡ first_of name rows
+  other_first [] = rw (differs name id apart) refl
+  other_first (r ∷ rows) = by (bytes_eq r.id id) (bytes_eq r.id name) refl refl (other_first rows)
+    where
+      by : (a b : Bool) → bytes_eq r.id id ≡ a → bytes_eq r.id name ≡ b → first_of name (with_use id value rows) ≡ first_of name rows
+          → first_of name (with_use id value (r ∷ rows)) ≡ first_of name (r ∷ rows)
+      by true true a b later = absurd (one_id r.id name id apart b a)
+      by true false a b later = rw (a, b) refl
+      by false true a b later = rw (a, b) refl
+      by false false a b later = rw (a, b) later
 
-file_used : (how : Reading) (f : Word) (rows : List Row)
-    → (first_of externs_id (with_word how f rows) ≡ first_of externs_id rows) × (has_row externs_id (with_word how f rows) ≡ has_row externs_id rows)
-    × (files_in (with_word how f rows) ≡ files_in rows ++ f ∷ [])
-file_used how f [] = (refl, refl, refl)
-file_used how f (r ∷ rows) = file_keeps how f r rows (file_used how f rows) (bytes_eq r.id file_id) (bytes_eq r.id externs_id) refl refl
+  other_has : (rows : List Row) → has_row name (with_use id value rows) ≡ has_row name rows
+  other_has [] = rw (differs name id apart) refl
+  other_has (r ∷ rows) = by (bytes_eq r.id id) (bytes_eq r.id name) refl refl (other_has rows)
+    where
+      by : (a b : Bool) → bytes_eq r.id id ≡ a → bytes_eq r.id name ≡ b → has_row name (with_use id value rows) ≡ has_row name rows
+          → has_row name (with_use id value (r ∷ rows)) ≡ has_row name (r ∷ rows)
+      by true true a b later = absurd (one_id r.id name id apart b a)
+      by true false a b later = rw (a, b) refl
+      by false true a b later = rw (a, b) refl
+      by false false a b later = rw (a, b) later
 
--- what `--externs` names is put in, where nothing was, and the files stay
-without_none : (rows : List Row) → has_row externs_id rows ≡ false → without externs_id rows ≡ rows
-without_none [] none = refl
-without_none (r ∷ rows) none = go (bytes_eq r.id externs_id) refl (without_none rows)
+-- the same of the files, where an option is used
+module _ (option : Text) (value : Word) (apart : bytes_eq option file_id ≡ false) where
+  files_stay : (rows : List Row) → files_of_rows (with_use option value rows) ≡ files_of_rows rows
+  files_stay [] = rw apart refl
+  files_stay (r ∷ rows) = by (bytes_eq r.id option) (bytes_eq r.id file_id) refl refl (files_stay rows)
+    where
+      by : (a b : Bool) → bytes_eq r.id option ≡ a → bytes_eq r.id file_id ≡ b → files_of_rows (with_use option value rows) ≡ files_of_rows rows
+          → files_of_rows (with_use option value (r ∷ rows)) ≡ files_of_rows (r ∷ rows)
+      by true true a b later = absurd (one_id r.id option file_id apart a b)
+      by true false a b later = rw (a, b) refl
+      by false true a b later = rw (a, b) refl
+      by false false a b later = rw (a, b) later
+
+-- ---- a file is put at the end of the files
+
+more_files : (value : Word) (rows : List Row) → files_of_rows (with_use file_id value rows) ≡ files_of_rows rows ++ value ∷ []
+more_files value [] = refl
+more_files value (r ∷ rows) = by (bytes_eq r.id file_id) refl (more_files value rows)
   where
-    go : (a : Bool) → bytes_eq r.id externs_id ≡ a → (has_row externs_id rows ≡ false → without externs_id rows ≡ rows) → without externs_id (r ∷ rows) ≡ r ∷ rows
-    go true a later = let bad : true ≡ false = rw a at none in cc
-    go false a later = rw (a, later (rw a at none)) refl
+    by : (a : Bool) → bytes_eq r.id file_id ≡ a → files_of_rows (with_use file_id value rows) ≡ files_of_rows rows ++ value ∷ []
+        → files_of_rows (with_use file_id value (r ∷ rows)) ≡ files_of_rows (r ∷ rows) ++ value ∷ []
+    by true a later = rw (a, a) refl
+    by false a later = rw (a, a) later
 
-abbrev pub with_name : Reading → Word → List Row → List Row
-with_name how v rows = with_values externs_id how CommandLine (v ∷ []) rows
+pub holds_file : (named : Named) (rows : List Row) (file : Word) → Holds named rows → Holds (with_file named file) (with_use file_id file rows)
+holds_file named rows file h = record {
+  first = λ name apart. other_first file_id name file apart rows ∙ h.first name apart;
+  has = λ name apart. other_has file_id name file apart rows ∙ h.has name apart;
+  files = more_files file rows ∙ ap (λ fs. fs ++ file ∷ []) h.files;
+}
 
-name_keeps : (how : Reading) (v : Word) (r : Row) (rows : List Row) → bytes_eq r.id externs_id ≡ false
-    → (first_of externs_id (with_name how v rows) ≡ Some v) × (has_row externs_id (with_name how v rows) ≡ true) × (files_in (with_name how v rows) ≡ files_in rows)
-    → (b : Bool) → bytes_eq r.id file_id ≡ b
-    → (first_of externs_id (with_name how v (r ∷ rows)) ≡ Some v) × (has_row externs_id (with_name how v (r ∷ rows)) ≡ true)
-    × (files_in (with_name how v (r ∷ rows)) ≡ files_in (r ∷ rows))
-name_keeps how v r rows a later true b = (rw (a, a) (later.0), rw (a, a) (later.1), rw (a, b) refl)
-name_keeps how v r rows a later false b = (rw (a, a) (later.0), rw (a, a) (later.1), rw (a, b) (later.2))
+-- ---- what an option names is put in, where nothing was
 
-name_used : (how : Reading) (v : Word) (rows : List Row) → has_row externs_id rows ≡ false
-    → (first_of externs_id (with_name how v rows) ≡ Some v) × (has_row externs_id (with_name how v rows) ≡ true) × (files_in (with_name how v rows) ≡ files_in rows)
-name_used how v [] none = (refl, refl, refl)
-name_used how v (r ∷ rows) none = go (bytes_eq r.id externs_id) refl (name_used how v rows)
+without_none : (id : Text) (rows : List Row) → has_row id rows ≡ false → without id rows ≡ rows
+without_none id [] none = refl
+without_none id (r ∷ rows) none = by (bytes_eq r.id id) refl (without_none id rows)
   where
-    go : (a : Bool) → bytes_eq r.id externs_id ≡ a
-        → (has_row externs_id rows ≡ false → (first_of externs_id (with_name how v rows) ≡ Some v) × (has_row externs_id (with_name how v rows) ≡ true) × (files_in (with_name how v rows) ≡ files_in rows))
-        → (first_of externs_id (with_name how v (r ∷ rows)) ≡ Some v) × (has_row externs_id (with_name how v (r ∷ rows)) ≡ true)
-        × (files_in (with_name how v (r ∷ rows)) ≡ files_in (r ∷ rows))
-    go true a later = let bad : true ≡ false = rw a at none in cc
-    go false a later = name_keeps how v r rows a (later (rw a at none)) (bytes_eq r.id file_id) refl
+    by : (a : Bool) → bytes_eq r.id id ≡ a → (has_row id rows ≡ false → without id rows ≡ rows) → without id (r ∷ rows) ≡ r ∷ rows
+    by true a later = let bad : true ≡ false = rw a at none in cc
+    by false a later = rw (a, later (rw a at none)) refl
 
-pub holds_file : (how : Reading) (named : Check) (rows : List Row) (f : Word) → Holds named rows → Holds (with_file named f) (with_word how f rows)
-holds_file how named rows f h =
-    let used = file_used how f rows in
-    record { externs = used.0 ∙ h.externs; has = used.1 ∙ h.has; files = used.2 ∙ ap (λ fs. fs ++ f ∷ []) h.files }
+same_self : (a : Text) → bytes_eq a a ≡ true
+same_self a = (bytes_eq-Decides a a).1 refl
 
-pub holds_externs : (how : Reading) (named : Check) (rows : List Row) (v : Word) → Holds named rows → is_some named.externs ≡ false
-    → Holds (with_externs named v) (with_name how v (without externs_id rows))
-holds_externs how named rows v h none =
-    let empty : has_row externs_id rows ≡ false = h.has ∙ none in
-    let used = name_used how v rows empty in
-    rw (without_none rows empty) (record { externs = used.0; has = used.1; files = used.2 ∙ h.files })
+own_first : (id : Text) (value : Word) (rows : List Row) → has_row id rows ≡ false → first_of id (with_use id value rows) ≡ Some value
+own_first id value [] none = rw (same_self id) refl
+own_first id value (r ∷ rows) none = by (bytes_eq r.id id) refl (own_first id value rows)
+  where
+    by : (a : Bool) → bytes_eq r.id id ≡ a → (has_row id rows ≡ false → first_of id (with_use id value rows) ≡ Some value) → first_of id (with_use id value (r ∷ rows)) ≡ Some value
+    by true a later = let bad : true ≡ false = rw a at none in cc
+    by false a later = rw (a, a) (later (rw a at none))
+
+own_has : (id : Text) (value : Word) (rows : List Row) → has_row id (with_use id value rows) ≡ true
+own_has id value [] = rw (same_self id) refl
+own_has id value (r ∷ rows) = by (bytes_eq r.id id) refl (own_has id value rows)
+  where
+    by : (a : Bool) → bytes_eq r.id id ≡ a → has_row id (with_use id value rows) ≡ true → has_row id (with_use id value (r ∷ rows)) ≡ true
+    by true a later = rw (a, a) refl
+    by false a later = rw (a, a) later
+
+module _ (named : Named) (rows : List Row) (option value : Word) (h : Holds named rows) (apart : bytes_eq option file_id ≡ false)
+    (new : is_some (file_of option named) ≡ false) where
+  empty : has_row option rows ≡ false
+  empty = h.has option apart ∙ new
+
+  given_first : (name : Text) → bytes_eq name file_id ≡ false → first_of name (with_use option value rows) ≡ file_of name (with_given named option value)
+  given_first name is_option = by (bytes_eq option name) refl
+    where
+      by : (t : Bool) → bytes_eq option name ≡ t → first_of name (with_use option value rows) ≡ file_of name (with_given named option value)
+      by true t =
+          let same : option ≡ name = (bytes_eq-Decides option name).0 t in
+          rw t (subst (λ n. first_of n (with_use option value rows) ≡ Some value) same (own_first option value rows empty))
+      by false t = rw t (other_first option name value (differs option name t) rows ∙ h.first name is_option)
+
+  given_has : (name : Text) → bytes_eq name file_id ≡ false → has_row name (with_use option value rows) ≡ is_some (file_of name (with_given named option value))
+  given_has name is_option = by (bytes_eq option name) refl
+    where
+      by : (t : Bool) → bytes_eq option name ≡ t → has_row name (with_use option value rows) ≡ is_some (file_of name (with_given named option value))
+      by true t =
+          let same : option ≡ name = (bytes_eq-Decides option name).0 t in
+          rw t (subst (λ n. has_row n (with_use option value rows) ≡ true) same (own_has option value rows))
+      by false t = rw t (other_has option name value (differs option name t) rows ∙ h.has name is_option)
+
+  pub holds_given : Holds (with_given named option value) (with_use option value (without option rows))
+  holds_given = subst (λ more. Holds (with_given named option value) (with_use option value more)) (sym (without_none option rows empty)) (record {
+    first = given_first;
+    has = given_has;
+    files = files_stay option value apart rows ∙ h.files;
+  })

@@ -1,8 +1,9 @@
 //! The words of a command line, read by `clap`.
 #![tactic(auto)]
 
-mod check;
+mod reading;
+mod task;
 mod words;
 
-pub use check::{Check, WordsFault};
+pub use task::{Command, Task, WordsFault};
 pub use words::command;

@@ -10,6 +10,7 @@ use Rattle.lk_sources.specs.declared.checking.AcceptedSource.{AcceptedSource}
 use Rattle.lk_typed.specs.declared.whole.Linked.{Linked}
 use Rattle.lk_typed.specs.declared.whole.Whole.{Whole}
 use Rattle.lk_top.specs.Answer.{JudgesWhole}
+use Rattle.lk_top.specs.Errands.{seen_errand}
 use Rattle.lk_top.proofs.AnswerLemmas.{of_fault, of_whole}
 use Rattle.lk_top.proofs.MainSpot.{main_stands}
 use Rattle.lk_top.proofs.analysis.analyse.Goals as goal
@@ -49,7 +50,8 @@ returns-in_ok-answer-in-Ok c =
     let made = c.in-Ok.ensures.ok in
     let whole = c.in-Ok.program.whole in
     let answer = c.in_ok-answer-in-Ok.answer in
-    of_whole c.args.accepted whole made.is answer (subst (λ files. JudgesWhole files whole answer) made.files c.in_ok-answer-in-Ok.ensures)
+    let errand = seen_errand c.args.errand.now in
+    of_whole c.args.accepted errand whole made.is answer (subst (λ files. JudgesWhole errand files whole answer) made.files c.in_ok-answer-in-Ok.ensures)
 
 pub returns-in_ok-answer-in-Err : goal.returns-in_ok-answer-in-Err
-returns-in_ok-answer-in-Err c = of_fault c.args.accepted c.in-Err.fault c.in-Err.ensures.err c.in_ok-answer-in-Err.answer c.in_ok-answer-in-Err.ensures
+returns-in_ok-answer-in-Err c = of_fault c.args.accepted (seen_errand c.args.errand.now) c.in-Err.fault c.in-Err.ensures.err c.in_ok-answer-in-Err.answer c.in_ok-answer-in-Err.ensures

@@ -1,9 +1,13 @@
 use Rattle.std.proofs.Common.{map, refl, rules}
 use Rattle.std.specs.Prelude.{string_bytes}
 use Rattle.lk_sources.specs.Shelves.{shelved}
+use Rattle.lk_words.specs.Seen.{seen}
 use Rattle.lk_top.specs.Run.{sunk, usage, no_memory}
 use Rattle.lk_top.proofs.RunLemmas.{told_fails, reports, report_fails, report_always, report_always_answers, report_never_refuses, refuses, refusal_fails, refusal_always_reports, misses, unread_fails}
 use Rattle.lk_top.proofs.top.run.Goals as goal
+
+pub examine-requires : goal.examine-requires
+examine-requires g c = c.commands_are_in_bounds.ensures (map string_bytes c.args.words.now) (seen c.in-Ok.asked) c.in-Ok.ensures.ok
 
 pub returns-in-Err-Usage-clause-fails : goal.returns-in-Err-Usage-clause-fails
 returns-in-Err-Usage-clause-fails g c =
@@ -32,6 +36,7 @@ returns-in-Ok-Report-clause-always_refuses g c =
       reading = c.one_reading.ensures.reading;
       never_long = c.one_reading.ensures.never;
       never_refused = c.one_result.ensures.never;
+      schedules = c.schedules_are_one.ensures;
     })
 
 pub returns-in-Ok-Report-clause-always_answers : goal.returns-in-Ok-Report-clause-always_answers

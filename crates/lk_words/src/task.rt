@@ -1,16 +1,45 @@
 //! What a command names.
 ghost use Rattle.std.specs.Prelude.{◌≡◌};
+ghost use Rattle.std.specs.Option.{option_map};
 ghost use Rattle.clap.specs.Words.{kind_of};
 ghost use Rattle.clap.specs.declared.error.kind.ErrorKind.TheVariants.{OutOfMemory};
-ghost use Rattle.lk_words.specs.declared.check.WordsFault.TheVariants.{Usage};
+ghost use Rattle.lk_words.specs.Seen.{seen_task};
+ghost use Rattle.lk_words.specs.Words.{beside};
+ghost use Rattle.lk_words.specs.declared.task.WordsFault.TheVariants.{Usage};
 
 use clap::Error;
 use clap::error::ErrorKind;
 use std::alloc::{AllocError, AllocFailed};
 
-/// What a `check` names, as the words have it.
+/// What is done with sources.
+#[derive(Clone, Copy)]
+pub enum Task<'a> {
+    /// They are checked for races.
+    Check,
+    /// A run of them is played.
+    Play {
+        /// The file of its schedule.
+        schedule: &'a str,
+    },
+}
+
+impl<'a> Task<'a> {
+    /// The file that the task reads beside the sources, where there is one.
+    pub fn beside(&self) -> Option<&'a str>
+        ensures { option_map (λ name. name.now) result ≡ beside (seen_task self.now) }
+    {
+        match self {
+            Task::Check => None,
+            Task::Play { schedule } => Some(schedule),
+        }
+    }
+}
+
+/// What a command names, as the words have it.
 #[derive(Drop)]
-pub struct Check<'a> {
+pub struct Command<'a> {
+    /// What is done with the sources.
+    pub task: Task<'a>,
     /// The file of `--externs`, where there is one.
     pub externs: Option<&'a str>,
     /// The sources, in their order.
@@ -28,7 +57,7 @@ pub enum WordsFault {
 
 impl From<AllocError> for WordsFault {
     ghost use Rattle.std.specs.Prelude.{◌≡◌};
-    ghost use Rattle.lk_words.specs.declared.check.WordsFault.TheVariants.{NoMemory};
+    ghost use Rattle.lk_words.specs.declared.task.WordsFault.TheVariants.{NoMemory};
 
     ghost from_gives = { λ _ fault. fault ≡ NoMemory };
 
@@ -39,7 +68,7 @@ impl From<AllocError> for WordsFault {
 
 impl<T: Drop> From<AllocFailed<T>> for WordsFault {
     ghost use Rattle.std.specs.Prelude.{◌≡◌};
-    ghost use Rattle.lk_words.specs.declared.check.WordsFault.TheVariants.{NoMemory};
+    ghost use Rattle.lk_words.specs.declared.task.WordsFault.TheVariants.{NoMemory};
 
     ghost from_gives = { λ _ fault. fault ≡ NoMemory };
 

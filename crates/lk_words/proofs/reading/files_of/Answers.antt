@@ -4,7 +4,7 @@ use Rattle.std.specs.Option.{unwrap_or}
 use Rattle.clap.proofs.WalkLemmas.{raw_values-rows}
 use Rattle.clap.specs.Matches.{found_of}
 use Rattle.lk_words.proofs.Matches.{part_of}
-use Rattle.lk_words.proofs.words.files_of.Goals as goal
+use Rattle.lk_words.proofs.reading.files_of.Goals as goal
 
 pub returns-in-Some : goal.returns-in-Some
 returns-in-Some c =

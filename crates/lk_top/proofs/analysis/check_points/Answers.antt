@@ -3,7 +3,7 @@ use Rattle.lk_report.specs.Report.{IsVerdictThere}
 use Rattle.lk_top.specs.Answer.{ShowsVerdicts, shows, too_many}
 use Rattle.lk_top.proofs.SafeReports.{finds_each_race, no_other_races}
 use Rattle.lk_top.proofs.VerdictsThere.{verdicts_there}
-use Rattle.lk_top.proofs.analysis.judge_points.Goals as goal
+use Rattle.lk_top.proofs.analysis.check_points.Goals as goal
 
 pub told-requires-clause-there : goal.told-requires-clause-there
 told-requires-clause-there c =

@@ -1,6 +1,0 @@
-use Rattle.std.proofs.Common.{refl}
-use Rattle.lk_sources.proofs.Both.{no_files}
-use Rattle.lk_sources.proofs.reading.read_externs.Goals as goal
-
-pub returns-in-None-clause-ok : goal.returns-in-None-clause-ok
-returns-in-None-clause-ok g c = rw (c.in-None.is, c.no_sources.ensures) (no_files 65536 _ refl)
