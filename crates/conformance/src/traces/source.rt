@@ -2,14 +2,15 @@
 ghost use Rattle.std.specs.Prelude.{IfOk, IfSome, length};
 ghost use Rattle.lk_lower_unit.specs.Wholes.{IsOfSources};
 ghost use Rattle.lk_sources.specs.Accepting.{AreChecked};
-ghost use Rattle.lk_sources.specs.Readable.{AreFew, IsReadable};
+ghost use Rattle.lk_sources.specs.Readable.{AreFew, AreNamed, AreShort, IsReadable};
+ghost use Rattle.lk_sources.specs.Reading.{longest_sources};
 
-use lk_base::NoMemory;
+use lk_base::{Files as Names, Name, NoMemory};
 use lk_facts::Points;
 use lk_io::FileShelf;
 use lk_lower_unit::lower;
 use lk_program::{Program, program_of};
-use lk_sources::{Accepted, Texts, accept, commands_are_in_bounds, read};
+use lk_sources::{Accepted, Source, Texts, accept, commands_are_in_bounds, listed_names, read};
 use lk_typed::Whole;
 use lk_words::command;
 use std::alloc::Global;
@@ -35,14 +36,38 @@ fn whole_of(alloc: Global, accepted: Accepted) -> Option<Whole>
     }
 }
 
+/// The program of sources beside which these names are listed, or none.
+fn program_with(
+    alloc: Global,
+    externs: Vec<Name>,
+    sources: &[Source],
+    files: Names,
+) -> Option<Whole>
+    requires short { AreShort longest_sources sources.now }
+    requires named { AreNamed files sources.now }
+    requires few { AreFew (length sources.now) }
+    ensures { IfSome result IsOfSources }
+{
+    match accept(alloc, externs, sources, files) {
+        Ok(accepted) => whole_of(alloc, accepted),
+        Err(_) => None,
+    }
+}
+
 /// The program that a text makes, or none.
 fn program_in(alloc: Global, text: Texts) -> Option<Whole>
     requires readable { IsReadable text }
     requires few { AreFew (length text.sources) }
     ensures { IfSome result IsOfSources }
 {
-    match accept(alloc, text) {
-        Ok(accepted) => whole_of(alloc, accepted),
+    let Texts {
+        mut files,
+        externs,
+        beside: _beside,
+        sources,
+    } = text;
+    match listed_names(alloc, &mut files, externs.list()) {
+        Ok(names) => program_with(alloc, names, sources.list(), files),
         Err(_) => None,
     }
 }
