@@ -1,0 +1,16 @@
+pub mod AcquiringLemmas
+pub mod DoingLemmas
+pub mod DroppingLemmas
+pub mod FindingLemmas
+pub mod GivingLemmas
+pub mod GrowingLemmas
+pub mod LosingLemmas
+pub mod OrderLemmas
+pub mod PairingLemmas
+pub mod RankingLemmas
+pub mod SameLemmas
+pub mod TableLemmas
+pub mod TextLemmas
+pub mod UpLemmas
+pub mod WantingLemmas
+pub mod WorkLemmas

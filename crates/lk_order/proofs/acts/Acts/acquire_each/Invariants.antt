@@ -1,0 +1,16 @@
+use Rattle.std.proofs.Common.{◌≡◌, ℕ, length, take, true}
+use Rattle.lk_held.specs.Progress.{Progress}
+use Rattle.lk_held.specs.Releasing.{room}
+use Rattle.lk_order.specs.Acquired.{Acq}
+use Rattle.lk_order.specs.Acts.{basis_in, linear_in}
+use Rattle.lk_order.specs.Growing.{Gains}
+use Rattle.lk_order.specs.Acquiring.{HasAcquired}
+use Rattle.lk_sets.specs.Ids.{has_id}
+use Rattle.lk_order.proofs.acts.Acts.acquire_each.Given as goal
+
+abbrev pub invariant-loop-point : goal.invariant-loop-point
+invariant-loop-point l =
+    let basis = basis_in l.self in
+    Progress (room (length basis.labels.entries)) (Gains (length basis.program.points) (length basis.labels.entries) (Acq basis (linear_in l.self)))
+    (λ sets. (p : ℕ) → has_id (take l.point-index l.order) p ≡ true → HasAcquired basis (linear_in l.self) p sets)
+    l.initial.acquired.items l.acquired.items l.changed
