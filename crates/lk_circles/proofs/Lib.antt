@@ -1,0 +1,12 @@
+pub mod Begun
+pub mod Circles
+pub mod Owners
+pub mod Pairs
+pub mod Places
+pub mod Points
+pub mod Roots
+pub mod Sames
+pub mod Spared
+pub mod Standing
+pub mod Stepping
+pub mod Taken
