@@ -17,7 +17,7 @@ use lk_graph::{after, linear, many};
 use lk_held::held;
 use lk_items::items;
 use lk_verdicts::verdicts;
-pub use points::verdicts_of;
+pub use points::{flow, verdicts_of};
 use std::alloc::Global;
 
 /// The verdict of each location of a program, in their order. Each location and lock place is a node of the

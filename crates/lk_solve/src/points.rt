@@ -18,7 +18,7 @@ use lk_origin::origins;
 use std::alloc::Global;
 
 /// Which objects may flow to which labels of a program.
-fn flow(alloc: Global, points: &Points, labels: &Labels) -> Result<Origins, NoMemory>
+pub fn flow(alloc: Global, points: &Points, labels: &Labels) -> Result<Origins, NoMemory>
     requires { AreLabels points.now labels.now }
     ensures { IfOk result (HasFlow points.now labels.now) }
 {

@@ -4,7 +4,7 @@ use Rattle.std.specs.Prelude.{option_and_then, codes}
 use Rattle.std.specs.Str.{bytes_eq}
 use Rattle.std.proofs.lemmas.Option.{same_Some}
 use Rattle.lk_io.specs.Shelf.{Held, IsLonger}
-use Rattle.lk_words.specs.Words.{Check, Command, Named, Play, Task, Word, externs_option, file_of, in_bounds, is_in_bounds, named_of, beside, plain, with_option, with_task}
+use Rattle.lk_words.specs.Words.{Check, Command, Named, Order, Play, Task, Word, externs_option, file_of, in_bounds, is_in_bounds, named_of, beside, plain, with_option, with_task}
 use Rattle.lk_sources.specs.Laws.{CommandsAreInBounds, HasOneReading, NeverTooLong}
 use Rattle.lk_sources.specs.Reading.{names_of, longest_beside, longest_externs, longest_sources, AreRead, nothing, next, Passes, here, behind, long_externs, long_beside, long_sources, source}
 use Rattle.lk_sources.specs.declared.reading.Source.{Source}
@@ -39,12 +39,14 @@ with_option_is option task words result is = by (named_of (option ∷ externs_op
 
 pub commands_are_in_bounds : CommandsAreInBounds
 commands_are_in_bounds [] named is = absurd cc
-commands_are_in_bounds (first ∷ words) named is = by (bytes_eq first (codes "check")) (bytes_eq first (codes "play")) is
+commands_are_in_bounds (first ∷ words) named is = by (bytes_eq first (codes "check")) (bytes_eq first (codes "order")) (bytes_eq first (codes "play")) is
   where
-    by : (check play : Bool) → (if check then plain Check words else if play then with_option (codes "schedule") Play words else None) ≡ Some named → is_in_bounds named ≡ true
-    by true play same = plain_is Check words named same
-    by false true same = with_option_is (codes "schedule") Play words named same
-    by false false same = absurd cc
+    by : (check order play : Bool) → (if check then plain Check words else if order then plain Order words else if play then with_option (codes "schedule") Play words else None) ≡ Some named →
+        is_in_bounds named ≡ true
+    by true order play same = plain_is Check words named same
+    by false true play same = plain_is Order words named same
+    by false false true same = with_option_is (codes "schedule") Play words named same
+    by false false false same = absurd cc
 
 -- ---- files
 

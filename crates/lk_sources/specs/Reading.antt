@@ -2,7 +2,7 @@
 -- then each FILE in the order of the words. A FILE that is named twice is read twice, and counts twice.
 use Rattle.std.specs.Prelude.{ℕ, ◌≡◌, ◌-◌, ◌≤◌, ◌⊎◌, List, [], ◌∷◌, ◌++◌, length, Option, Some, None}
 use Rattle.lk_io.specs.Shelf.{Held, IsLonger}
-use Rattle.lk_words.specs.Words.{Check, Command, Play, Task, beside}
+use Rattle.lk_words.specs.Words.{Check, Command, Order, Play, Task, beside}
 use Rattle.lk_sources.specs.declared.reading.Source.{Source}
 
 -- the most bytes of the file of --externs, and those of all sources together
@@ -15,6 +15,7 @@ longest_sources = 1048576
 -- the most bytes of the file that a task reads beside them
 abbrev pub longest_beside : Task → ℕ
 longest_beside Check = 0
+longest_beside Order = 0
 longest_beside (Play schedule) = 65536
 
 -- a file, where the command names it

@@ -148,7 +148,7 @@ fn longest_beside(task: &Task<'_>) -> u64
     ensures { result ≡ spec.longest_beside (seen_task task.now) }
 {
     match task {
-        Task::Check => 0,
+        Task::Check | Task::Order => 0,
         Task::Play { schedule: _ } => LONGEST_EXTERNS,
     }
 }

@@ -29,12 +29,14 @@ use Rattle.lk_sources.specs.declared.reading.Texts.{Texts}
 use Rattle.lk_typed.specs.Env.{Name}
 use Rattle.lk_typed.specs.declared.whole.Whole.{Whole}
 use Rattle.lk_words.specs.Words.{Command, Play, Task}
-use Rattle.lk_top.specs.Analysis.{ArePointsOf, FindsEachRace, IsAtMain, IsNoProgram, IsWhole, of_places, of_points, unlinked, too_many_points, too_many_labels}
+use Rattle.lk_top.specs.Analysis.{ArePointsOf, FindsEachRace, IsAtMain, IsNoProgram, IsToldOf, IsWhole, of_places, of_points, unlinked, too_many_points, too_many_labels}
 use Rattle.lk_top.specs.Answer as judged
-use Rattle.lk_top.specs.Answer.{IsAsked, JudgesWhole, Comes, JudgesFor, RefusesAsked, RefusesErrand, ShowsPlay, ShowsVerdicts, Tells, TellsAtMain, Analyses, ShowsFault, Judges, Answers, has_points, too_many_places}
+use Rattle.lk_top.specs.Answer.{IsAsked, JudgesWhole, Comes, JudgesFor, RefusesAsked, RefusesErrand, ShowsOrder, ShowsPlay, ShowsVerdicts, Tells, TellsAtMain, Analyses, ShowsFault, Judges, Answers, has_points, too_many_places}
 use Rattle.lk_top.specs.Errands.{TellsBadSchedule, seen_errand}
 use Rattle.lk_top.specs.Outcome as outcome
-use Rattle.lk_top.specs.Outcome.{Becomes, Checks, Errand, Follows, Outcome, Plays, Refused}
+use Rattle.lk_top.specs.Outcome.{Becomes, Checks, Errand, Follows, Orders, Outcome, Plays, Refused}
+use Rattle.lk_top.specs.Orders.{TellsOrder}
+use Rattle.lk_top.specs.Plays.{TellsLines}
 use Rattle.lk_top.specs.Results as results
 use Rattle.lk_top.specs.Results.{IsReport, IsRefusal, has_suspect, status_of, is_report}
 use Rattle.lk_top.specs.Texts.{refused_line}
@@ -83,25 +85,40 @@ module _ (sources : code.Accepted) where
   shown whole is points few are verdicts has few_labels found safe (Refusal line) shows = absurd shows
   shown whole is points few are verdicts has few_labels found safe (Unread line) shows = absurd shows
 
+  -- what is told of the points
+  told_of : (whole : Whole) → IsWhole sources whole → (points : Points) → (HasMorePoints whole 65536 → ⊥) → ArePointsOf whole points → (HasMoreLabels points 65536 → ⊥) → (Told : Points → Type 0) → Told points →
+      IsToldOf sources Told
+  told_of whole is points few are few_labels Told told_so = record {
+    whole = whole;
+    is_whole = is;
+    few_points = few;
+    points = points;
+    are_points = are;
+    few_labels = few_labels;
+    told = told_so;
+  }
+
+  ordered : (whole : Whole) → IsWhole sources whole → (points : Points) → (HasMorePoints whole 65536 → ⊥) → ArePointsOf whole points → (HasMoreLabels points 65536 → ⊥) → (answer : Answer) →
+      ShowsOrder sources.files points answer → Analyses Orders sources answer
+  ordered whole is points few are few_labels (Report text ends) tells = (
+    ap is_report tells.status ∙ by_suspect tells.order.cyclic,
+    told_of whole is points few are few_labels (λ program. TellsOrder sources.files program text.items ends) tells,
+  )
+  ordered whole is points few are few_labels (Refusal line) tells = absurd tells
+  ordered whole is points few are few_labels (Unread line) tells = absurd tells
+
   played : (whole : Whole) → IsWhole sources whole → (points : Points) → (HasMorePoints whole 65536 → ⊥) → ArePointsOf whole points → (turns : List Turn) →
       (HasMoreLabels points 65536 → ⊥) → (answer : Answer) → ShowsPlay sources.files points turns answer → Analyses (Plays turns) sources answer
   played whole is points few are turns few_labels (Report text ends) tells = (
     ap is_report tells.status ∙ by_suspect (has_race tells.lines),
-    record {
-      whole = whole;
-      is_whole = is;
-      few_points = few;
-      points = points;
-      are_points = are;
-      few_labels = few_labels;
-      told = tells;
-    },
+    told_of whole is points few are few_labels (λ program. TellsLines sources.files program turns text.items ends) tells,
   )
   played whole is points few are turns few_labels (Refusal line) tells = absurd tells
   played whole is points few are turns few_labels (Unread line) tells = absurd tells
 
   pub of_whole : (errand : Errand) (whole : Whole) → IsWhole sources whole → (answer : Answer) → JudgesWhole errand sources.files whole answer → Analyses errand sources answer
   of_whole _ whole is answer (has_points points few are (judged.shows verdicts has few_labels found safe shows)) = shown whole is points few are verdicts has few_labels found safe answer shows
+  of_whole _ whole is answer (has_points points few are (judged.orders few_labels tells)) = ordered whole is points few are few_labels answer tells
   of_whole _ whole is answer (has_points points few are (judged.plays {turns = turns} few_labels tells)) = played whole is points few are turns few_labels answer tells
   of_whole errand whole is answer (has_points points few are (judged.too_many more tells)) =
       told_at_main errand whole TooManyLabels answer tells (λ refusal at. too_many_labels whole is few (of_points points are more) at)

@@ -1,5 +1,6 @@
 pub mod AnswerLemmas
 pub mod MainSpot
+pub mod NoCircles
 pub mod OneOutcome
 pub mod RunLemmas
 pub mod SafeReports

@@ -13,8 +13,8 @@ use Rattle.lk_sources.specs.Numbers.{numbered}
 use Rattle.lk_sources.specs.declared.accepting.Accepted as code
 use Rattle.lk_sources.specs.declared.reading.Source.{Source}
 use Rattle.lk_typed.specs.Env.{Name}
-use Rattle.lk_words.specs.Words.{Check, Command, Play, Task}
-use Rattle.lk_top.specs.Outcome.{AsksNothing, Checks, Errand, HasBadSchedule, IsErrand, Outcome, Plays, Usage, Missing, Refused, Accepted, Becomes, bad_externs, no_errand, with_errand, refused, accepted, Follows, missing, too_long, read, ComesTo, no_command, follows}
+use Rattle.lk_words.specs.Words.{Check, Command, Order, Play, Task}
+use Rattle.lk_top.specs.Outcome.{AsksNothing, Errand, HasBadSchedule, IsErrand, Outcome, Usage, Missing, Refused, Accepted, Becomes, bad_externs, no_errand, with_errand, refused, accepted, Follows, missing, too_long, read, ComesTo, no_command, follows}
 
 -- the laws by which words come to one outcome
 pub record AreLaws : Type 0 where
@@ -59,9 +59,9 @@ module _ (laws : AreLaws) where
 
   never_unfit : (task : Task) (names : List (List ℕ)) (others : List Source) (errand : Errand) (file : List ℕ) (refusal : base.Refusal) → IsErrand task others errand → AsksNothing task names others file refusal → ⊥
   never_unfit Check names others errand file refusal is nothing = nothing
-  never_unfit (Play schedule) names others Checks file refusal is nothing = is
-  never_unfit (Play schedule) names [] (Plays turns) file refusal is nothing = is
-  never_unfit (Play schedule) names (first ∷ others) (Plays turns) file refusal is nothing = not_both first others turns is nothing
+  never_unfit Order names others errand file refusal is nothing = nothing
+  never_unfit (Play schedule) names [] errand file refusal is nothing = is
+  never_unfit (Play schedule) names (first ∷ others) errand file refusal (turns, is, same) nothing = not_both first others turns is nothing
 
   one_becoming : {task : Task} {names : List (List ℕ)} {externs others sources : List Source} {a b : Outcome} → Becomes task names externs others sources a → Becomes task names externs others sources b → IsAlike a b
   one_becoming (bad_externs file refusal why) (bad_externs other second why2) = tt

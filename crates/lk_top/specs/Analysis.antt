@@ -60,6 +60,16 @@ pub record IsAnalysed (sources : code.Accepted) (text : List ℕ) (verdicts : Li
   pub safe : HasNoOtherRaces points verdicts
   pub text_is : text ≡ report_text sources.files points verdicts
 
+-- what is told of the points of the program that they make, which has no more labels than are analysed
+pub record IsToldOf (sources : code.Accepted) (Told : Program → Type 0) : Type 0 where
+  pub whole : Whole
+  pub is_whole : IsWhole sources whole
+  pub few_points : HasMorePoints whole 65536 → ⊥
+  pub points : Program
+  pub are_points : ArePointsOf whole points
+  pub few_labels : HasMoreLabels points 65536 → ⊥
+  pub told : Told points
+
 -- a refusal with this code at the name of main in its definition, which tells no name
 pub record IsAtMain (whole : Whole) (code : Code) (refusal : Refusal) : Type 0 where
   pub is_code : refusal.code ≡ code

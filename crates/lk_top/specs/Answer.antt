@@ -2,6 +2,7 @@
 use Rattle.std.specs.Prelude.{ℕ, ◌≡◌, ◌<◌, ◌⊎◌, true, List, Some, length, slice_get, ⊤}
 use Rattle.std.specs.Option.{ForSome}
 use Rattle.lk_base.specs.declared.refusal.Refusal.{Refusal}
+use Rattle.lk_base.specs.declared.status.Status.{Status}
 use Rattle.lk_base.specs.declared.spot.Spot.{Spot}
 use Rattle.lk_facts.specs.declared.verdict.Verdict.{Verdict}
 use Rattle.lk_base.specs.declared.code.Code.{Code}
@@ -29,7 +30,8 @@ use Rattle.lk_sources.specs.declared.reading.Texts.{Texts}
 use Rattle.lk_words.specs.Words.{Command, Task}
 use Rattle.lk_top.specs.Analysis.{ArePointsOf, FindsEachRace, IsAtMain, IsNoProgramIn}
 use Rattle.lk_top.specs.Errands.{seen_errand}
-use Rattle.lk_top.specs.Outcome.{AsksNothing, Becomes, Checks, Errand, Follows, IsErrand, IsFor, Outcome, Plays}
+use Rattle.lk_top.specs.Outcome.{AsksNothing, Becomes, Checks, Errand, Follows, IsErrand, IsFor, Orders, Outcome, Plays}
+use Rattle.lk_top.specs.Orders.{TellsOrder}
 use Rattle.lk_top.specs.Plays.{TellsLines}
 use Rattle.lk_top.specs.Results.{IsAnswered, IsReport, IsRefusal, status_of, is_report}
 use Rattle.lk_top.specs.Texts.{refused_line, unread_line}
@@ -59,11 +61,19 @@ ShowsVerdicts files points verdicts (answer.Report text status) =
 ShowsVerdicts files points verdicts (answer.Refusal line) = ⊥
 ShowsVerdicts files points verdicts (answer.Unread line) = ⊥
 
+-- a text with a status of which this is said
+abbrev pub ShowsText : (List ℕ → Status → Type 0) → Answer → Type 0
+ShowsText Tells (answer.Report text status) = Tells text.items status
+ShowsText Tells (answer.Refusal line) = ⊥
+ShowsText Tells (answer.Unread line) = ⊥
+
+-- the text of the order of mutexes
+abbrev pub ShowsOrder : List (List ℕ) → Points → Answer → Type 0
+ShowsOrder files points shown = ShowsText (TellsOrder files points) shown
+
 -- the text of a play
 abbrev pub ShowsPlay : List (List ℕ) → Points → List Turn → Answer → Type 0
-ShowsPlay files points turns (answer.Report text status) = TellsLines files points turns text.items status
-ShowsPlay files points turns (answer.Refusal line) = ⊥
-ShowsPlay files points turns (answer.Unread line) = ⊥
+ShowsPlay files points turns shown = ShowsText (TellsLines files points turns) shown
 
 -- ---- accepted sources
 
@@ -71,13 +81,15 @@ ShowsPlay files points turns (answer.Unread line) = ⊥
 abbrev pub HasMainIn : List (List ℕ) → Whole → Type 0
 HasMainIn files whole = (spot : Spot) × (spot_of_main whole ≡ Some spot) × (spot.file < length files)
 
--- what points come to: they have their verdicts, or a play, or too many labels
+-- what points come to: they have their verdicts, or an order, or a play, or too many labels
 pub data JudgesPoints (files : List (List ℕ)) (whole : Whole) (points : Points)
     (shown : Answer) : Errand → Type 0 where
   shows : (verdicts : List Verdict) (has : HasVerdicts points verdicts) →
       (HasMoreLabels points 65536 → ⊥) → FindsEachRace points verdicts has →
       HasNoOtherRaces points verdicts → ShowsVerdicts files points verdicts shown →
       JudgesPoints files whole points shown Checks
+  orders : (HasMoreLabels points 65536 → ⊥) → ShowsOrder files points shown →
+      JudgesPoints files whole points shown Orders
   plays : {turns : List Turn} → (HasMoreLabels points 65536 → ⊥) → ShowsPlay files points turns shown →
       JudgesPoints files whole points shown (Plays turns)
   too_many : {errand : Errand} → HasMoreLabels points 65536 → TellsAtMain files whole TooManyLabels shown →

@@ -6,10 +6,11 @@ use Rattle.lk_sources.specs.declared.fault.SourcesFault.TheVariants as fault
 use Rattle.lk_sources.specs.declared.reading.Source.{Source}
 use Rattle.lk_top.specs.Outcome as spec
 use Rattle.lk_top.specs.declared.errand.Errand.{Errand}
-use Rattle.lk_top.specs.declared.errand.Errand.TheVariants.{Check, Play}
+use Rattle.lk_top.specs.declared.errand.Errand.TheVariants.{Check, Order, Play}
 
 abbrev pub seen_errand : Errand → spec.Errand
 seen_errand Check = spec.Checks
+seen_errand Order = spec.Orders
 seen_errand (Play turns) = spec.Plays turns.items
 
 -- the refusal of a schedule

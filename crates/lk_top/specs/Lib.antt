@@ -2,6 +2,7 @@ pub mod Analysis
 pub mod Answer
 pub mod Errands
 pub mod Outcome
+pub mod Orders
 pub mod Plays
 pub mod Run
 pub mod Texts

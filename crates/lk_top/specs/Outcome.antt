@@ -1,5 +1,4 @@
 -- What a command comes to: which of usage, a missing file, a refusal, or sources that are accepted for its task.
-use Rattle.std.specs.Bool.{⊤}
 use Rattle.std.specs.Prelude.{ℕ, ◌≡◌, List, [], ◌∷◌, Some, None}
 use Rattle.lk_base.specs.declared.code.Code.TheVariants.{BadSchedule, TooLong}
 use Rattle.lk_base.specs.declared.refusal.Refusal.{Refusal}
@@ -13,11 +12,13 @@ use Rattle.lk_sources.specs.Reading as reading
 use Rattle.lk_sources.specs.declared.accepting.Accepted as code
 use Rattle.lk_sources.specs.declared.reading.Source.{Source}
 use Rattle.lk_typed.specs.Env.{Name}
-use Rattle.lk_words.specs.Words.{Check, Command, Play, Task, command}
+use Rattle.lk_words.specs.Words.{Check, Command, Order, Play, Task, command}
 
--- what is done with accepted sources: they are checked, or a run of them is played by these turns
+-- what is done with accepted sources: they are checked, the order of their mutexes is told, or a run of them
+-- is played by these turns
 pub data Errand : Type 0 where
   Checks : Errand
+  Orders : Errand
   Plays : List Turn → Errand
 
 pub data Outcome : Type 0 where
@@ -27,16 +28,16 @@ pub data Outcome : Type 0 where
   -- of sources that are read, split, parsed and checked
   Accepted : Errand → code.Accepted → Outcome
 
--- the first of these files is the schedule of such a play
+-- a play by the turns of the schedule in the first of these files
 abbrev pub PlaysBy : List Source → Errand → Type 0
-PlaysBy others Checks = ⊥
-PlaysBy [] (Plays turns) = ⊥
-PlaysBy (schedule ∷ others) (Plays turns) = IsSchedule schedule.bytes turns
+PlaysBy [] errand = ⊥
+PlaysBy (schedule ∷ others) errand =
+    (turns : List Turn) × IsSchedule schedule.bytes turns × (errand ≡ Plays turns)
 
 -- what a task asks, by the file that it reads beside the sources
 abbrev pub IsErrand : Task → List Source → Errand → Type 0
-IsErrand Check others Checks = ⊤
-IsErrand Check others (Plays turns) = ⊥
+IsErrand Check others errand = errand ≡ Checks
+IsErrand Order others errand = errand ≡ Orders
 IsErrand (Play schedule) others errand = PlaysBy others errand
 
 -- the first of these files is no schedule: it has a line that is neither empty nor a turn, and is refused there
@@ -53,6 +54,7 @@ pub record HasBadSchedule (names : List (List ℕ)) (others : List Source) (file
 -- why that file asks nothing, where these are the names of files so far
 abbrev pub AsksNothing : Task → List (List ℕ) → List Source → List ℕ → Refusal → Type 0
 AsksNothing Check names others file refusal = ⊥
+AsksNothing Order names others file refusal = ⊥
 AsksNothing (Play schedule) names others file refusal = HasBadSchedule names others file refusal
 
 -- what sources come to for an errand, where --externs lists these names

@@ -5,11 +5,9 @@ use Rattle.std.specs.Prelude.{ℕ, ◌≡◌, Bool, List, Some, All, slice_get, 
 use Rattle.lk_base.specs.declared.status.Status.{Status}
 use Rattle.lk_base.specs.declared.status.Status.TheVariants as status
 use Rattle.lk_birth.specs.Begins.{StartsRight}
-use Rattle.lk_facts.specs.LabelRules.{HasMoreLabels}
 use Rattle.lk_facts.specs.declared.program.Program.{Program}
 use Rattle.lk_facts.specs.declared.verdict.Verdict.{Verdict}
 use Rattle.lk_facts.specs.declared.verdict.VerdictState.TheVariants.{Suspect}
-use Rattle.lk_lower_unit.specs.PointNumbers.{HasMorePoints}
 use Rattle.lk_play.specs.Lines.{has_race, lines_text}
 use Rattle.lk_play.specs.Plays.{IsPlay}
 use Rattle.lk_play.specs.declared.lines.Line.{Line}
@@ -17,8 +15,7 @@ use Rattle.lk_play.specs.declared.lines.Line.TheVariants.{Access, Race, End}
 use Rattle.lk_play.specs.declared.schedules.Turn.{Turn}
 use Rattle.lk_solve.specs.Verdicts.{HasVerdicts}
 use Rattle.lk_sources.specs.declared.accepting.Accepted as code
-use Rattle.lk_top.specs.Analysis.{ArePointsOf, IsWhole}
-use Rattle.lk_typed.specs.declared.whole.Whole.{Whole}
+use Rattle.lk_top.specs.Analysis.{IsToldOf}
 
 -- a race that is told is at a location that the verdict calls suspect
 abbrev pub IsOfSuspect : List Verdict → Line → Type 0
@@ -46,11 +43,6 @@ pub record TellsLines (files : List (List ℕ)) (points : Program) (turns : List
   pub suspects : AreOfSuspects points lines
 
 -- the text is a play of the points of the program by these turns
-pub record IsPlayed (turns : List Turn) (sources : code.Accepted) (text : List ℕ) (ends : Status) : Type 0 where
-  pub whole : Whole
-  pub is_whole : IsWhole sources whole
-  pub few_points : HasMorePoints whole 65536 → ⊥
-  pub points : Program
-  pub are_points : ArePointsOf whole points
-  pub few_labels : HasMoreLabels points 65536 → ⊥
-  pub told : TellsLines sources.files points turns text ends
+abbrev pub IsPlayed : List Turn → code.Accepted → List ℕ → Status → Type 0
+IsPlayed turns sources text ends =
+    IsToldOf sources (λ points. TellsLines sources.files points turns text ends)

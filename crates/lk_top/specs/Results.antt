@@ -9,7 +9,8 @@ use Rattle.lk_facts.specs.declared.verdict.VerdictState.{VerdictState}
 use Rattle.lk_facts.specs.declared.verdict.VerdictState.TheVariants.{Guarded, Unshared, Suspect}
 use Rattle.lk_sources.specs.declared.accepting.Accepted as code
 use Rattle.lk_top.specs.Analysis.{IsAnalysed, IsNoProgramIn}
-use Rattle.lk_top.specs.Outcome.{Accepted, Checks, Errand, Outcome, Plays, Refused}
+use Rattle.lk_top.specs.Outcome.{Accepted, Checks, Errand, Orders, Outcome, Plays, Refused}
+use Rattle.lk_top.specs.Orders.{IsOrdered}
 use Rattle.lk_top.specs.Plays.{IsPlayed}
 
 abbrev pub is_suspect : VerdictState → Bool
@@ -46,6 +47,7 @@ pub record IsChecked (sources : code.Accepted) (text : List ℕ) (ends : Status)
 -- the text of an errand, with its status
 abbrev pub IsAnswered : Errand → code.Accepted → List ℕ → Status → Type 0
 IsAnswered Checks sources text ends = IsChecked sources text ends
+IsAnswered Orders sources text ends = IsOrdered sources text ends
 IsAnswered (Plays turns) sources text ends = IsPlayed turns sources text ends
 
 -- the text of sources that are accepted

@@ -24,7 +24,8 @@ refused_line file r =
 abbrev pub usage_lines : List ℕ
 usage_lines =
     codes "usage: lsrace check [--externs FILE] FILE..."
-    ++ (10 ∷ [] ++ (codes "usage: lsrace play --schedule FILE [--externs FILE] FILE..." ++ 10 ∷ []))
+    ++ (10 ∷ [] ++ (codes "usage: lsrace order [--externs FILE] FILE..."
+    ++ (10 ∷ [] ++ (codes "usage: lsrace play --schedule FILE [--externs FILE] FILE..." ++ 10 ∷ []))))
 
 -- the line for a file that can't be read
 abbrev pub unread_line : List ℕ → List ℕ

@@ -16,6 +16,7 @@ ghost use Rattle.lk_types.specs.Building.{IsTable};
 
 use crate::answer::{Answer, refuse};
 use crate::errand::Errand;
+use crate::ordering::order_points;
 use crate::playing::play_points;
 use crate::status::status_of;
 use lk_base::{Code, Files, Name, NoMemory, Refusal};
@@ -120,6 +121,10 @@ fn judge_points(
     match errand {
         Errand::Check => {
             let answer = check_points(alloc, files, whole, points)?;
+            Ok(answer)
+        }
+        Errand::Order => {
+            let answer = order_points(alloc, files, whole, points)?;
             Ok(answer)
         }
         Errand::Play { turns } => {

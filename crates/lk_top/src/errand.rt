@@ -19,6 +19,8 @@ use std::alloc::Global;
 pub(crate) enum Errand {
     /// They are checked for races.
     Check,
+    /// The order of their mutexes is told.
+    Order,
     /// A run of them is played.
     Play {
         /// By these turns.
@@ -71,6 +73,7 @@ fn errand_of(
 {
     match task {
         Task::Check => Ok(Errand::Check),
+        Task::Order => Ok(Errand::Order),
         Task::Play { schedule: _ } => play_by(alloc, files, beside),
     }
 }

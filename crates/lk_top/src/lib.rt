@@ -4,6 +4,7 @@
 mod analysis;
 mod answer;
 mod errand;
+mod ordering;
 mod playing;
 mod status;
 mod texts;

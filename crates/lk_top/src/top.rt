@@ -16,7 +16,7 @@ use lk_words::{WordsFault, command};
 use std::alloc::Global;
 
 const USAGE_LINES: &[u8] =
-    b"usage: lsrace check [--externs FILE] FILE...\nusage: lsrace play --schedule FILE [--externs FILE] FILE...\n";
+    b"usage: lsrace check [--externs FILE] FILE...\nusage: lsrace order [--externs FILE] FILE...\nusage: lsrace play --schedule FILE [--externs FILE] FILE...\n";
 
 const UNWRITTEN_LINE: &[u8] = b"lsrace: cannot write\n";
 
@@ -44,8 +44,8 @@ fn publish<S: Sink, E: Sink>(out: &mut S, err: &mut E, text: &[u8], status: Stat
     }
 }
 
-/// Runs the command that the words spell: reads its files from the shelf, and writes the report of a check, or the
-/// text of a play, to `out` or a line to `err`.
+/// Runs the command that the words spell: reads its files from the shelf, and writes the report of a check, or
+/// the text of an order or a play, to `out` or a line to `err`.
 ///
 /// The status says which, and its clauses when each comes. What is said of the words' outcome is said
 /// where the shelf tells its files.
@@ -56,10 +56,12 @@ pub fn run<F: Shelf, S: Sink, E: Sink>(
     out: &mut S,
     err: &mut E,
 ) -> Status
-    // A text: the output has it whole. Of a check it is the report, and no run of the program that the sources make comes
-    // to a race at a location that this doesn't call suspect (`IsAnalysed`); of a play it is that of the turns, and each
-    // race that it tells is at a location that the verdicts call suspect (`IsPlayed`). It comes only if no count of faults
-    // rises. Sources of the subset are reported, but for want of memory.
+    // A text: the output has it whole. Of a check it is the report, and no run of the program that the sources
+    // make comes to a race at a location that this doesn't call suspect (`IsAnalysed`); of an order, where it
+    // has no cycle, no run comes to threads that wait in a circle, each for a mutex that the next one owns
+    // (`IsOrdered`); of a play it is that of the turns, and each race that it tells is at a location that the
+    // verdicts call suspect (`IsPlayed`). It comes only if no count of faults rises. Sources of the subset are
+    // reported, but for want of memory.
     ensures reports { IsTrue (is_report result) → ForSome (F.held shelf.old) (λ held.
         Reports (map string_bytes words.now) held (sunk S.gone S.faults out.old out.new) result) }
     ensures reports_quietly { IsTrue (is_report result) → (F.faults shelf.new ≡ F.faults shelf.old)

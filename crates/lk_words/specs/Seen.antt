@@ -12,6 +12,7 @@ use Rattle.lk_words.specs.declared.task.Task.TheVariants as code
 
 abbrev pub seen_task : Task → spelled.Task
 seen_task code.Check = spelled.Check
+seen_task code.Order = spelled.Order
 seen_task (code.Play schedule) = spelled.Play schedule.now
 
 abbrev pub seen : Command → spelled.Command

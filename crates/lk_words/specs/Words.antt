@@ -131,6 +131,8 @@ named_of options words = named_by options (stands nothing_named Any) words
 pub data Task : Type 0 where
   -- they are checked for races
   Check : Task
+  -- the order of their mutexes is told
+  Order : Task
   -- a run of them is played, by the schedule in this file
   Play : (schedule : Word) → Task
 
@@ -143,6 +145,7 @@ pub record Command : Type 0 where
 -- the file that a task reads beside them
 abbrev pub beside : Task → Option Word
 beside Check = None
+beside Order = None
 beside (Play schedule) = Some schedule
 
 -- a name has 1 to 255 bytes
@@ -186,10 +189,12 @@ with_option option task words =
 
 -- the command of these words, or none:
 --     check [--externs FILE] FILE...
+--     order [--externs FILE] FILE...
 --     play --schedule FILE [--externs FILE] FILE...
 abbrev pub command : List Word → Option Command
 command [] = None
 command (first ∷ words) =
     if bytes_eq first (codes "check") then plain Check words
+    else if bytes_eq first (codes "order") then plain Order words
     else if bytes_eq first (codes "play") then with_option (codes "schedule") Play words
     else None

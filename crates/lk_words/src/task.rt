@@ -16,6 +16,8 @@ use std::alloc::{AllocError, AllocFailed};
 pub enum Task<'a> {
     /// They are checked for races.
     Check,
+    /// The order of their mutexes is told.
+    Order,
     /// A run of them is played.
     Play {
         /// The file of its schedule.
@@ -29,7 +31,7 @@ impl<'a> Task<'a> {
         ensures { option_map (λ name. name.now) result ≡ beside (seen_task self.now) }
     {
         match self {
-            Task::Check => None,
+            Task::Check | Task::Order => None,
             Task::Play { schedule } => Some(schedule),
         }
     }

@@ -122,6 +122,9 @@ pub fn command<'a>(alloc: Global, words: &'a [String]) -> Result<Command<'a>, Wo
     if first.as_str() == "check" {
         return plain(alloc, rest, Task::Check);
     }
+    if first.as_str() == "order" {
+        return plain(alloc, rest, Task::Order);
+    }
     if first.as_str() == "play" {
         return play(alloc, rest);
     }
