@@ -76,6 +76,10 @@ SCHEMA = {
     "physicalLocation": ("artifactLocation", "region contextRegion address properties"),
     "region": ("startLine", "startColumn endLine endColumn charOffset charLength byteOffset byteLength snippet message sourceLanguage"),
     "logicalLocation": ("", "name fullyQualifiedName decoratedName kind parentIndex index properties"),
+    "codeFlow": ("threadFlows", "message properties"),
+    "threadFlow": ("locations", "id message initialState immutableState properties"),
+    "threadFlowLocation": ("", "index location stack kinds taxa module state nestingLevel executionOrder executionTimeUtc importance "
+                           "webRequest webResponse properties"),
 }
 INSIDE = {  # the object that stands in a field, or in each element of its list
     ("sarifLog", "runs"): "run", ("run", "tool"): "tool", ("tool", "driver"): "toolComponent",
@@ -84,12 +88,16 @@ INSIDE = {  # the object that stands in a field, or in each element of its list
     ("reportingDescriptor", "defaultConfiguration"): "reportingConfiguration", ("run", "invocations"): "invocation",
     ("run", "artifacts"): "artifact", ("artifact", "location"): "artifactLocation", ("run", "results"): "result",
     ("result", "message"): "message", ("result", "locations"): "location", ("result", "relatedLocations"): "location",
+    ("result", "codeFlows"): "codeFlow", ("codeFlow", "threadFlows"): "threadFlow", ("codeFlow", "message"): "message",
+    ("threadFlow", "locations"): "threadFlowLocation", ("threadFlowLocation", "location"): "location",
     ("location", "physicalLocation"): "physicalLocation", ("location", "logicalLocations"): "logicalLocation",
     ("location", "message"): "message", ("physicalLocation", "artifactLocation"): "artifactLocation", ("physicalLocation", "region"): "region",
 }
-LISTS = {"runs", "rules", "invocations", "artifacts", "results", "locations", "relatedLocations", "logicalLocations", "roles"}
-VALUES = {"version": {"2.1.0"}, "level": {"none", "note", "warning", "error"}, "columnKind": {"utf16CodeUnits", "unicodeCodePoints"}}
-LEAST = {"startLine": 1, "startColumn": 1, "endColumn": 1, "ruleIndex": -1, "index": -1, "id": -1}
+LISTS = {"runs", "rules", "invocations", "artifacts", "results", "locations", "relatedLocations", "logicalLocations", "roles",
+         "codeFlows", "threadFlows"}
+VALUES = {"version": {"2.1.0"}, "level": {"none", "note", "warning", "error"}, "columnKind": {"utf16CodeUnits", "unicodeCodePoints"},
+          "importance": {"important", "essential", "unimportant"}}
+LEAST = {"executionOrder": -1, "startLine": 1, "startColumn": 1, "endColumn": 1, "ruleIndex": -1, "index": -1, "id": -1}
 
 
 def faults_of(kind, value, at="log"):
@@ -199,6 +207,27 @@ class Pages(unittest.TestCase):
         self.assertEqual((started["level"], started["ruleId"]), ("warning", run["tool"]["driver"]["rules"][started["ruleIndex"]]["id"]))
         self.assertIn("[read at counter.c:26](2) in main holding nothing", first["message"]["text"])
         self.assertEqual(run["artifacts"][0]["location"]["uri"], "counter.c")
+
+    def test_plays(self):
+        """A play has a row an access in the column of its thread, and last a row of those that meet; in a log it is a code flow."""
+        report, sources = self.read("counter")
+        os.mkdir(os.path.join(self.room.name, "plays"))
+        self.put("plays/2.name", "lsrace-schedules/started.txt\n")
+        self.put("plays/2.play", "0 writes main.a counter.c:22:20\n0 writes main.b counter.c:23:20\nrace started\nend schedule\n")
+        self.put("plays/2.meets", "1 write counter.c:11:5\n2 write counter.c:11:5\n")
+        text, page, log = self.made(report, sources, "--plays", "plays")
+        self.assertIn("lsrace-schedules/started.txt", page.text_of["play-2"])
+        rows = [re.findall(r"<td.*?</td>", row, re.S) for row in re.findall(r"<tr.*?</tr>", text.split('id="play-2"')[1], re.S)[1:4]]
+        plain = [[re.sub(r"<[^>]*>", "", cell) for cell in row] for row in rows]
+        self.assertEqual([[cell.split(" ")[0] for cell in row] for row in plain], [["writes", "", ""], ["writes", "", ""], ["", "is", "is"]])
+        self.assertIn("started = 1;", plain[2][1])
+        first, second = log["runs"][0]["results"]
+        self.assertEqual((first["level"], "codeFlows" in first, second["level"]), ("warning", False, "error"))
+        flows = second["codeFlows"][0]["threadFlows"]
+        self.assertEqual([(flow["id"], [step["executionOrder"] for step in flow["locations"]]) for flow in flows],
+                         [("thread 0", [1, 2]), ("thread 1", [3]), ("thread 2", [3])])
+        self.assertEqual([step["importance"] for flow in flows for step in flow["locations"]], ["important"] * 2 + ["essential"] * 2)
+        self.assertTrue(second["message"]["text"].startswith("started has a data race"))
 
     def test_escapes(self):
         """Names and texts of a program are text in the page, whatever is in them."""

@@ -1,7 +1,7 @@
 #!/usr/bin/env python3
 """Tests lsrace-cc: the programs of examples/people against their reports, and its options.
 
-usage: bench/people.py [--write] [--cases] [--lsrace FILE] [NAME ..]
+usage: bench/people.py [--write] [--cases] [--lsrace FILE] [--witness FILE] [NAME ..]
 
 Each examples/people/NAME.c is a program, and each folder examples/people/NAME has the .c files of one. NAME.report beside it is what
 lsrace-cc prints at the top of the repository, on standard output and then on standard error, with INCLUDE in the place of the
@@ -42,8 +42,9 @@ int main(void) { pthread_t thread; pthread_create(&thread, NULL, work, NULL); co
 
 
 class Tests:
-    def __init__(self, lsrace):
-        self.environment = {**os.environ, **({"LSRACE": lsrace} if lsrace else {})}
+    def __init__(self, lsrace, witness):
+        programs = {"LSRACE": lsrace, "LSRACE_WITNESS": witness}
+        self.environment = {**os.environ, **{name: program for name, program in programs.items() if program}}
         self.failures = 0
 
     def run(self, *words, folder=TOP, cc=CC, **environment):
@@ -181,6 +182,28 @@ def pages(tests, folder):
     put(folder, "no.c", "float x;\n")
     status, report, errors = tests.run("--html", "other.html", "no.c", folder=folder)
     tests.expect("no page of a refusal", status == 2 and not report and not os.path.exists(f"{folder}/other.html"), report + errors)
+
+
+def confirm(tests, folder):
+    put(folder, "racy.c", RACY)
+    status, report, errors = tests.run("--confirm", "racy.c", folder=folder)
+    told = "count confirmed, schedule in lsrace-schedules/count.txt\n"
+    tests.expect("--confirm", status == 1 and report.partition("suspect 2\n")[2].startswith(told) and not errors, report + errors)
+    schedule = read(f"{folder}/lsrace-schedules/count.txt")
+    tests.expect("a schedule", all(len(line.split()) in (2, 3) for line in schedule.splitlines()) and schedule, schedule)
+    status, report, errors = tests.run("--confirm=runs", "--gcc", "racy.c", folder=folder)
+    tests.expect("--confirm with --gcc", status == 1 and "racy.c:10:32: error: read of count races, holding nothing\n" in report, report)
+    tests.expect("a folder of one's own", read(f"{folder}/runs/count.txt") == schedule)
+    status, report, errors = tests.run("--confirm", "--html=p.html", "--sarif=p.sarif", "racy.c", folder=folder)
+    log = json.loads(read(f"{folder}/p.sarif"))["runs"][0]["results"]
+    tests.expect("a log with plays", log[0]["level"] == "error" and len(log[0]["codeFlows"][0]["threadFlows"]) == 2, report + errors)
+    tests.expect("a page with plays", 'id="play-1"' in read(f"{folder}/p.html"))
+    for words in (("--confirm=",), ("--confirm", "--confirm"), ("--plain", "--confirm")):
+        status, report, errors = tests.run(*words, "racy.c", folder=folder)
+        tests.expect(f"usage: {' '.join(words)}", status == 3 and not report and "usage:" in errors, errors)
+    put(folder, "file", "")
+    status, report, errors = tests.run("--confirm=file", "racy.c", folder=folder)
+    tests.expect("a folder that can't be made", status == 5 and "lsrace-cc: cannot write file\n" in errors, errors)
 
 
 def refusals(tests, folder):
@@ -334,16 +357,17 @@ def main():
     parser.add_argument("--write", action="store_true", help="write the reports anew")
     parser.add_argument("--cases", action="store_true", help="write the data of conformance anew")
     parser.add_argument("--lsrace", help="the program lsrace, else that of crates/lsrace/out")
+    parser.add_argument("--witness", help="the program lsrace-witness, else that of crates/lsrace_witness/out")
     parser.add_argument("names", nargs="*", metavar="NAME")
     given = parser.parse_args()
-    tests = Tests(given.lsrace and os.path.abspath(given.lsrace))
+    tests = Tests(given.lsrace and os.path.abspath(given.lsrace), given.witness and os.path.abspath(given.witness))
     if given.cases:
         with tempfile.TemporaryDirectory(prefix="lsrace-people-") as folder:
             cases(tests, folder)
         return 0
     programs(tests, given.names, given.write)
     if not given.names:
-        for test in (plain, words_of_lsrace_cc, pages, refusals, bytes_of_objects, sources, externs, project, installed):
+        for test in (plain, words_of_lsrace_cc, pages, confirm, refusals, bytes_of_objects, sources, externs, project, installed):
             with tempfile.TemporaryDirectory(prefix="lsrace-people-") as folder:
                 test(tests, os.path.realpath(folder))
     print(f"{tests.failures} differ" if tests.failures else "all as it should be")
