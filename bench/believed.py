@@ -31,14 +31,18 @@ MARK = r"(?:(?:pub|abbrev|unfoldable|record|data) )"
 START = re.compile(rf"^( *)({MARK}*)([^\s(){{}}:,;.]+)((?: [({{].*?)?) :(?: |$)")
 HOLDER = re.compile(rf"^( *)({MARK}*(?:record|data) )({MARK}*)([^\s(){{}}:,;.]+)")
 NEST = re.compile(r"^( *)(module _ .*|(?:(?:abbrev|unfoldable) )*mutual)$")
-# Fields, and constructors of other outcomes, that a reader may leave out of `reports` and still has the promise that no run
-# of the program that the sources make comes to a race at a location which the report doesn't call suspect.
+# Fields, constructors of other outcomes, and what is told of other commands, that a reader may leave out of `reports` and
+# still has the promise that no run of the program that the sources make comes to a race at a location which the report of
+# `check` doesn't call suspect.
 STRENGTHENS = {
     "lk_top Analysis IsAnalysed": {"few_points", "few_labels", "verdicts_are", "races_found"},
     "lk_top Analysis ArePointsOf": {"lowered", "in_range", "table"},
     "lk_top Outcome ComesTo": {"no_command"},
     "lk_top Outcome Follows": {"missing", "too_long"},
-    "lk_top Outcome Becomes": {"refused"},
+    "lk_top Outcome Becomes": {"bad_externs", "no_errand"},
+    "lk_top Outcome IsFor": {"refused"},
+    "lk_top Outcome IsErrand": {"PlaysBy"},
+    "lk_top Results IsAnswered": {"IsOrdered", "IsPlayed"},
     "lk_sources Accepting AreAccepted": {"supported", "faultless"},
 }
 SOUND = ("reports",)
@@ -58,7 +62,8 @@ PASSES = {
     "points": "lk_lower_expr lk_lower_stmt lk_lower_unit lk_lower_parts lk_point_types lk_point_ways lk_point_statics lk_point_spots lk_facts",
     "analysis": "lk_label lk_flow lk_match lk_origin lk_graph lk_links lk_held lk_above lk_rise lk_items lk_conflict lk_verdicts lk_solve "
     "lk_laws lk_sets lk_order",
-    "runs": "lk_values lk_cells lk_birth lk_decide lk_change lk_meaning lk_right lk_sound lk_trails lk_safe lk_circles lk_play",
+    "runs": "lk_values lk_cells lk_birth lk_decide lk_change lk_meaning lk_right lk_sound lk_trails lk_safe lk_circles lk_play "
+    "lk_witness lk_confirm",
     "report": "lk_report lk_top",
 }
 PASS_OF = {crate: name for name, crates in PASSES.items() for crate in crates.split()}
@@ -291,7 +296,7 @@ class Repository:
                 body = body.replace(text, "")
         found = []
         for word in tokens_of(body):
-            for it in self.named(definition.file, word):
+            for it in self.named(definition.file, word) if word not in left else []:
                 if it is not definition and it not in found:
                     found.append(it)
         return found
