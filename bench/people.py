@@ -216,7 +216,7 @@ def refusals(tests, folder):
     status, _, errors = tests.run("empty.c", folder=folder)
     tests.expect("a refusal at no token", status == 2 and errors.startswith("empty.c:1:1: refused 60 NoMain\n"), errors)
     known = [line.split()[1] for line in read(f"{TOP}/docs/REFUSALS.md").splitlines() if line.startswith("- **")]
-    tests.expect("each number has one item", len(known) == len(set(known)) == 39, str(known))
+    tests.expect("each number has one item", len(known) == len(set(known)) == 40, str(known))
 
 
 def bytes_of_objects(tests, folder):
