@@ -1,7 +1,7 @@
 use lk_base::NoMemory;
 use lk_io::{
-    Failed, FileShelf, MemShelf, MemSink, ReadFault, Shelf, ShelfFault, Sink, StdSink, read_whole,
-    write_whole,
+    Failed, FileShelf, MemShelf, MemSink, NeverFails, ReadFault, Shelf, ShelfFault, Sink, StdSink,
+    read_whole, write_whole,
 };
 use std::alloc::Global;
 use std::fs;
@@ -111,6 +111,19 @@ fn a_listed_write_of_a_sink_in_memory_fails(rt: HostRuntime) -> Result<(), Fail>
     let listed = sink.fail_at(2);
     check_sink(&rt, &mut sink, false, b"n un");
     Ok(listed?)
+}
+
+/// A sink on which no write fails takes a line whole, and keeps these bytes of it.
+fn check_keeper(rt: &impl Abort, sink: &mut NeverFails, want: &[u8]) {
+    let written = write_whole(sink, b"n unshared").is_ok();
+    assert!(rt; written && sink.bytes() == want);
+}
+
+#[test]
+fn a_sink_that_never_fails_keeps_what_it_has_room_for(rt: HostRuntime) -> Result<(), Fail> {
+    let mut sink = NeverFails::with_room(rt.alloc(), 4)?;
+    check_keeper(&rt, &mut sink, b"n un");
+    Ok(())
 }
 
 /// Reads two files of the system whole, and others that can't be.
